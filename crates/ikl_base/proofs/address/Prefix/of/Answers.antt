@@ -1,0 +1,10 @@
+use Rattle.std.proofs.Common.{rules, IsTrue, ◌≡◌, ◌≤◌, true, refl}
+use Rattle.ikl_base.specs.Address.{bits_of, is_clear_from, address_cleared}
+use Rattle.ikl_base.proofs.AddressLemmas.{is_clear_from-cleared, bits_of-cleared}
+use Rattle.ikl_base.proofs.address.Prefix.of.Goals as goal
+
+pub invariant_of-result-clause-in_range : goal.invariant_of-result-clause-in_range
+invariant_of-result-clause-in_range c = rw (c.without_host.ensures, bits_of-cleared) c.requires
+
+pub invariant_of-result-clause-cleared : goal.invariant_of-result-clause-cleared
+invariant_of-result-clause-cleared c = rw (c.without_host.ensures, is_clear_from-cleared) refl

@@ -1,0 +1,53 @@
+-- What the calls of a source and a sink give and take.
+use Rattle.std.specs.Prelude.{◌≡◌, ℕ, ◌+◌, ◌-◌, ◌^◌, min, ◌<◌, ◌≤◌, List, [], ◌++◌, length, take, Option, Some, None, Result, Ok, Err, IsErr, MatchResult, Bool, is_err, IfSome}
+
+-- what is told loses these octets from its front
+abbrev pub Loses : Option (List ℕ) → Option (List ℕ) → List ℕ → Type 0
+Loses None None bytes = Unit {0}
+Loses None (Some new) bytes = ⊥
+Loses (Some old) None bytes = ⊥
+Loses (Some old) (Some new) bytes = old ≡ bytes ++ new
+
+-- what is told gains these octets at its end
+abbrev pub Gains : Option (List ℕ) → Option (List ℕ) → List ℕ → Type 0
+Gains None None bytes = Unit {0}
+Gains None (Some new) bytes = ⊥
+Gains (Some old) None bytes = ⊥
+Gains (Some old) (Some new) bytes = new ≡ old ++ bytes
+
+-- nothing is left, where it is told
+abbrev pub AtEnd : Option (List ℕ) → Type 0
+AtEnd None = Unit {0}
+AtEnd (Some left) = left ≡ []
+
+-- a read that gave n octets
+pub record ReadGave (old new : Option (List ℕ)) (n : ℕ) (buf : List ℕ) : Type 0 where
+  pub bound : n ≤ length buf
+  pub octets : Loses old new (take n buf)
+  -- 0 for a buffer that isn't empty is the end
+  pub end : n ≡ 0 → 0 < length buf → AtEnd old
+
+abbrev pub ReadGives : {E : Type 0} → Option (List ℕ) → Option (List ℕ) → Result ℕ E → List ℕ → Type 0
+ReadGives old new r buf = MatchResult r (λ n. ReadGave old new n buf) (λ _. Loses old new [])
+
+-- a write that took n octets; none of a piece that isn't empty is a fault
+pub record WriteTook (old new : Option (List ℕ)) (n : ℕ) (buf : List ℕ) : Type 0 where
+  pub bound : n ≤ length buf
+  pub octets : Gains old new (take n buf)
+  pub some : 0 < length buf → 0 < n
+
+abbrev pub WriteTakes : {E : Type 0} → Option (List ℕ) → Option (List ℕ) → Result ℕ E → List ℕ → Type 0
+WriteTakes old new r buf = MatchResult r (λ n. WriteTook old new n buf) (λ _. (n : ℕ) × (n ≤ length buf) × Gains old new (take n buf))
+
+-- a count has risen, or stands at its greatest value
+abbrev pub HasRisen : ℕ → ℕ → Type 0
+HasRisen before now = min (before + 1) (2 ^ 64 - 1) ≤ now
+
+-- the count never falls, and a call that failed raised it
+pub record HasCause {T E : Type 0} (before now : ℕ) (result : Result T E) : Type 0 where
+  pub later : before ≤ now
+  pub failed : IsErr result → HasRisen before now
+
+-- whether the last call failed is told truly, where it is told
+abbrev pub TellsOutcome : {T E : Type 0} → Option Bool → Result T E → Type 0
+TellsOutcome told result = IfSome told (λ failed. failed ≡ is_err result)

@@ -1,0 +1,79 @@
+ghost use Rattle.std.specs.Prelude.{◌≡◌, ◌-◌, ◌%◌, ◌^◌, ◌<◌, ◌≤◌, IsTrue, length};
+ghost use Rattle.ikl_base.specs.Address.{bits_of, is_clear_from, cleared_from, address_cleared};
+
+/// An address of one of the two families, its octets in network order.
+#[derive(Clone, Copy, Debug, PartialEq, Eq)]
+pub enum Addr {
+    V4([u8; 4]),
+    V6([u8; 16]),
+}
+
+/// A prefix: the first `len` bits of an address, whose other bits are zero.
+///
+/// `len` is at most 32 for IPv4 and 128 for IPv6.
+#[derive(Clone, Copy, Debug, PartialEq, Eq)]
+pub struct Prefix {
+    pub addr: Addr,
+    pub len: u8,
+    pub ghost in_range: { len ≤ bits_of addr },
+    pub ghost cleared: { IsTrue (is_clear_from len addr) },
+}
+
+// The first bits of an octet, with the others zero.
+fn kept(octet: u8, bits: u8) -> u8
+    ensures { result ≡ octet - octet % 2 ^ (8 - bits) }
+{
+    match bits {
+        0 => 0,
+        1 => octet - octet % 128,
+        2 => octet - octet % 64,
+        3 => octet - octet % 32,
+        4 => octet - octet % 16,
+        5 => octet - octet % 8,
+        6 => octet - octet % 4,
+        7 => octet - octet % 2,
+        _ => octet,
+    }
+}
+
+// Clears the bits of octets from bit `bits` on.
+fn clear(octets: &mut [u8], bits: u8)
+    requires { length octets.old < 32 }
+    ensures { octets.new ≡ cleared_from bits octets.old }
+{
+    let mut left = bits;
+    for i in 0..octets.len() {
+        octets[i] = kept(octets[i], left);
+        left = left.saturating_sub(8);
+    }
+}
+
+// An address without the bits from bit `len` on.
+fn without_host(addr: Addr, len: u8) -> Addr
+    ensures { result ≡ address_cleared len addr }
+{
+    match addr {
+        Addr::V4(mut octets) => {
+            clear(&mut octets, len);
+            Addr::V4(octets)
+        }
+        Addr::V6(mut octets) => {
+            clear(&mut octets, len);
+            Addr::V6(octets)
+        }
+    }
+}
+
+impl Prefix {
+    /// The prefix of these many bits of an address. The host bits are dropped.
+    pub fn of(addr: Addr, len: u8) -> Prefix
+        requires { len ≤ bits_of addr }
+        ensures length { result.len ≡ len }
+        ensures address { result.addr ≡ address_cleared len addr }
+    {
+        Prefix {
+            addr: without_host(addr, len),
+            len,
+        }
+    }
+}

@@ -1,0 +1,23 @@
+//! Octets, names, addresses, the status of a command and the traits of the outside.
+#![tactic(auto)]
+
+mod address;
+mod duplicate;
+mod fault;
+mod list;
+mod memory;
+mod octets;
+mod outside;
+mod standard;
+mod status;
+
+pub use address::{Addr, Prefix};
+pub use duplicate::Duplicate;
+pub use fault::{Failed, NoMemory, OrMemory};
+pub use list::ListOf;
+pub use memory::{FaultySink, FaultySource, MemorySink, MemorySource};
+pub use octets::{Name, Octets};
+pub use outside::{Sink, Source};
+pub use standard::{FromReader, ToWriter};
+pub use status::{LineFault, Status};
+
