@@ -1,0 +1,8 @@
+use Rattle.hist_gateway.proofs.HistoryLemmas.{history-push, after-append}
+use Rattle.hist_gateway.proofs.laws.goes_on.Goals as goal
+
+pub returns-clause-block : goal.returns-clause-block
+returns-clause-block c = history-push
+
+pub returns-clause-past : goal.returns-clause-past
+returns-clause-past c = after-append
