@@ -1,3 +1,4 @@
 pub mod Outside
 pub mod Address
+pub mod Answers
 pub mod Room
