@@ -1,5 +1,5 @@
 -- Every history is safe.
-use Rattle.std.proofs.Common.{◌≡◌, ℕ, ◌+◌, List, [], ◌∷◌, ◌++◌, length, refl, sym, ◌∙◌, subst, Bool, true, false, Option, Some, None, Result, Ok, Err, if◌then◌else◌, nat_lt, inl, inr, ◌⊎◌}
+use Rattle.std.proofs.Common.{◌≡◌, ℕ, ◌+◌, List, [], ◌∷◌, ◌++◌, length, refl, sym, ◌∙◌, subst, Bool, true, false, Option, Some, None, Result, Ok, Err, if◌then◌else◌, nat_lt, inl, inr, ◌⊎◌, ap, add-zero, arith}
 use Rattle.ikeless_tree.specs.declared.command.Peer.{Peer}
 use Rattle.ikeless_tree.specs.declared.reply.DropWhy.{DropWhy}
 use Rattle.ikeless_tree.specs.declared.reply.DropWhy.TheVariants as why
@@ -17,7 +17,8 @@ use Rattle.hist_acts.specs.declared.event.Event.{Event}
 use Rattle.hist_acts.specs.declared.event.Event.TheVariants as events
 use Rattle.hist_acts.specs.Past.{after, events_taken, force}
 use Rattle.hist_gateway.specs.Answer.{answer, by_view, by_fault, by_entry, by_action}
-use Rattle.hist_gateway.specs.History.{block, own_acts, history, is_named}
+use Rattle.hist_gateway.specs.History.{block, own_acts, history}
+use Rattle.hist_acts.specs.Gateways.{is_named}
 use Rattle.hist_gateway.specs.Safe.{Safe, IsSafeAct, ClearIsLet, Bypasses}
 use Rattle.hist_gateway.proofs.HistoryLemmas.{after-append}
 
@@ -98,3 +99,28 @@ view_is g list o (Ok v) = length_is g o (first_entry list Out v) (nat_lt 65000 (
 pub answer_is : (g : List ℕ) (list : List SpdEntry) (o : List ℕ) → (answer g list o ≡ acts.Clear g o) ⊎ ((w : DropWhy) × (answer g list o ≡ acts.Drop g w))
 unfolding answer
 answer_is g list o = view_is g list o (view_of o)
+
+-- an answer isn't the number of an event
+events_taken-answer : (name o : List ℕ) (a : Act) (h : List Act) → (a ≡ acts.Clear name o) ⊎ ((w : DropWhy) × (a ≡ acts.Drop name w)) → events_taken (a ∷ h) ≡ events_taken h
+events_taken-answer name o a h (inl e) = ap (λ x. events_taken (x ∷ h)) e
+events_taken-answer name o a h (inr (w, e)) = ap (λ x. events_taken (x ∷ h)) e
+
+events_taken-policy : (h : List Act) (name : List ℕ) (list : List SpdEntry) (is_here : Bool) →
+    events_taken (after (acts.Took (events_taken h + 1) ∷ h) (if is_here then acts.Policy name list ∷ [] else [])) ≡ events_taken h + 1
+events_taken-policy h name list true = refl
+events_taken-policy h name list false = refl
+
+pub events_taken-block : (gateways : List Peer) (h : List Act) (e : Event) → events_taken (after h (block gateways h e)) ≡ events_taken h + 1
+unfolding block
+events_taken-block gateways h (events.Policy name list) = events_taken-policy h name list (is_named gateways name)
+events_taken-block gateways h (events.Let name o) =
+    events_taken-answer name o (answer name (force name h) o) (acts.Let name o ∷ acts.Took (events_taken h + 1) ∷ h) (answer_is name (force name h) o)
+
+pub events_taken-history : (gateways : List Peer) (h : List Act) (es : List Event) → events_taken (after h (history gateways h es)) ≡ events_taken h + length es
+events_taken-history gateways h [] = sym (add-zero (events_taken h))
+events_taken-history gateways h (e ∷ es) =
+    let b : List Act = block gateways h e in
+    let first = events_taken-block gateways h e in
+    let rest = events_taken-history gateways (after h b) es in
+    let joined = ap events_taken (after-append h b (history gateways (after h b) es)) in
+    omega (arith, first, rest, joined)

@@ -1,18 +1,13 @@
 -- What happens at each event.
-use Rattle.std.specs.Prelude.{ℕ, ◌+◌, Bool, List, [], ◌∷◌, ◌++◌, if◌then◌else◌}
-use Rattle.std.specs.List.{list_any}
-use Rattle.std.specs.Str.{bytes_eq}
+use Rattle.std.specs.Prelude.{◌+◌, List, [], ◌∷◌, ◌++◌, if◌then◌else◌}
 use Rattle.ikeless_tree.specs.declared.command.Peer.{Peer}
 use Rattle.hist_acts.specs.declared.act.Act.{Act}
 use Rattle.hist_acts.specs.declared.act.Act.TheVariants as acts
 use Rattle.hist_acts.specs.declared.event.Event.{Event}
 use Rattle.hist_acts.specs.declared.event.Event.TheVariants as events
+use Rattle.hist_acts.specs.Gateways.{is_named}
 use Rattle.hist_acts.specs.Past.{after, events_taken, force}
 use Rattle.hist_gateway.specs.Answer.{answer}
-
--- whether one of the gateways has this name
-abbrev pub is_named : List Peer → List ℕ → Bool
-is_named gateways g = list_any (λ p. bytes_eq p.name g) gateways
 
 -- the acts of an event itself: a list for a gateway that isn't there changes nothing
 abbrev pub own_acts : List Peer → List Act → Event → List Act

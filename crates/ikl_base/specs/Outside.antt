@@ -1,5 +1,5 @@
 -- What the calls of a source and a sink give and take.
-use Rattle.std.specs.Prelude.{◌≡◌, ℕ, ◌+◌, ◌-◌, ◌^◌, min, ◌<◌, ◌≤◌, List, [], ◌++◌, length, take, Option, Some, None, Result, Ok, Err, IsErr, MatchResult, Bool, is_err, IfSome}
+use Rattle.std.specs.Prelude.{◌≡◌, ℕ, ◌+◌, ◌-◌, ◌^◌, min, ◌<◌, ◌≤◌, List, [], ◌++◌, length, take, Option, Some, None, Result, Ok, Err, IsErr, MatchResult, Bool, true, false, is_err, IfSome}
 
 -- what is told loses these octets from its front
 abbrev pub Loses : Option (List ℕ) → Option (List ℕ) → List ℕ → Type 0
@@ -51,3 +51,11 @@ pub record HasCause {T E : Type 0} (before now : ℕ) (result : Result T E) : Ty
 -- whether the last call failed is told truly, where it is told
 abbrev pub TellsOutcome : {T E : Type 0} → Option Bool → Result T E → Type 0
 TellsOutcome told result = IfSome told (λ failed. failed ≡ is_err result)
+
+-- the last call didn't fail, where that is told
+abbrev pub IsCalm : Option Bool → Type 0
+IsCalm told = IfSome told (λ failed. failed ≡ false)
+
+-- the last call failed, where that is told
+abbrev pub HasFailed : Option Bool → Type 0
+HasFailed told = IfSome told (λ failed. failed ≡ true)

@@ -1,0 +1,4 @@
+pub mod PoliciesLemmas
+pub mod WorldLemmas
+pub mod Bytes
+pub mod ReaderLemmas

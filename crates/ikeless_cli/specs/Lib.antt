@@ -1,0 +1,6 @@
+pub mod Policies
+pub mod World
+pub mod Script
+pub mod Run
+pub mod Reader
+pub mod Words

@@ -1,0 +1,86 @@
+-- The words that stand for policies.
+use Rattle.std.specs.Prelude.{ℕ, ◌-◌, ◌^◌, ◌==◌, ◌&&◌, nat_le, Bool, List, [], ◌∷◌, length, codes, if◌then◌else◌, Option, Some, None, Result, Ok, Err}
+use Rattle.std.specs.List.{slice_split}
+use Rattle.std.specs.Str.{bytes_eq}
+use Rattle.ikl_base.specs.declared.status.LineFault.{LineFault}
+use Rattle.ikl_base.specs.declared.status.LineFault.TheVariants as faults
+use Rattle.ikl_base.specs.declared.address.Prefix.{Prefix}
+use Rattle.ikeless_tree.specs.declared.entry.Direction.{Direction}
+use Rattle.ikeless_tree.specs.declared.entry.Direction.TheVariants as directions
+use Rattle.ikeless_tree.specs.declared.entry.Action.{Action}
+use Rattle.ikeless_tree.specs.declared.entry.Action.TheVariants as actions
+use Rattle.ikeless_tree.specs.declared.entry.Range.{Range}
+use Rattle.ikeless_tree.specs.declared.entry.Selector.{Selector}
+use Rattle.ikeless_tree.specs.declared.entry.SpdEntry.{SpdEntry}
+use Rattle.yang_values.specs.Numbers.{number_of}
+use Rattle.yang_values.specs.Prefixes.{prefix_of}
+use Rattle.script_lines.specs.Words.{◌>>=◌, or_fault}
+
+abbrev pub is_comma : ℕ → Bool
+is_comma c = c == 44
+
+abbrev pub is_plus : ℕ → Bool
+is_plus c = c == 43
+
+abbrev pub is_dash : ℕ → Bool
+is_dash c = c == 45
+
+abbrev pub entry_number : ℕ → List ℕ → Result ℕ LineFault
+entry_number most w = or_fault faults.Entry (number_of most w)
+
+abbrev pub entry_prefix : List ℕ → Result Prefix LineFault
+entry_prefix w = or_fault faults.Entry (prefix_of w)
+
+abbrev pub direction_of : List ℕ → Result Direction LineFault
+direction_of w = if bytes_eq w (codes "in") then Ok directions.In else if bytes_eq w (codes "out") then Ok directions.Out else Err faults.Entry
+
+abbrev pub action_of : List ℕ → Result Action LineFault
+action_of w =
+  if bytes_eq w (codes "protect") then Ok actions.Protect
+  else if bytes_eq w (codes "bypass") then Ok actions.Bypass
+  else if bytes_eq w (codes "discard") then Ok actions.Discard
+  else Err faults.Entry
+
+-- any protocol, or a number below 256
+unfoldable pub proto_of : List ℕ → Result (Option ℕ) LineFault
+proto_of w = if bytes_eq w (codes "any") then Ok None else entry_number 255 w >>= (λ n. Ok (Some n))
+
+-- two ports with a dash between them
+unfoldable pub range_in : List (List ℕ) → Result Range LineFault
+range_in (start ∷ end ∷ []) = entry_number 65535 start >>= (λ a. entry_number 65535 end >>= (λ b. Ok (record { start = a; end = b })))
+range_in _ = Err faults.Entry
+
+abbrev pub range_of : List ℕ → Result Range LineFault
+range_of w = range_in (slice_split is_dash w)
+
+unfoldable pub ranges_of : List (List ℕ) → Result (List Range) LineFault
+ranges_of [] = Ok []
+ranges_of (w ∷ ws) = range_of w >>= (λ r. ranges_of ws >>= (λ rs. Ok (r ∷ rs)))
+
+-- any port, or 1 to 8 ranges joined by a plus
+unfoldable pub ports_of : List ℕ → Result (List Range) LineFault
+ports_of w =
+  if bytes_eq w (codes "any") then Ok []
+  else if nat_le (length (slice_split is_plus w)) 8 then ranges_of (slice_split is_plus w)
+  else Err faults.Entry
+
+-- the selector of two prefixes, a protocol and two lists of ports
+unfoldable pub selector_of : List ℕ → List ℕ → List ℕ → List ℕ → List ℕ → Result Selector LineFault
+selector_of local remote proto local_ports remote_ports =
+  entry_prefix local >>= (λ l. entry_prefix remote >>= (λ r. proto_of proto >>= (λ p. ports_of local_ports >>= (λ lp. ports_of remote_ports >>= (λ rp.
+    Ok (record { local = l; remote = r; proto = p; local_ports = lp; remote_ports = rp }))))))
+
+-- the entry of nine parts; its window is 64
+unfoldable pub entry_in : List (List ℕ) → Result SpdEntry LineFault
+entry_in (name ∷ direction ∷ reqid ∷ action ∷ local ∷ remote ∷ proto ∷ local_ports ∷ remote_ports ∷ []) =
+  direction_of direction >>= (λ d. entry_number (2 ^ 64 - 1) reqid >>= (λ n. action_of action >>= (λ a.
+    selector_of local remote proto local_ports remote_ports >>= (λ s.
+      Ok (record { name = name; direction = d; reqid = n; window = 64; selector = s; action = a })))))
+entry_in _ = Err faults.Entry
+
+abbrev pub entry_of : List ℕ → Result SpdEntry LineFault
+entry_of w = entry_in (slice_split is_comma w)
+
+unfoldable pub entries_of : List (List ℕ) → Result (List SpdEntry) LineFault
+entries_of [] = Ok []
+entries_of (w ∷ ws) = entry_of w >>= (λ e. entries_of ws >>= (λ es. Ok (e ∷ es)))

@@ -1,0 +1,5 @@
+pub mod Words
+pub mod Entry
+pub mod Header
+pub mod Event
+pub mod Text
