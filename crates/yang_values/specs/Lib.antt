@@ -1,0 +1,5 @@
+pub mod Numbers
+pub mod HexText
+pub mod Addresses
+pub mod Prefixes
+pub mod Reading
