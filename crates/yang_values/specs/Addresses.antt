@@ -1,13 +1,14 @@
 -- Addresses as text (RFC 6991 section 4; RFC 4291 section 2.2 for IPv6, canonical by RFC 5952 section 4).
-use Rattle.std.specs.Prelude.{◌≡◌, ℕ, suc, ◌+◌, ◌-◌, ◌*◌, ◌/◌, ◌%◌, ◌<◌, ◌==◌, ◌&&◌, not, max, nat_le, nat_lt, if◌then◌else◌, Bool, false, List, [], ◌∷◌, ◌++◌, length, take, drop, map, take_while, replicate, All, Option, Some, None, Result, Ok, Err}
+use Rattle.std.specs.Prelude.{◌≡◌, ℕ, suc, ◌+◌, ◌-◌, ◌*◌, ◌/◌, ◌%◌, ◌<◌, ◌==◌, ◌&&◌, not, max, nat_le, nat_lt, if◌then◌else◌, Bool, false, List, [], ◌∷◌, ◌++◌, length, take, drop, map, replicate, slice_index, All, Option, Some, None, option_and_then, Result, Ok, Err}
 use Rattle.std.specs.Option.{option_map}
-use Rattle.std.specs.List.{list_all, list_any, slice_split, join_with_byte}
+use Rattle.std.specs.List.{prefix_len, list_all, list_any, slice_split, join_with_byte}
 use Rattle.std.specs.Fmt.{decimal, digits}
 use Rattle.std.specs.Str.Parse.{digits_value}
 use Rattle.ikl_base.specs.declared.address.Addr.{Addr}
 use Rattle.ikl_base.specs.declared.address.Addr.TheVariants.{V4, V6}
 use Rattle.yang_values.specs.Numbers.{is_number}
-use Rattle.yang_values.specs.HexText.{hex_number, is_colon, ◌>>=◌}
+use Rattle.yang_values.specs.Parts.{each, ◌>>=◌}
+use Rattle.yang_values.specs.HexText.{hex_number, is_colon}
 use Rattle.yang_values.specs.declared.value.BadValue.{BadValue}
 use Rattle.yang_values.specs.declared.value.BadValue.TheVariants.{Form, Range}
 
@@ -56,7 +57,7 @@ joined groups = join_with_byte 58 (map group_text groups)
 
 -- how many zero groups the list begins with
 abbrev pub zeros_at_front : List ℕ → ℕ
-zeros_at_front groups = length (take_while (λ group. group == 0) groups)
+zeros_at_front groups = prefix_len (λ group. group == 0) groups
 
 -- how many zero groups stand in the longest run of them
 unfoldable pub longest_run : List ℕ → ℕ
@@ -82,24 +83,23 @@ groups_text groups =
 abbrev pub group_of : List ℕ → Option ℕ
 group_of t = hex_number 1 4 t
 
--- the groups of texts that are groups, each of them
-unfoldable pub each_group : List (List ℕ) → Option (List ℕ)
-each_group [] = Some []
-each_group (t ∷ ts) = do
-  group ← group_of t
-  groups ← each_group ts
-  Some (group ∷ groups)
-
 -- the groups of a text in which colons join them; the empty text has none
 abbrev pub groups_in : List ℕ → Option (List ℕ)
-groups_in [] = Some []
-groups_in (c ∷ cs) = each_group (slice_split is_colon (c ∷ cs))
+groups_in t = if length t == 0 then Some [] else each group_of (slice_split is_colon t)
+
+-- a colon stands at the front of the text
+abbrev pub begins_with_colon : List ℕ → Bool
+begins_with_colon [] = false
+begins_with_colon (c ∷ cs) = is_colon c
 
 -- where the first `::` is
-abbrev pub double_colon : List ℕ → Option ℕ
+unfoldable pub double_colon : List ℕ → Option ℕ
 double_colon [] = None
-double_colon (c ∷ []) = None
-double_colon (c ∷ d ∷ rest) = if is_colon c && is_colon d then Some 0 else option_map (λ k. k + 1) (double_colon (d ∷ rest))
+double_colon (c ∷ cs) = if is_colon c && begins_with_colon cs then Some 0 else option_map (λ k. k + 1) (double_colon cs)
+
+-- a `::` is at this place
+abbrev pub is_double_at : List ℕ → ℕ → Bool
+is_double_at t k = is_colon (slice_index t k) && is_colon (slice_index t (k + 1))
 
 -- all eight groups
 abbrev pub eight : List ℕ → Option (List ℕ)
@@ -112,15 +112,17 @@ filled front back =
     then Some (front ++ replicate (8 - (length front + length back)) 0 ++ back)
     else None
 
+-- the groups before and after a `::`
+abbrev pub eight_between : Option (List ℕ) → Option (List ℕ) → Option (List ℕ)
+eight_between front back = do
+  front' ← front
+  back' ← back
+  filled front' back'
+
 -- the groups of a text with a `::` at this place, or with none
 unfoldable pub eight_from : List ℕ → Option ℕ → Option (List ℕ)
-eight_from t None = do
-  groups ← groups_in t
-  eight groups
-eight_from t (Some k) = do
-  front ← groups_in (take k t)
-  back ← groups_in (drop (k + 2) t)
-  filled front back
+eight_from t None = option_and_then eight (groups_in t)
+eight_from t (Some k) = eight_between (groups_in (take k t)) (groups_in (drop (k + 2) t))
 
 -- ---- both families
 

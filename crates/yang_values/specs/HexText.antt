@@ -1,10 +1,10 @@
 -- Octets as hex digits: plain, and in pairs joined by colons (RFC 6991 section 3, `hex-string`).
-use Rattle.std.specs.Prelude.{ℕ, ◌==◌, ◌&&◌, nat_le, if◌then◌else◌, Bool, List, [], ◌∷◌, length, map, Option, Some, None, option_and_then, Result, Ok, Err}
+use Rattle.std.specs.Prelude.{ℕ, ◌==◌, ◌&&◌, nat_le, if◌then◌else◌, Bool, List, [], ◌∷◌, length, map, Option, Some, None, Result, Ok, Err}
 use Rattle.std.specs.List.{list_all, slice_split, join_with_byte}
 use Rattle.std.specs.Char.{is_ascii_hexdigit}
 use Rattle.std.specs.Str.Parse.{digits_value}
+use Rattle.yang_values.specs.Parts.{each}
 use Rattle.hex.specs.Hex.{encode_lower, decode_of}
-use Rattle.hex.specs.declared.error.FromHexError.{FromHexError}
 use Rattle.yang_values.specs.declared.value.BadValue.{BadValue}
 use Rattle.yang_values.specs.declared.value.BadValue.TheVariants.{Form}
 
@@ -44,24 +44,11 @@ pair_of t = hex_number 2 2 t
 abbrev pub is_colon : ℕ → Bool
 is_colon c = c == 58
 
-infixl 10 ◌>>=◌
-abbrev pub ◌>>=◌ : {A B : Type 0} → Option A → (A → Option B) → Option B
-o >>= f = option_and_then f o
-
--- the octets of texts that are pairs, each of them
-unfoldable pub pairs_of : List (List ℕ) → Option (List ℕ)
-pairs_of [] = Some []
-pairs_of (t ∷ ts) = do
-  octet ← pair_of t
-  octets ← pairs_of ts
-  Some (octet ∷ octets)
-
 -- what isn't there has another spelling
 abbrev pub some_or_form : Option (List ℕ) → Result (List ℕ) BadValue
 some_or_form (Some octets) = Ok octets
 some_or_form None = Err Form
 
 -- the octets of a `hex-string`: the empty text, or pairs joined by colons
-abbrev pub hex_of : List ℕ → Result (List ℕ) BadValue
-hex_of [] = Ok []
-hex_of (c ∷ cs) = some_or_form (pairs_of (slice_split is_colon (c ∷ cs)))
+unfoldable pub hex_of : List ℕ → Result (List ℕ) BadValue
+hex_of t = if length t == 0 then Ok [] else some_or_form (each pair_of (slice_split is_colon t))

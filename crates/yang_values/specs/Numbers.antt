@@ -1,6 +1,6 @@
 -- Decimal numbers as text (RFC 7950 section 9.2.1, RFC 7951 section 6.1). The canonical text of a number is
 -- std's `decimal`: its digits, with no leading zero.
-use Rattle.std.specs.Prelude.{ℕ, ◌-◌, ◌^◌, ◌==◌, ◌&&◌, ◌||◌, not, nat_le, nat_lt, Bool, false, if◌then◌else◌, List, [], ◌∷◌, length, Result, Ok, Err}
+use Rattle.std.specs.Prelude.{ℕ, ◌-◌, ◌^◌, ◌==◌, ◌&&◌, ◌||◌, not, nat_le, nat_lt, Bool, if◌then◌else◌, List, length, slice_index, Result, Ok, Err}
 use Rattle.std.specs.List.{list_all}
 use Rattle.std.specs.Char.{is_ascii_digit}
 use Rattle.std.specs.Str.Parse.{digits_value}
@@ -9,8 +9,7 @@ use Rattle.yang_values.specs.declared.value.BadValue.TheVariants.{Form, Range}
 
 -- decimal digits, at least one, without a leading zero but the text `0`
 abbrev pub is_number : List ℕ → Bool
-is_number [] = false
-is_number (c ∷ cs) = list_all is_ascii_digit (c ∷ cs) && (not (c == 48) || length cs == 0)
+is_number t = not (length t == 0) && (not (slice_index t 0 == 48) || length t == 1) && list_all is_ascii_digit t
 
 -- the number that a text is: first its spelling, then its range
 unfoldable pub number_of : ℕ → List ℕ → Result ℕ BadValue

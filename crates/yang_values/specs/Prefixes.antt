@@ -1,7 +1,5 @@
 -- Prefixes as text (RFC 6991 section 4, `ip-prefix`): an address, a slash and a length.
 use Rattle.std.specs.Prelude.{◌≡◌, ℕ, ◌≤◌, ◌<◌, ◌==◌, ◌⊎◌, if◌then◌else◌, Bool, List, [], ◌∷◌, ◌++◌, Option, Some, None, Result, Ok, Err}
-use Rattle.std.specs.Option.{option_map}
-use Rattle.std.specs.List.{slice_split}
 use Rattle.std.specs.Fmt.{decimal}
 use Rattle.ikl_base.specs.declared.address.Addr.{Addr}
 use Rattle.ikl_base.specs.declared.address.Prefix.{Prefix}
@@ -10,6 +8,7 @@ use Rattle.ikl_base.proofs.AddressLemmas.{bits_of-cleared, is_clear_from-cleared
 use Rattle.std.proofs.Common.{subst, sym, inl, inr}
 use Rattle.std.specs.Str.Parse.{digits_value}
 use Rattle.std.proofs.lemmas.Bool.{cases_lt}
+use Rattle.yang_values.specs.Parts.{cut_at}
 use Rattle.yang_values.specs.Numbers.{is_number}
 use Rattle.yang_values.specs.Addresses.{address_of, address_text}
 use Rattle.yang_values.specs.declared.value.BadValue.{BadValue}
@@ -19,15 +18,8 @@ use Rattle.yang_values.specs.declared.value.BadValue.TheVariants.{Form, Range}
 unfoldable pub prefix_text : Prefix → List ℕ
 prefix_text p = address_text p.addr ++ 47 ∷ decimal p.len
 
--- the text before the first mark and the text after it
-abbrev pub cut_at : ℕ → List ℕ → Option (List ℕ × List ℕ)
-cut_at mark [] = None
-cut_at mark (c ∷ cs) = if c == mark then Some ([], cs) else option_map (λ (p : List ℕ × List ℕ). (c ∷ p.0, p.1)) (cut_at mark cs)
-
--- the parts of what follows a mark, or no parts
-abbrev pub parts_in : (ℕ → Bool) → Option (List ℕ) → List (List ℕ)
-parts_in mark None = []
-parts_in mark (Some t) = slice_split mark t
+abbrev pub is_slash : ℕ → Bool
+is_slash c = c == 47
 
 -- these many bits of an address; the host bits are dropped
 unfoldable pub prefix_made : (a : Addr) (n : ℕ) → n ≤ bits_of a → Prefix
@@ -61,4 +53,4 @@ prefix_of_cut (Some p) = prefix_from (address_of p.0) p.1
 
 -- the prefix that a text is
 unfoldable pub prefix_of : List ℕ → Result Prefix BadValue
-prefix_of t = prefix_of_cut (cut_at 47 t)
+prefix_of t = prefix_of_cut (cut_at is_slash t)

@@ -1,7 +1,10 @@
 // Octets as hex digits.
-ghost use Rattle.std.specs.Prelude.{◌≡◌, ◌≤◌, IfOk, OnOk, ◌++◌};
+ghost use Rattle.std.specs.Prelude.{◌≡◌, ◌<◌, ◌≤◌, length, IsTrue, IfOk, OnOk, ◌++◌, ◌∷◌};
+ghost use Rattle.std.specs.Char.{digit_value, is_ascii_hexdigit};
+ghost use Rattle.std.specs.List.{flat_map, list_all};
+ghost use Rattle.std.specs.Str.Parse.{digits_value};
 ghost use Rattle.yang_values.specs.Reading.{Reads};
-ghost use Rattle.yang_values.specs.HexText.{digits_text, digits_of, hex_colons, hex_of, hex_number, pair_of};
+ghost use Rattle.yang_values.specs.HexText.{digits_text, digits_of, hex_colons, hex_of, hex_number, pair_of, pair_text};
 
 use crate::parts::first_part;
 use crate::value::BadValue;
@@ -9,13 +12,36 @@ use ikl_base::{NoMemory, Octets, OrMemory};
 use std::alloc::Global;
 
 // The value of a hex digit of either case.
-fn digit(c: u8) -> Option<u8> {
+fn digit(c: u8) -> u8
+    requires { IsTrue (is_ascii_hexdigit c) }
+    ensures value { result ≡ digit_value c }
+    ensures small { result < 16 }
+{
     match c {
-        b'0'..=b'9' => Some(c - b'0'),
-        b'a'..=b'f' => Some(c - b'a' + 10),
-        b'A'..=b'F' => Some(c - b'A' + 10),
-        _ => None,
+        b'0'..=b'9' => c - b'0',
+        b'a'..=b'f' => c - b'a' + 10,
+        _ => c - b'A' + 10,
     }
+}
+
+// Whether each octet is a hex digit.
+fn are_hex_digits(t: &[u8]) -> bool
+    ensures { result ≡ list_all is_ascii_hexdigit t.now }
+{
+    t.iter().all(|c| c.is_ascii_hexdigit())
+}
+
+// The number that up to four hex digits write.
+fn value(t: &[u8]) -> u16
+    requires digits { IsTrue (list_all is_ascii_hexdigit t.now) }
+    requires short { length t.now ≤ 4 }
+    ensures { result ≡ digits_value 16 t.now }
+{
+    let mut n = 0u16;
+    for c in t {
+        n = n * 16 + u16::from(digit(*c));
+    }
+    n
 }
 
 /// The number that hex digits of either case write, from `least` to `most` of them.
@@ -24,14 +50,11 @@ pub(crate) fn read_hex_number(t: &[u8], least: usize, most: usize) -> Option<u16
     requires { most ≤ 4 }
     ensures { result ≡ hex_number least most t.now }
 {
-    if t.len() < least || t.len() > most {
-        return None;
+    if least <= t.len() && t.len() <= most && are_hex_digits(t) {
+        Some(value(t))
+    } else {
+        None
     }
-    let mut n = 0u16;
-    for c in t {
-        n = n * 16 + u16::from(digit(*c)?);
-    }
-    Some(n)
 }
 
 /// Reads the octets of an even number of hex digits of either case, at least two.
@@ -69,13 +92,16 @@ pub fn put_digits(out: &mut Vec<u8>, o: &[u8]) -> Result<(), NoMemory>
 fn pair(t: &[u8]) -> Option<u8>
     ensures { result ≡ pair_of t.now }
 {
-    let n = read_hex_number(t, 2, 2)?;
-    u8::try_from(n).ok()
+    match read_hex_number(t, 2, 2) {
+        Some(n) => Some(n as u8),
+        None => None,
+    }
 }
 
 /// Reads a `hex-string` (RFC 6991 section 3): the empty text, or pairs of hex digits of either case joined by colons.
 ///
 /// `Form`: another spelling.
+#[tactic(auto, unfolding(crate::specs::HexText::hex_of))]
 pub fn read_hex(alloc: Global, t: &[u8]) -> Result<Octets, OrMemory<BadValue>>
     ensures { Reads result (hex_of t.now) }
 {
@@ -97,16 +123,26 @@ pub fn read_hex(alloc: Global, t: &[u8]) -> Result<Octets, OrMemory<BadValue>>
     Ok(Octets::from_items(octets))
 }
 
+// Adds each octet as a colon and two hex digits.
+fn put_pairs(out: &mut Vec<u8>, octets: &[u8]) -> Result<(), NoMemory>
+    ensures { OnOk result (out.new.items ≡ out.old.items ++ flat_map (λ octet. 58 ∷ pair_text octet) octets.now) }
+{
+    for octet in octets {
+        out.push(b':')?;
+        put_digits(out, &[*octet])?;
+    }
+    Ok(())
+}
+
 /// The canonical text of a `hex-string`: pairs of hex digits in lower case joined by colons.
+#[tactic(auto, using(crate::proofs::EachLemmas::joined_is))]
 pub fn write_hex(alloc: Global, o: &[u8]) -> Result<Octets, NoMemory>
     ensures { IfOk result (λ text. text ≡ hex_colons o.now) }
 {
     let mut out = Vec::new(alloc);
-    for (i, octet) in o.iter().enumerate() {
-        if i > 0 {
-            out.push(b':')?;
-        }
-        put_digits(&mut out, &[*octet])?;
+    if let [first, rest @ ..] = o {
+        put_digits(&mut out, &[*first])?;
+        put_pairs(&mut out, rest)?;
     }
     Ok(Octets::from_items(out))
 }

@@ -1,8 +1,8 @@
 // IPv6 addresses: eight groups of hex digits with colons between them, of which `::` leaves zero ones out.
-ghost use Rattle.std.specs.Prelude.{◌≡◌, ◌+◌, ◌≤◌, ◌<◌, ◌++◌, length, take, Some, OnOk, IfSome, MatchOption};
-ghost use Rattle.std.specs.Option.{option_map};
-ghost use Rattle.std.specs.Fmt.{digits};
-ghost use Rattle.yang_values.specs.Addresses.{groups_of, octets_of, group_text, joined, zeros_at_front, longest_run, first_run, shortened, groups_text, groups_in, double_colon, filled, eight_from};
+ghost use Rattle.std.specs.Prelude.{◌≡◌, ◌+◌, ◌≤◌, ◌<◌, ◌++◌, ◌∷◌, length, take, Some, false, option_and_then, OnOk, IfSome, MatchOption};
+ghost use Rattle.std.specs.Fmt.{digit_glyph};
+ghost use Rattle.std.specs.List.{flat_map};
+ghost use Rattle.yang_values.specs.Addresses.{groups_of, octets_of, group_text, joined, zeros_at_front, longest_run, first_run, shortened, groups_text, groups_in, double_colon, is_double_at, eight, eight_between, filled, eight_from};
 
 use crate::digits::read_hex_number;
 use crate::parts::first_part;
@@ -29,7 +29,9 @@ fn read_groups(t: &[u8]) -> Option<Groups>
     let mut rest = Some(t);
     while let Some(text) = rest {
         let (part, more) = first_part(text, b':');
-        let group = read_hex_number(part, 1, 4)?;
+        let Some(group) = read_hex_number(part, 1, 4) else {
+            return None;
+        };
         if count == 8 {
             return None;
         }
@@ -40,13 +42,21 @@ fn read_groups(t: &[u8]) -> Option<Groups>
     Some(Groups { items, count })
 }
 
+// Whether a `::` is here.
+fn is_double(t: &[u8], i: usize) -> bool
+    requires { i < length t.now }
+    ensures { result ≡ is_double_at t.now i }
+{
+    t[i] == b':' && i + 1 < t.len() && t[i + 1] == b':'
+}
+
 // Where the first `::` is.
 fn find_double(t: &[u8]) -> Option<usize>
     ensures value { result ≡ double_colon t.now }
     ensures inside { IfSome result (λ k. k + 2 ≤ length t.now) }
 {
     for i in 0..t.len() {
-        if t[i] == b':' && i + 1 < t.len() && t[i + 1] == b':' {
+        if is_double(t, i) {
             return Some(i);
         }
     }
@@ -67,20 +77,37 @@ fn fill(front: &Groups, back: &Groups) -> Option<[u16; 8]>
     Some(items)
 }
 
+// The groups of a text without `::`.
+fn read_whole(t: &[u8]) -> Option<[u16; 8]>
+    ensures { result ≡ option_and_then eight (groups_in t.now) }
+{
+    match read_groups(t) {
+        Some(all) if all.count == 8 => Some(all.items),
+        _ => None,
+    }
+}
+
+// The groups of the texts before and after a `::`.
+fn read_halves(front: &[u8], back: &[u8]) -> Option<[u16; 8]>
+    ensures { result ≡ eight_between (groups_in front.now) (groups_in back.now) }
+{
+    let Some(front) = read_groups(front) else {
+        return None;
+    };
+    let Some(back) = read_groups(back) else {
+        return None;
+    };
+    fill(&front, &back)
+}
+
 /// The eight groups of an IPv6 address.
+#[tactic(auto, unfolding(crate::specs::Addresses::eight_from))]
 pub(crate) fn read_eight(t: &[u8]) -> Option<[u16; 8]>
     ensures { result ≡ eight_from t.now (double_colon t.now) }
 {
     match find_double(t) {
-        None => {
-            let all = read_groups(t)?;
-            (all.count == 8).then_some(all.items)
-        }
-        Some(k) => {
-            let front = read_groups(&t[..k])?;
-            let back = read_groups(&t[k + 2..])?;
-            fill(&front, &back)
-        }
+        None => read_whole(t),
+        Some(k) => read_halves(&t[..k], &t[k + 2..]),
     }
 }
 
@@ -124,6 +151,14 @@ fn to_groups(o: &[u8; 16]) -> [u16; 8]
     ]
 }
 
+// How many zero groups the list begins with.
+fn zeros(groups: &[u16]) -> usize
+    ensures value { result ≡ zeros_at_front groups.now }
+    ensures inside { result ≤ length groups.now }
+{
+    groups.iter().take_while(|g| **g == 0).count()
+}
+
 // Where the longest run of zero groups begins, the first of equal ones, and how long it is.
 fn longest(groups: &[u16]) -> (usize, usize)
     ensures place { result.0 ≡ first_run (longest_run groups.now) groups.now }
@@ -133,7 +168,7 @@ fn longest(groups: &[u16]) -> (usize, usize)
     match groups {
         [] => (0, 0),
         [_, rest @ ..] => {
-            let here = groups.iter().take_while(|g| **g == 0).count();
+            let here = zeros(groups);
             let (place, length) = longest(rest);
             if here >= length {
                 (0, here)
@@ -144,6 +179,14 @@ fn longest(groups: &[u16]) -> (usize, usize)
     }
 }
 
+// The digit of a number below sixteen, in lower case.
+fn glyph(n: u8) -> u8
+    requires { n < 16 }
+    ensures { result ≡ digit_glyph false n }
+{
+    if n < 10 { 48 + n } else { 87 + n }
+}
+
 // Adds a group in hex, without leading zeros.
 fn put_group(out: &mut Vec<u8>, group: u16) -> Result<(), NoMemory>
     ensures { OnOk result (out.new.items ≡ out.old.items ++ group_text group) }
@@ -151,25 +194,34 @@ fn put_group(out: &mut Vec<u8>, group: u16) -> Result<(), NoMemory>
     if group >= 16 {
         put_group(out, group / 16)?;
     }
-    let digit = (group % 16) as u8;
-    let c = if digit < 10 { 48 + digit } else { 87 + digit };
-    Ok(out.push(c)?)
+    Ok(out.push(glyph((group % 16) as u8))?)
+}
+
+// Adds each group behind a colon.
+fn put_behind(out: &mut Vec<u8>, groups: &[u16]) -> Result<(), NoMemory>
+    ensures { OnOk result (out.new.items ≡ out.old.items ++ flat_map (λ group. 58 ∷ group_text group) groups.now) }
+{
+    for group in groups {
+        out.push(b':')?;
+        put_group(out, *group)?;
+    }
+    Ok(())
 }
 
 // Adds groups with colons between them.
 fn put_joined(out: &mut Vec<u8>, groups: &[u16]) -> Result<(), NoMemory>
     ensures { OnOk result (out.new.items ≡ out.old.items ++ joined groups.now) }
 {
-    for (i, group) in groups.iter().enumerate() {
-        if i > 0 {
-            out.push(b':')?;
-        }
-        put_group(out, *group)?;
-    }
+    let [first, rest @ ..] = groups else {
+        return Ok(());
+    };
+    put_group(out, *first)?;
+    put_behind(out, rest)?;
     Ok(())
 }
 
 /// Adds the text of an IPv6 address.
+#[tactic(auto, unfolding(crate::specs::Addresses::groups_text))]
 pub(crate) fn put_groups(out: &mut Vec<u8>, octets: &[u8; 16]) -> Result<(), NoMemory>
     ensures { OnOk result (out.new.items ≡ out.old.items ++ groups_text (groups_of octets.now)) }
 {

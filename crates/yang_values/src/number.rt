@@ -1,5 +1,8 @@
 // Decimal numbers.
-ghost use Rattle.std.specs.Prelude.{◌≡◌, IfOk, OnOk, ◌++◌};
+ghost use Rattle.std.specs.Prelude.{◌≡◌, ◌<◌, ◌^◌, IfOk, IsTrue, OnOk, ◌++◌};
+ghost use Rattle.std.specs.Char.{is_ascii_digit};
+ghost use Rattle.std.specs.List.{list_all};
+ghost use Rattle.std.specs.Option.{SomeIff};
 ghost use Rattle.std.specs.Fmt.{decimal};
 ghost use Rattle.std.specs.Str.Parse.{digits_value};
 ghost use Rattle.yang_values.specs.Numbers.{is_number, number_of, u64_of, port_of};
@@ -8,25 +11,28 @@ use crate::value::BadValue;
 use ikl_base::{NoMemory, Octets};
 use std::alloc::Global;
 
+// Whether each octet is a decimal digit.
+fn are_digits(t: &[u8]) -> bool
+    ensures { result ≡ list_all is_ascii_digit t.now }
+{
+    t.iter().all(|c| c.is_ascii_digit())
+}
+
 /// Whether the text is decimal digits without a leading zero, or `0`.
 pub(crate) fn is_decimal(t: &[u8]) -> bool
     ensures { result ≡ is_number t.now }
 {
-    match t {
-        [] => false,
-        [first, rest @ ..] => {
-            t.iter().all(|c| c.is_ascii_digit()) && (*first != b'0' || rest.is_empty())
-        }
-    }
+    !t.is_empty() && (t[0] != b'0' || t.len() == 1) && are_digits(t)
 }
 
 // The value of decimal digits, where it is a u64.
-fn value(t: &[u8]) -> Option<u64> {
+fn value(t: &[u8]) -> Option<u64>
+    requires { IsTrue (list_all is_ascii_digit t.now) }
+    ensures { SomeIff result (digits_value 10 t.now < 2 ^ 64) (digits_value 10 t.now) }
+{
     let mut n = 0u64;
     for c in t {
-        n = n
-            .checked_mul(10)?
-            .checked_add(u64::from(c.wrapping_sub(b'0')))?;
+        n = n.checked_mul(10)?.checked_add(u64::from(*c - b'0'))?;
     }
     Some(n)
 }

@@ -1,0 +1,5 @@
+pub mod NumberLemmas
+pub mod EachLemmas
+pub mod PartsLemmas
+pub mod HexNumberLemmas
+pub mod RunLemmas
