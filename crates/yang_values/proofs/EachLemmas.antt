@@ -20,10 +20,10 @@ pub with_front_more : (value_of : List ℕ → Option ℕ) (front : List ℕ) (t
 unfolding each
 with_front_more value_of front t ts value e = rw e (behind front value (each value_of ts))
   where
-  behind : (front : List ℕ) (value : ℕ) (read : Option (List ℕ))
-      → with_front front (option_map (λ values. value ∷ values) read) ≡ with_front (front ++ value ∷ []) read
-  behind front value None = refl
-  behind front value (Some values) = ap Some (sym (append_assoc front (value ∷ []) values))
+    behind : (front : List ℕ) (value : ℕ) (read : Option (List ℕ))
+        → with_front front (option_map (λ values. value ∷ values) read) ≡ with_front (front ++ value ∷ []) read
+    behind front value None = refl
+    behind front value (Some values) = ap Some (sym (append_assoc front (value ∷ []) values))
 
 -- a text without a value
 pub with_front_none : (value_of : List ℕ → Option ℕ) (front : List ℕ) (t : List ℕ) (ts : List (List ℕ))
@@ -38,7 +38,7 @@ with_front_end value_of front = ap Some (append-nil front)
 
 longer : (front : List ℕ) (n : ℕ) → length front ≡ n → (first : Option ℕ) (others : Option (List ℕ))
     → IfSome (with_front front (option_and_then (λ value. option_and_then (λ values. Some (value ∷ values)) others) first))
-      (λ values. n < length values)
+    (λ values. n < length values)
 longer front n size None others = tt
 longer front n size (Some value) None = tt
 longer front n size (Some value) (Some values) = rw length-append (omega arith)

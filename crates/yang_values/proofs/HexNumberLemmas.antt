@@ -77,9 +77,9 @@ lower_small c low high = grind arith
 hex_digit_small : (c : ℕ) → is_ascii_hexdigit c ≡ true → digit_value c < 16
 hex_digit_small c h = elim (or_cases (is_in_range 48 57 c || is_in_range 65 70 c) (is_in_range 97 102 c) h) [
   | inl front ↦ elim (or_cases (is_in_range 48 57 c) (is_in_range 65 70 c) front) [
-      | inl decimal ↦ let r = in_range 48 57 c decimal in decimal_small c r.0 r.1
-      | inr upper ↦ let r = in_range 65 70 c upper in upper_small c r.0 r.1
-    ]
+    | inl decimal ↦ let r = in_range 48 57 c decimal in decimal_small c r.0 r.1
+    | inr upper ↦ let r = in_range 65 70 c upper in upper_small c r.0 r.1
+  ]
   | inr lower ↦ let r = in_range 97 102 c lower in lower_small c r.0 r.1
 ]
 

@@ -95,7 +95,7 @@ fill_is front back n m size room =
     let none : drop (8 - (8 - m)) (drop (8 - m) (front ++ drop n (replicate 8 0))) ≡ [] =
     ap (drop (8 - (8 - m))) left ∙ drop_all (8 - (8 - m)) (replicate m 0) (rw length-replicate (omega arith)) in
     let written : take (8 - m) (front ++ drop n (replicate 8 0)) ++ (back ++ drop (8 - (8 - m)) (drop (8 - m) (front ++ drop n (replicate 8 0))))
-      ≡ (front ++ zeros) ++ (back ++ []) = rw (start, none) refl in
+    ≡ (front ++ zeros) ++ (back ++ []) = rw (start, none) refl in
     written ∙ ap (λ b. (front ++ zeros) ++ b) (append-nil back)
 
 pub filled_is : (front back : List ℕ) (n m : ℕ) → length front ≡ n → length back ≡ m → n + m < 8

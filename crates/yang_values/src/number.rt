@@ -1,5 +1,5 @@
 // Decimal numbers.
-ghost use Rattle.std.specs.Prelude.{◌≡◌, ◌<◌, ◌^◌, IfOk, IsTrue, OnOk, ◌++◌};
+ghost use Rattle.std.specs.Prelude.{◌≡◌, ◌<◌, ◌≤◌, ◌^◌, IfOk, IsTrue, OnOk, ◌++◌};
 ghost use Rattle.std.specs.Char.{is_ascii_digit};
 ghost use Rattle.std.specs.List.{list_all};
 ghost use Rattle.std.specs.Option.{SomeIff};
@@ -42,7 +42,8 @@ fn value(t: &[u8]) -> Option<u64>
 /// `Form`: it isn't decimal digits without a leading zero, nor `0`. `Range`: it is above `most`.
 #[tactic(auto, unfolding(crate::specs::Numbers::number_of))]
 pub fn read_number(t: &[u8], most: u64) -> Result<u64, BadValue>
-    ensures { result ≡ number_of most t.now }
+    ensures value { result ≡ number_of most t.now }
+    ensures bound { IfOk result (λ n. n ≤ most) }
 {
     if !is_decimal(t) {
         return Err(BadValue::Form);

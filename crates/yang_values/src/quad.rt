@@ -60,7 +60,10 @@ pub(crate) fn read_quad(t: &[u8]) -> Result<[u8; 4], BadValue>
     let Some((a, b, c, d)) = quarters(t) else {
         return Err(BadValue::Form);
     };
-    if !(are_decimal(a, b) && are_decimal(c, d)) {
+    if !are_decimal(a, b) {
+        return Err(BadValue::Form);
+    }
+    if !are_decimal(c, d) {
         return Err(BadValue::Form);
     }
     match (octet(a), octet(b), octet(c), octet(d)) {

@@ -20,7 +20,7 @@ returns-in_default-pair c =
 pub loop-rest-preserved : goal.loop-rest-preserved
 loop-rest-preserved c =
     let pushed : c.push.new.self.items ≡ c.loop-rest.octets.items ++ c.in-Some-pair.octet ∷ [] =
-        c.push.ensures.items ∙ rw c.if-is_err.ensures.negation refl in
+    c.push.ensures.items ∙ rw c.if-is_err.ensures.negation refl in
     rw pushed
     (next_value is_colon pair_of _ _ _ _ _ (option_copied c.first_part.result.1) _ c.loop-rest.invariant (ap option_copied c.in-Some.is) c.first_part.ensures.value (sym c.in-Some-pair.ensures))
 
