@@ -1,0 +1,331 @@
+use super::*;
+use ikl_base::{NoMemory, Octets, OrMemory};
+use std::alloc::Global;
+use std::process::Abort;
+use std::test::Fail;
+
+fn fault_text(e: BadValue) -> &'static str {
+    match e {
+        BadValue::Form => "Form",
+        BadValue::Range => "Range",
+    }
+}
+
+// What a text is read as, written again, or the fault.
+fn address_again(alloc: Global, t: &str) -> Result<Octets, NoMemory> {
+    match read_address(t.as_bytes()) {
+        Ok(a) => write_address(alloc, &a),
+        Err(e) => Octets::from_slice(alloc, fault_text(e).as_bytes()),
+    }
+}
+
+fn prefix_again(alloc: Global, t: &str) -> Result<Octets, NoMemory> {
+    match read_prefix(t.as_bytes()) {
+        Ok(p) => write_prefix(alloc, &p),
+        Err(e) => Octets::from_slice(alloc, fault_text(e).as_bytes()),
+    }
+}
+
+fn u64_again(alloc: Global, t: &str) -> Result<Octets, NoMemory> {
+    match read_u64(t.as_bytes()) {
+        Ok(n) => write_u64(alloc, n),
+        Err(e) => Octets::from_slice(alloc, fault_text(e).as_bytes()),
+    }
+}
+
+fn hex_again(alloc: Global, t: &str) -> Result<Octets, NoMemory> {
+    match read_hex(alloc, t.as_bytes()) {
+        Ok(octets) => write_hex(alloc, octets.as_slice()),
+        Err(OrMemory::Refused(e)) => Octets::from_slice(alloc, fault_text(e).as_bytes()),
+        Err(OrMemory::NoMemory) => Err(NoMemory),
+    }
+}
+
+fn digits_again(alloc: Global, t: &str) -> Result<Octets, NoMemory> {
+    match read_digits(alloc, t.as_bytes()) {
+        Ok(octets) => {
+            let mut out = Vec::new(alloc);
+            out.push(b'=')?;
+            put_digits(&mut out, octets.as_slice())?;
+            Ok(Octets::from_items(out))
+        }
+        Err(OrMemory::Refused(e)) => Octets::from_slice(alloc, fault_text(e).as_bytes()),
+        Err(OrMemory::NoMemory) => Err(NoMemory),
+    }
+}
+
+fn is_text(rt: &impl Abort, got: Result<Octets, NoMemory>, text: &str, want: &str) {
+    match got {
+        Ok(got) => assert!(rt; got.as_slice() == want.as_bytes(), "{text}"),
+        Err(NoMemory) => assert!(rt; false, "no memory"),
+    }
+}
+
+const NUMBERS: [(&str, &str); 16] = [
+    ("10", "10"),
+    ("0", "0"),
+    ("7", "7"),
+    ("18446744073709551615", "18446744073709551615"),
+    ("18446744073709551616", "Range"),
+    ("18446744073709551620", "Range"),
+    ("99999999999999999999999999999999999999999999", "Range"),
+    ("010", "Form"),
+    ("00", "Form"),
+    ("", "Form"),
+    ("-1", "Form"),
+    ("+1", "Form"),
+    ("1 ", "Form"),
+    ("1x", "Form"),
+    ("99999999999999999999999x", "Form"),
+    ("018446744073709551616", "Form"),
+];
+
+const HEX: [(&str, &str); 14] = [
+    ("", ""),
+    ("0A:ff", "0a:ff"),
+    ("00", "00"),
+    ("aB:Cd:09", "ab:cd:09"),
+    ("a", "Form"),
+    ("abc", "Form"),
+    ("abcd", "Form"),
+    ("ab:", "Form"),
+    (":ab", "Form"),
+    ("ab::cd", "Form"),
+    ("ab:c", "Form"),
+    ("ag", "Form"),
+    (":", "Form"),
+    ("ab-cd", "Form"),
+];
+
+const DIGITS: [(&str, &str); 9] = [
+    ("00", "=00"),
+    ("0aFf", "=0aff"),
+    ("000102030405060708090A0B", "=000102030405060708090a0b"),
+    ("", "Form"),
+    ("0", "Form"),
+    ("012", "Form"),
+    ("0g", "Form"),
+    ("0a:ff", "Form"),
+    ("-", "Form"),
+];
+
+const PREFIXES: [(&str, &str); 30] = [
+    ("10.1.2.3/16", "10.1.0.0/16"),
+    ("10.1.2.3/32", "10.1.2.3/32"),
+    ("10.1.2.3/0", "0.0.0.0/0"),
+    ("10.1.255.3/23", "10.1.254.0/23"),
+    ("2001:DB8:0:0::/48", "2001:db8::/48"),
+    ("2001:db8:ffff::1/33", "2001:db8:8000::/33"),
+    ("::1/128", "::1/128"),
+    ("ffff::/7", "fe00::/7"),
+    ("::/0", "::/0"),
+    ("10.1.2.3/33", "Range"),
+    ("10.1.2.3/99999999999999999999", "Range"),
+    ("2001:db8::/129", "Range"),
+    ("256.0.0.0/8", "Range"),
+    ("256.0.0.0/33", "Range"),
+    ("256.0.0.0/x", "Form"),
+    ("256.0.0.0/08", "Form"),
+    ("256.0.0.0/", "Form"),
+    ("1.2.3/33", "Form"),
+    ("10.1.2.3", "Form"),
+    ("10.1.2.3/", "Form"),
+    ("/8", "Form"),
+    ("", "Form"),
+    ("10.1.2.3/8/8", "Form"),
+    ("10.1.2.3/08", "Form"),
+    ("10.1.2.3/+8", "Form"),
+    ("10.1.2.3 /8", "Form"),
+    ("2001:db8::/129x", "Form"),
+    ("g::/129", "Form"),
+    ("10.1.2.3/255.0.0.0", "Form"),
+    ("::ffff:1.2.3.4/96", "Form"),
+];
+
+const ADDRESSES: [(&str, &str); 112] = [
+    ("1.2.3.4", "1.2.3.4"),
+    ("0.0.0.0", "0.0.0.0"),
+    ("255.255.255.255", "255.255.255.255"),
+    ("256.0.0.1", "Range"),
+    ("1.2.3.99999999999999999999999999", "Range"),
+    ("1.2.3", "Form"),
+    ("1.2.3.4.5", "Form"),
+    ("1.2.3.", "Form"),
+    ("01.2.3.4", "Form"),
+    ("1.2.3.04", "Form"),
+    ("+1.2.3.4", "Form"),
+    ("1..3.4", "Form"),
+    ("", "Form"),
+    (".", "Form"),
+    ("1.2.3.4 ", "Form"),
+    ("256.0.0.x", "Form"),
+    ("0x1.2.3.4", "Form"),
+    ("::", "::"),
+    ("::1", "::1"),
+    ("1::", "1::"),
+    ("1::8", "1::8"),
+    ("2001:db8:0:0:1:0:0:1", "2001:db8::1:0:0:1"),
+    ("2001:db8:0:1:1:1:1:1", "2001:db8:0:1:1:1:1:1"),
+    ("2001:DB8::ABCD", "2001:db8::abcd"),
+    ("1:2:3:4:5:6:7:8", "1:2:3:4:5:6:7:8"),
+    ("1:2:3:4:5:6:7::", "1:2:3:4:5:6:7:0"),
+    ("::2:3:4:5:6:7:8", "0:2:3:4:5:6:7:8"),
+    ("1:2:3:4::5:6:7:8", "Form"),
+    ("1:2:3:4:5:6:7", "Form"),
+    ("1:2:3:4:5:6:7:8:9", "Form"),
+    ("1::2::3", "Form"),
+    (":::", "Form"),
+    (":1:2:3:4:5:6:7", "Form"),
+    ("1:2:3:4:5:6:7:", "Form"),
+    (":", "Form"),
+    ("1:::2", "Form"),
+    ("00000::", "Form"),
+    ("12345::1", "Form"),
+    ("g::1", "Form"),
+    ("::ffff:1.2.3.4", "Form"),
+    ("fe80::1%eth0", "Form"),
+    ("0:0:0:0:0:0:0:0", "::"),
+    ("0:0:1:0:0:0:1:0", "0:0:1::1:0"),
+    ("0:0:0:1:0:0:0:1", "::1:0:0:0:1"),
+    ("1:0:0:2:0:0:3:4", "1::2:0:0:3:4"),
+    ("1:0:2:0:3:0:4:0", "1:0:2:0:3:0:4:0"),
+    (
+        "0001:0020:0300:4000:000a:00b0:0c00:d000",
+        "1:20:300:4000:a:b0:c00:d000",
+    ),
+    ("1:2:3:4:5:6:7:8::", "Form"),
+    ("::1:2:3:4:5:6:7:8", "Form"),
+    ("1:2::3:4:5:6:7:8:9", "Form"),
+    (" ::1", "Form"),
+    ("::-1", "Form"),
+    ("::0:2c01:0:1:7", "::2c01:0:1:7"),
+    ("0:4:9:3:0::DAED", "0:4:9:3::daed"),
+    ("0:9:FD7F:0:0:4DD0:2::0", "Form"),
+    (
+        "2feb:0000:e42b:b1aa:0005:0000:0000:7ec7",
+        "2feb:0:e42b:b1aa:5::7ec7",
+    ),
+    ("552d:8e40:0000:0000:0000::0000:0000", "552d:8e40::"),
+    ("E:C8E5:C9CA:0:227B:0:0:0", "e:c8e5:c9ca:0:227b::"),
+    ("6:0:b1dd:3ee5:ee96:0:0:5::", "Form"),
+    ("0000:0000:0000:0000:63ea::", "::63ea:0:0:0"),
+    ("0:0:0:F:0:2B68:0::", "::f:0:2b68:0:0"),
+    ("0:0:4:0:0::0", "0:0:4::"),
+    ("0:e:4::583d:0:3", "0:e:4::583d:0:3"),
+    ("3:0:a:6618:7:84e9::0:0", "Form"),
+    ("::d:cec0:0", "::d:cec0:0"),
+    ("::0:0:0:0:d831:0", "::d831:0"),
+    ("0000:0000:0000:8766:000a:0008:0001:0000", "::8766:a:8:1:0"),
+    ("0000:0000:0000::0000:e4e4:000c", "::e4e4:c"),
+    ("65b2:0:0:0:c::50a8", "65b2::c:0:0:50a8"),
+    ("0000:0000:0000::c364:0000:0000:2df4:0000", "Form"),
+    ("0:0:1:4:0:0:B8AE::", "::1:4:0:0:b8ae:0"),
+    ("0:2F13::0:0:EBB1:0:0:0", "Form"),
+    ("f6ff:0000:0009:9232:0003:0000::0000:0002", "Form"),
+    ("0002:0004:0000:0000:7677:0000::0000", "2:4:0:0:7677::"),
+    ("0:A62B:0::271D:0:0", "0:a62b::271d:0:0"),
+    ("0:0:0:1954:46F2:0::", "::1954:46f2:0:0:0"),
+    ("7a32:0000:0000::fe80:aa69:0000:0000:0000", "Form"),
+    ("d358:0000:ad28:0000:0000:7f35:0000::0000", "Form"),
+    ("c:0:0:4ddb:0:7:0:0", "c::4ddb:0:7:0:0"),
+    ("99C7::0:0:B27", "99c7::b27"),
+    ("0:0::0:0:0:634b:0", "::634b:0"),
+    ("::1ECA:0:0:5", "::1eca:0:0:5"),
+    ("0000:0000:0000:2959:3f56::000b", "::2959:3f56:0:0:b"),
+    ("f2f6:0:c04a:0:2:0:0:0", "f2f6:0:c04a:0:2::"),
+    ("0:f34b:8089:0:0:0::b:2874", "Form"),
+    ("000f:a6c9:0000:0000::000e:0000", "f:a6c9::e:0"),
+    ("::0000:0000:0000:0000", "::"),
+    ("0000:0000:be95:0000:0000::0000:0000", "0:0:be95::"),
+    ("0000:000f:f78e:000c:0000:cba8::910c:0009", "Form"),
+    ("ba41:0000::0000:0000", "ba41::"),
+    ("0000:0000:0000:0000:0002:0007::0000", "::2:7:0:0"),
+    ("0:1:0:e:0:7f9e:e::0", "Form"),
+    ("0:0:0:0:0:0:1:0", "::1:0"),
+    ("632d:0::0", "632d::"),
+    ("8e6f:0:18de:8:0:b:0:0", "8e6f:0:18de:8:0:b::"),
+    ("0:0:0:d:0:7:0:0::", "Form"),
+    ("9:0:0::0:4A15:0:E", "9::4a15:0:e"),
+    ("0:0:0:0:64FF:D:0:99BC", "::64ff:d:0:99bc"),
+    ("c014:0000:0000::0000:000d:0000:0000", "c014::d:0:0"),
+    ("A75B:A838:F:344:0::0:0", "a75b:a838:f:344::"),
+    ("0::0:0:0:2cc8", "::2cc8"),
+    ("0::0:0:1", "::1"),
+    (
+        "0000:0000:023b:0000:000b:0000:6def:0000",
+        "::23b:0:b:0:6def:0",
+    ),
+    ("0:0::0:B:A740", "::b:a740"),
+    ("8:0:7:0:0:0:0:0", "8:0:7::"),
+    ("0:0:0:0:69b3:115f::7:0", "Form"),
+    ("000d:0007:0000:0000:8505::0000:8007:0000", "Form"),
+    ("0:8:0:3:E9DF:B:AF8A:6B90", "0:8:0:3:e9df:b:af8a:6b90"),
+    ("0:8c78:0:0:0:c:7015::0", "Form"),
+    (
+        "4ae3:0009:0000:75fe:0000:0000:0000:a401",
+        "4ae3:9:0:75fe::a401",
+    ),
+    ("0:0:4:0:0:3:0:0::", "Form"),
+    ("0:6:0:3CA1:77E5:FC74:EF26:0", "0:6:0:3ca1:77e5:fc74:ef26:0"),
+];
+
+#[test]
+fn numbers(rt: HostRuntime) {
+    for (text, want) in NUMBERS {
+        is_text(&rt, u64_again(rt.alloc(), text), text, want);
+    }
+}
+
+#[test]
+fn limited_numbers(rt: HostRuntime) {
+    assert!(rt; read_number(b"255", 255) == Ok(255));
+    assert!(rt; read_number(b"256", 255) == Err(BadValue::Range));
+    assert!(rt; read_number(b"0256", 255) == Err(BadValue::Form));
+    assert!(rt; read_number(b"0", 0) == Ok(0));
+}
+
+#[test]
+fn ports(rt: HostRuntime) {
+    assert!(rt; read_port(0) == Ok(0));
+    assert!(rt; read_port(65535) == Ok(65535));
+    assert!(rt; read_port(65536) == Err(BadValue::Range));
+}
+
+#[test]
+fn hex_strings(rt: HostRuntime) {
+    for (text, want) in HEX {
+        is_text(&rt, hex_again(rt.alloc(), text), text, want);
+    }
+}
+
+#[test]
+fn digits(rt: HostRuntime) {
+    for (text, want) in DIGITS {
+        is_text(&rt, digits_again(rt.alloc(), text), text, want);
+    }
+}
+
+// What they are read and written as was computed by another program.
+#[test]
+fn addresses(rt: HostRuntime) {
+    for (text, want) in ADDRESSES {
+        is_text(&rt, address_again(rt.alloc(), text), text, want);
+    }
+}
+
+#[test]
+fn prefixes(rt: HostRuntime) {
+    for (text, want) in PREFIXES {
+        is_text(&rt, prefix_again(rt.alloc(), text), text, want);
+    }
+}
+
+// Each number is put behind what is there.
+#[test]
+fn put_behind(rt: HostRuntime) -> Result<(), Fail> {
+    let mut out = Vec::from_slice(rt.alloc(), b"x=")?;
+    let put = put_number(&mut out, 4096);
+    assert!(rt; put.is_ok());
+    assert!(rt; out.as_slice() == b"x=4096".as_slice());
+    Ok(())
+}
