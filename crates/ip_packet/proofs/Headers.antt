@@ -1,16 +1,8 @@
 -- The walk over extension headers, one header at a time.
-use Rattle.std.proofs.Common.{◌≡◌, ◌≤◌, ◌<◌, ℕ, zero, suc, ◌==◌, List, [], ◌∷◌, length, drop, slice_index, Result, Ok, Err, true, false, if◌then◌else◌, refl, ap, arith, length-drop, ◌≢◌}
+use Rattle.std.proofs.Common.{◌≡◌, ◌≤◌, ◌<◌, ℕ, zero, suc, List, [], ◌∷◌, length, drop, slice_index, Ok, Err, true, false, refl, ap, arith, length-drop, ◌≢◌}
 use Rattle.std.proofs.lemmas.Bool.Decides.{nat_tests}
-use Rattle.ip_packet.specs.declared.packet.NotPacket.{NotPacket}
 use Rattle.ip_packet.specs.declared.packet.NotPacket.TheVariants as faults
-use Rattle.ip_packet.specs.Ipv6.{is_extension, passes_end, extension_length, upper_within, upper_of}
-
--- what one header leaves, with the answer for the rest
-abbrev pub after_one : ℕ → List ℕ → Result (ℕ × List ℕ) NotPacket → Result (ℕ × List ℕ) NotPacket
-after_one next o rest =
-    if next == 44 then Err faults.Fragment
-    else if is_extension next then (if passes_end o then Err faults.Length else rest)
-    else Ok (next, o)
+use Rattle.ip_packet.specs.Ipv6.{is_extension, extension_length, upper_step, upper_within, upper_of}
 
 upper_within-same : (n m next : ℕ) (o : List ℕ) → length o ≤ n → length o ≤ m → upper_within n next o ≡ upper_within m next o
 upper_within-same zero zero next o hn hm = refl
@@ -21,17 +13,17 @@ upper_within-same (suc n) zero next (x ∷ o) hn hm = absurd (omega arith)
 upper_within-same (suc n) (suc m) next o hn hm =
     let rest = drop (extension_length o) o in
     let shorter = length-drop (extension_length o) o in
-    ap (after_one next o) (upper_within-same n m (slice_index o 0) rest (omega arith) (omega arith))
+    ap (upper_step next o) (upper_within-same n m (slice_index o 0) rest (omega arith) (omega arith))
 
 -- one header, and then what follows it
-pub upper_of-step : (next : ℕ) (o : List ℕ) → upper_of next o ≡ after_one next o (upper_of (slice_index o 0) (drop (extension_length o) o))
+pub upper_of-step : (next : ℕ) (o : List ℕ) → upper_of next o ≡ upper_step next o (upper_of (slice_index o 0) (drop (extension_length o) o))
 unfolding upper_of
 upper_of-step next [] = refl
 upper_of-step next (x ∷ o) =
     let all : List ℕ = x ∷ o in
     let rest : List ℕ = drop (extension_length all) all in
     let shorter = length-drop (extension_length all) all in
-    ap (after_one next all) (upper_within-same (length o) (length rest) (slice_index all 0) rest (omega arith) (omega arith))
+    ap (upper_step next all) (upper_within-same (length o) (length rest) (slice_index all 0) rest (omega arith) (omega arith))
 
 pub upper_of-more : (next : ℕ) (o : List ℕ) → is_extension next ≡ true → 8 ≤ length o → extension_length o ≤ length o → upper_of next o ≡ upper_of (slice_index o 0) (drop (extension_length o) o)
 upper_of-more next o is all whole = rw (upper_of-step next o) (grind (arith, nat_tests))

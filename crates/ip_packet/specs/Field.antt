@@ -1,5 +1,5 @@
 -- The fields of a header, in network order (RFC 791 appendix B, RFC 8200 section 3).
-use Rattle.std.specs.Prelude.{ℕ, ◌+◌, ◌*◌, ◌/◌, ◌%◌, ◌==◌, ◌&&◌, ◌||◌, nat_lt, Bool, not, List, [], ◌∷◌, length, take, drop, slice_index, Option, Some, None, if◌then◌else◌}
+use Rattle.std.specs.Prelude.{ℕ, ◌+◌, ◌*◌, ◌/◌, ◌%◌, ◌==◌, ◌&&◌, ◌||◌, nat_lt, Bool, not, List, length, take, drop, slice_index, slice_set, Option, Some, None, if◌then◌else◌}
 use Rattle.ikl_base.specs.declared.address.Addr.{Addr}
 use Rattle.ikl_base.specs.declared.address.Addr.TheVariants.{V4, V6}
 
@@ -11,9 +11,9 @@ version o = slice_index o 0 / 16
 abbrev pub number_at : List ℕ → ℕ → ℕ
 number_at o i = 256 * slice_index o i + slice_index o (i + 1)
 
--- the two octets that write a number below 2 ^ 16
-abbrev pub pair_of : ℕ → List ℕ
-pair_of n = (n / 256) ∷ (n % 256) ∷ []
+-- the octets with a number below 2 ^ 16 written at a place
+abbrev pub with_number : List ℕ → ℕ → ℕ → List ℕ
+with_number o i n = slice_set (slice_set o i (n / 256)) (i + 1) (n % 256)
 
 abbrev pub address_4_at : List ℕ → ℕ → Addr
 address_4_at o i = V4 (take 4 (drop i o))

@@ -1,5 +1,5 @@
 -- The header of an IPv4 packet (RFC 791 section 3.1).
-use Rattle.std.specs.Prelude.{ℕ, ◌+◌, ◌*◌, ◌/◌, ◌%◌, ◌==◌, ◌||◌, nat_lt, Bool, not, List, [], ◌∷◌, length, take, slice_index}
+use Rattle.std.specs.Prelude.{ℕ, ◌+◌, ◌-◌, ◌*◌, ◌/◌, ◌%◌, ◌==◌, ◌||◌, nat_lt, Bool, not, List, [], ◌∷◌, length, take, slice_index}
 use Rattle.ip_packet.specs.Field.{number_at}
 
 -- the header's length in octets: its second four bits count words of 4 octets
@@ -16,10 +16,23 @@ words_sum [] = 0
 words_sum (a ∷ []) = 256 * a
 words_sum (a ∷ b ∷ o) = 256 * a + b + words_sum o
 
--- The ones' complement sum of the header's words isn't all ones. The header isn't all zeros, so the sum is all ones
--- exactly where the words sum to a multiple of 2 ^ 16 - 1.
+-- the ones' complement sum of the words, in which a carry is added back (RFC 1071 section 1)
+abbrev pub add_back : ℕ → ℕ → ℕ
+add_back a b = (a + b) % 65536 + (a + b) / 65536
+
+abbrev pub ones_sum : List ℕ → ℕ
+ones_sum [] = 0
+ones_sum (a ∷ []) = add_back (256 * a) 0
+ones_sum (a ∷ b ∷ o) = add_back (256 * a + b) (ones_sum o)
+
+-- The ones' complement sum of the header's words isn't all ones. A header isn't all zeros, so its sum is all ones exactly
+-- where its words sum to a multiple of 2 ^ 16 - 1.
 abbrev pub is_sum_wrong : List ℕ → Bool
 is_sum_wrong o = not (words_sum (take (header_length o) o) % 65535 == 0)
+
+-- the sum to be written into a header that has zeros there: the complement of the ones' complement sum of its words
+abbrev pub sum_for : List ℕ → ℕ
+sum_for header = (65535 - words_sum header % 65535) % 65535
 
 -- more fragments is set, or there is an offset
 abbrev pub is_fragment : List ℕ → Bool

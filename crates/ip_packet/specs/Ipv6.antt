@@ -20,15 +20,18 @@ extension_length o = slice_index o 1 * 8 + 8
 abbrev pub passes_end : List ℕ → Bool
 passes_end o = nat_lt (length o) 8 || nat_lt (length o) (extension_length o)
 
--- What stands behind the headers, at the first octets behind one whose next header is given: the protocol of the upper
--- layer with its octets, behind at most n extension headers.
-abbrev pub upper_within : ℕ → ℕ → List ℕ → Result (ℕ × List ℕ) NotPacket
-upper_within zero next o = if next == 44 then Err faults.Fragment else if is_extension next then Err faults.Length else Ok (next, o)
-upper_within (suc n) next o =
+-- The upper layer's protocol and octets behind one header, by its next header and the octets after it. What follows an
+-- extension header has the last answer.
+abbrev pub upper_step : ℕ → List ℕ → Result (ℕ × List ℕ) NotPacket → Result (ℕ × List ℕ) NotPacket
+upper_step next o after =
     if next == 44 then Err faults.Fragment
-    else if is_extension next then
-    (if passes_end o then Err faults.Length else upper_within n (slice_index o 0) (drop (extension_length o) o))
+    else if is_extension next then (if passes_end o then Err faults.Length else after)
     else Ok (next, o)
+
+-- the upper layer behind at most n extension headers
+abbrev pub upper_within : ℕ → ℕ → List ℕ → Result (ℕ × List ℕ) NotPacket
+upper_within zero next o = upper_step next o (Err faults.Length)
+upper_within (suc n) next o = upper_step next o (upper_within n (slice_index o 0) (drop (extension_length o) o))
 
 -- No more extension headers than octets are there, since each has 8 or more.
 unfoldable pub upper_of : ℕ → List ℕ → Result (ℕ × List ℕ) NotPacket

@@ -1,6 +1,6 @@
 // The fields that the headers of both families have.
-ghost use Rattle.std.specs.Prelude.{◌≡◌, ◌+◌, ◌<◌, ◌≤◌, length};
-ghost use Rattle.ip_packet.specs.Field.{number_at, address_4_at, address_6_at, ports_of};
+ghost use Rattle.std.specs.Prelude.{◌≡◌, ◌+◌, ◌<◌, ◌≤◌, ◌++◌, length, take, drop};
+ghost use Rattle.ip_packet.specs.Field.{number_at, with_number, address_4_at, address_6_at, ports_of};
 
 use ikl_base::Addr;
 
@@ -9,6 +9,23 @@ pub(crate) fn number(octets: &[u8], i: usize) -> u16
     ensures { result ≡ number_at octets.now i }
 {
     u16::from(octets[i]) * 256 + u16::from(octets[i + 1])
+}
+
+pub(crate) fn set_number(octets: &mut [u8], i: usize, n: u16)
+    requires { i + 1 < length octets.old }
+    ensures { octets.new ≡ with_number octets.old i n }
+{
+    octets[i] = (n / 256) as u8;
+    octets[i + 1] = (n % 256) as u8;
+}
+
+// Writes a piece at a place.
+pub(crate) fn put(octets: &mut [u8], at: usize, piece: &[u8])
+    requires { at + length piece.now ≤ length octets.old }
+    ensures { octets.new ≡ take at octets.old ++ (piece.now ++ drop (at + length piece.now) octets.old) }
+{
+    let end = at + piece.len();
+    octets[at..end].copy_from_slice(piece);
 }
 
 pub(crate) fn address_4(octets: &[u8], i: usize) -> Addr

@@ -1,5 +1,5 @@
 ghost use Rattle.std.specs.Prelude.{◌≡◌, ◌≤◌, length, MatchResult, Ok, Err};
-ghost use Rattle.ip_packet.specs.Ipv4.{words_sum};
+ghost use Rattle.ip_packet.specs.Ipv4.{words_sum, sum_for};
 ghost use Rattle.ip_packet.specs.View.{seen, view_of_4};
 
 use crate::field::{address_4, number, ports};
@@ -20,6 +20,15 @@ pub(crate) fn header_sum(header: &[u8]) -> u32
         sum += u32::from(*high) * 256;
     }
     sum
+}
+
+// The sum to be written into a header that has zeros there.
+pub(crate) fn checksum(header: &[u8]) -> u16
+    requires { length header.now ≤ 60 }
+    ensures { result ≡ sum_for header.now }
+{
+    let rest = header_sum(header) % 65535;
+    ((65535 - rest) % 65535) as u16
 }
 
 // What the octets of an IPv4 packet say.
