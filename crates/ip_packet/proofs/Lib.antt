@@ -1,0 +1,5 @@
+pub mod Headers
+pub mod Sums
+pub mod Views
+pub mod Pieces
+pub mod OuterViews

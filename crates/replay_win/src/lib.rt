@@ -1,0 +1,14 @@
+//! The anti-replay window of one association: which numbers are fresh, seen, or too old to tell (RFC 4303 section 3.4.3).
+#![tactic(auto)]
+
+mod laws;
+mod marks;
+mod verdict;
+mod window;
+
+pub use laws::verdicts;
+pub use verdict::Verdict;
+pub use window::Window;
+
+#[cfg(test)]
+mod tests;

@@ -1,0 +1,26 @@
+use crate::laws::verdicts;
+use crate::verdict::Verdict;
+use crate::window::Window;
+use std::test::Fail;
+
+#[test]
+fn judges_by_the_numbers_marked(rt: HostRuntime) -> Result<(), Fail> {
+    let mut window = Window::new(rt.alloc(), 64).map_err(|_| "no memory")?;
+    assert_eq!(rt; window.top(), 0);
+    assert_eq!(rt; window.judge(100), Verdict::Fresh);
+    window.mark(100);
+    assert_eq!(rt; window.judge(36), Verdict::Old);
+    assert_eq!(rt; window.judge(37), Verdict::Fresh);
+    window.mark(37);
+    assert_eq!(rt; window.judge(37), Verdict::Seen);
+    assert_eq!(rt; window.judge(0), Verdict::Zero);
+    assert_eq!(rt; window.judge(101), Verdict::Fresh);
+    assert_eq!(rt; window.judge(u64::MAX), Verdict::Fresh);
+    window.mark(u64::MAX);
+    assert_eq!(rt; window.judge(u64::MAX - 64), Verdict::Old);
+    assert_eq!(rt; window.judge(u64::MAX - 63), Verdict::Fresh);
+    assert_eq!(rt; window.judge(u64::MAX), Verdict::Seen);
+    assert_eq!(rt; window.top(), u64::MAX);
+    verdicts();
+    Ok(())
+}
