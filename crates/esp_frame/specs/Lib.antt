@@ -1,0 +1,3 @@
+pub mod Esp
+pub mod Key
+pub mod Open
