@@ -45,12 +45,12 @@ module _ (b head text icv : List ℕ) (parts : b ≡ head ++ (text ++ icv)) (hea
 
   pub opens_is : (k : Keying) (x : List ℕ) → 34 ≤ length b → Opens k.cipher (k.salt ++ drop 8 head) (take 8 head) text icv x → EspOpens k b x
   opens_is k x le o = (
-      le,
-      (
-        text_is ∙ o.0 ∙ sym (ap (λ (v : List ℕ). sealed k.cipher (k.salt ++ v) x) iv_is),
-        icv_is ∙ o.1 ∙ sym (λ i. tag_of k.cipher (k.salt ++ iv_is i) (aad_is i) (text_is i)),
-      ),
-    )
+    le,
+    (
+      text_is ∙ o.0 ∙ sym (ap (λ (v : List ℕ). sealed k.cipher (k.salt ++ v) x) iv_is),
+      icv_is ∙ o.1 ∙ sym (λ i. tag_of k.cipher (k.salt ++ iv_is i) (aad_is i) (text_is i)),
+    ),
+  )
 
   pub opens_not : (k : Keying) → (icv ≡ tag_of k.cipher (k.salt ++ drop 8 head) (take 8 head) text → ⊥) → NoText k b
   opens_not k differs = λ x o. differs (sym icv_is ∙ o.1.1 ∙ (λ i. tag_of k.cipher (k.salt ++ iv_is i) (aad_is i) (text_is i)))
@@ -60,12 +60,12 @@ module _ (b head text icv x : List ℕ) (parts : b ≡ head ++ (text ++ icv)) (h
   pub opened_is : text_of (head ++ (x ++ icv)) ≡ x
   opened_is = text_is (head ++ (x ++ icv)) head x icv refl head_len icv_len
 
+  pub written_is : head ++ (x ++ icv) ≡ with_text b x
+  written_is =
+      sym ((λ i. head_is b head text icv parts head_len icv_len i ++ x ++ icv_is b head text icv parts head_len icv_len i) ∙ append_assoc head x icv)
+
   pub rest_is : head ++ (x ++ icv) ≡ with_text b (text_of (head ++ (x ++ icv)))
-  rest_is =
-      sym (
-        (λ i. head_is b head text icv parts head_len icv_len i ++ opened_is i ++ icv_is b head text icv parts head_len icv_len i)
-        ∙ append_assoc head x icv
-      )
+  rest_is = written_is ∙ sym (ap (with_text b) opened_is)
 
   pub same_opened : (k : Keying) → 34 ≤ length b → Opens k.cipher (k.salt ++ drop 8 head) (take 8 head) text icv x → EspOpens k b (text_of (head ++ (x ++ icv)))
   same_opened k le o =

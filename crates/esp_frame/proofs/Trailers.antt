@@ -3,7 +3,7 @@ use Rattle.std.proofs.Common.{◌≡◌, ℕ, ◌+◌, ◌-◌, ◌<◌, ◌≤�
 use Rattle.std.specs.Prelude.{slice_set}
 use Rattle.std.proofs.lemmas.Bool.{cases_lt, cases_eq}
 use Rattle.std.proofs.lemmas.Grind.{same_number_lists}
-use Rattle.std.proofs.lemmas.List.{get_or-append-add, get_or-append_right, get_or-set_other, get_or-set_same, get_or-take, get_or_append_left, length-set}
+use Rattle.std.proofs.lemmas.List.{get_or-append-add, get_or-append_right, get_or-set_other, get_or-set_same, get_or-take, get_or_append_left, length-set, take_at}
 use Rattle.std.proofs.lemmas.List.FromFn.{get_or-range_with_len, length-range_with_len}
 use Rattle.esp_frame.specs.Esp.{Inner, NoInner, padded, padding}
 
@@ -68,8 +68,8 @@ trailer_is back q next long pads =
     padded_is (slice_set once (q + 1) next) [] q next (length-set once (q + 1) next ∙ same ∙ omega arith)
     (λ k lt. absurd (omega arith))
     (λ i lt.
-      let e : 0 + i ≡ i = omega arith in
-      ap (λ (n : ℕ). get_or (slice_set once (q + 1) next) n 0) e ∙ get_or-set_other once (q + 1) i next 0 (omega arith) ∙ get_or-set_other back q i q 0 (omega arith) ∙ pads i lt)
+    let e : 0 + i ≡ i = omega arith in
+    ap (λ (n : ℕ). get_or (slice_set once (q + 1) next) n 0) e ∙ get_or-set_other once (q + 1) i next 0 (omega arith) ∙ get_or-set_other back q i q 0 (omega arith) ∙ pads i lt)
     (let e : 0 + q ≡ q = omega arith in
     ap (λ (n : ℕ). get_or (slice_set once (q + 1) next) n 0) e ∙ get_or-set_other once (q + 1) q next 0 (omega arith) ∙ get_or-set_same back q q 0 (omega arith))
     (let e : 0 + q + 1 ≡ q + 1 = omega arith in
@@ -91,6 +91,19 @@ pads_at x p q next i e lt =
     let at : length x - 2 - q + i ≡ length p + i = omega arith in
     ap (λ (n : ℕ). get_or x n 0) at ∙ ap (λ (l : List ℕ). get_or l (length p + i) 0) e ∙ padded-padding q next i p lt
 
+pub next_at : (x p : List ℕ) (q next : ℕ) → x ≡ padded q next p → get_or x (length x - 1) 0 ≡ next
+next_at x p q next e =
+    let long = ap (λ (l : List ℕ). length l) e ∙ length-padded q next p in
+    let at : length x - 1 ≡ length p + q + 1 = omega arith in
+    ap (λ (n : ℕ). get_or x n 0) at ∙ ap (λ (l : List ℕ). get_or l (length p + q + 1) 0) e ∙ padded-end q next 1 p
+
+pub packet_at : (x p : List ℕ) (q next : ℕ) → x ≡ padded q next p → take (length x - 2 - q) x ≡ p
+packet_at x p q next e =
+    let long = ap (λ (l : List ℕ). length l) e ∙ length-padded q next p in
+    let at : length p ≡ length x - 2 - q = omega arith in
+    ap (λ (l : List ℕ). take (length x - 2 - q) l) (e ∙ append_assoc p (padding q) (q ∷ next ∷ []))
+    ∙ take_at p (padding q ++ q ∷ next ∷ []) (length x - 2 - q) at
+
 pub no_room : (x : List ℕ) → length x - 2 < get_or x (length x - 2) 0 → NoInner x
 no_room x lt = λ next p inner.
     let q : ℕ = inner.0 in
@@ -111,9 +124,11 @@ inner_found x pad room e pads =
     let p : List ℕ = take n x in
     let long : length p ≡ n = omega (arith, length-take n x) in
     let at : length p + pad ≡ length x - 2 = omega arith in
-    let end : length p + pad + 1 ≡ length x - 1 = omega arith in
-    (pad, padded_is x p pad (get_or x (length x - 1) 0) (omega arith)
-      (λ k lt. sym (get_or-take n x k 0 (omega arith)))
-      (λ i lt. ap (λ (m : ℕ). get_or x (m + i) 0) long ∙ pads i lt)
-      (ap (λ (m : ℕ). get_or x m 0) at ∙ e)
-      (ap (λ (m : ℕ). get_or x m 0) end))
+    let end : length p + pad + 1 ≡ length x - 1 = omega arith in (
+      pad,
+      padded_is x p pad (get_or x (length x - 1) 0) (omega arith)
+          (λ k lt. sym (get_or-take n x k 0 (omega arith)))
+          (λ i lt. ap (λ (m : ℕ). get_or x (m + i) 0) long ∙ pads i lt)
+          (ap (λ (m : ℕ). get_or x m 0) at ∙ e)
+          (ap (λ (m : ℕ). get_or x m 0) end),
+    )

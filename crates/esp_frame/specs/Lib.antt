@@ -1,3 +1,4 @@
 pub mod Esp
 pub mod Key
+pub mod Laws
 pub mod Open

@@ -7,7 +7,7 @@ ghost use Rattle.aes_block.specs.Schedule.{cipher_of};
 ghost use Rattle.gcm_seal.specs.Gcm.{Opens, tag_of};
 ghost use Rattle.esp_frame.specs.Esp.{EspOpens, Inner, NoInner, aad_of, esp, esp_len, icv_of, iv_of, seq_of, spi_of, text_of, with_text};
 ghost use Rattle.esp_frame.specs.Key.{keying_of};
-ghost use Rattle.esp_frame.specs.Open.{Refused};
+ghost use Rattle.esp_frame.specs.Open.{Refused, open_leaves, open_result};
 
 use crate::key::SealKey;
 use crate::trailer::{packet_len, pad_len, write_padded};
@@ -109,7 +109,7 @@ pub fn seal(sa: &SealKey, seq: u64, next: u8, inner: &[u8], out: &mut [u8]) -> u
 pub fn fields(esp: &[u8]) -> Result<EspFields<'_>, EspShort>
     ensures { MatchResult result
         (λ f. (34 ≤ length esp.now) × (f.spi ≡ spi_of esp.now) × (f.seq ≡ seq_of esp.now)
-            × (f.iv.now ≡ iv_of esp.now) × (f.text.now ≡ text_of esp.now) × (f.icv.now ≡ icv_of esp.now))
+        × (f.iv.now ≡ iv_of esp.now) × (f.text.now ≡ text_of esp.now) × (f.icv.now ≡ icv_of esp.now))
         (λ _. length esp.now < 34) }
 {
     if esp.len() < 34 {
@@ -145,12 +145,14 @@ fn open_text(sa: &SealKey, head: &[u8], text: &mut [u8], icv: &[u8]) -> bool
 /// are as they were; after Padding the text is opened.
 pub fn open(sa: &SealKey, esp: &mut [u8], seq: u64) -> Result<Opened, OpenFault>
     requires { length esp.old ≤ 65535 }
-    ensures { MatchResult result
+    ensures by_definition { MatchResult result
         (λ o. (16 ≡ o.start) × (o.start ≤ o.end) × (o.end + 18 ≤ length esp.old)
-            × EspOpens (keying_of sa.now) esp.old (text_of esp.new)
-            × Inner (text_of esp.new) o.next (slice_range esp.new o.start o.end)
-            × (esp.new ≡ with_text esp.old (text_of esp.new)))
+        × EspOpens (keying_of sa.now) esp.old (text_of esp.new)
+        × Inner (text_of esp.new) o.next (slice_range esp.new o.start o.end)
+        × (esp.new ≡ with_text esp.old (text_of esp.new)))
         (Refused (keying_of sa.now) esp.old esp.new) }
+    ensures value { result ≡ open_result (keying_of sa.now) esp.old }
+    ensures after { esp.new ≡ open_leaves (keying_of sa.now) esp.old }
 {
     if esp.len() < 34 {
         return Err(OpenFault::Short);

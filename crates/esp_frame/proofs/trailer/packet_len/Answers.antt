@@ -10,6 +10,6 @@ returns-then-text-end c = wrong_pad c.args.text.now _ c.octets.i _ refl refl (om
 
 pub returns : goal.returns
 returns c = (
-    omega arith,
-    inner_found c.args.text.now _ (omega arith) refl (λ i lt. c.octets.invariant i (omega (arith, c.octets.auto.i-end))),
-  )
+  omega arith,
+  inner_found c.args.text.now _ (omega arith) refl (λ i lt. c.octets.invariant i (omega (arith, c.octets.auto.i-end))),
+)

@@ -1,0 +1,188 @@
+//! Worked octets, and every length, cut and changed bit.
+
+ghost use Rattle.std.specs.Prelude.{◌<◌, ◌≤◌, length};
+
+use super::*;
+use std::process::Abort;
+
+// An AES key of 16 octets and the salt.
+const KEY: [u8; 20] = [
+    0x00, 0x01, 0x02, 0x03, 0x04, 0x05, 0x06, 0x07, 0x08, 0x09, 0x0a, 0x0b, 0x0c, 0x0d, 0x0e, 0x0f,
+    0xa0, 0xa1, 0xa2, 0xa3,
+];
+
+// UDP over IPv6 from 2001:db8:1::5 port 4660 to 2001:db8:2::9 port 53, the text abcd.
+const PACKET: [u8; 52] = [
+    0x60, 0x00, 0x00, 0x00, 0x00, 0x0c, 0x11, 0x40, 0x20, 0x01, 0x0d, 0xb8, 0x00, 0x01, 0x00, 0x00,
+    0x00, 0x00, 0x00, 0x00, 0x00, 0x00, 0x00, 0x05, 0x20, 0x01, 0x0d, 0xb8, 0x00, 0x02, 0x00, 0x00,
+    0x00, 0x00, 0x00, 0x00, 0x00, 0x00, 0x00, 0x09, 0x12, 0x34, 0x00, 0x35, 0x00, 0x0c, 0xcd, 0x23,
+    0x61, 0x62, 0x63, 0x64,
+];
+
+// That packet under SPI 257 with the number 1 and the next header 41.
+const SEALED: [u8; 88] = [
+    0x00, 0x00, 0x01, 0x01, 0x00, 0x00, 0x00, 0x01, 0x00, 0x00, 0x00, 0x00, 0x00, 0x00, 0x00, 0x01,
+    0x26, 0x71, 0x1c, 0xf2, 0x6c, 0x88, 0x66, 0x10, 0xa7, 0x6d, 0x4b, 0xaf, 0xdb, 0x05, 0x94, 0x66,
+    0x11, 0xf2, 0x19, 0x83, 0x96, 0xf5, 0x80, 0xa7, 0x4d, 0xf0, 0x86, 0xa8, 0x1c, 0xa4, 0x5f, 0x12,
+    0xeb, 0xfb, 0xce, 0xab, 0x25, 0x31, 0x90, 0xde, 0x22, 0x3e, 0xe4, 0x8d, 0xcf, 0x20, 0x72, 0x37,
+    0xd3, 0x30, 0x8e, 0xb2, 0x00, 0x42, 0xfb, 0xee, 0x91, 0xb6, 0xf6, 0x57, 0x77, 0x5d, 0x93, 0xd2,
+    0x96, 0xab, 0x71, 0x0f, 0x6b, 0x09, 0xdc, 0x82,
+];
+
+#[test]
+fn worked_octets(rt: HostRuntime) {
+    let key = SealKey::of(257, &KEY);
+    let mut esp = [0u8; 88];
+    assert_eq!(rt; seal(&key, 1, 41, &PACKET, &mut esp), 88);
+    assert!(rt; esp == SEALED);
+    let opened = Opened {
+        next: 41,
+        start: 16,
+        end: 68,
+    };
+    assert_eq!(rt; open(&key, &mut esp, 1), Ok(opened));
+    assert!(rt; esp[16..68] == PACKET[..]);
+}
+
+#[test]
+fn worked_fields(rt: HostRuntime) {
+    match fields(&SEALED) {
+        Ok(f) => {
+            assert_eq!(rt; f.spi, 257);
+            assert_eq!(rt; f.seq, 1);
+            assert!(rt; *f.iv == [0, 0, 0, 0, 0, 0, 0, 1]);
+            assert!(rt; *f.text == SEALED[16..72]);
+            assert!(rt; *f.icv == SEALED[72..]);
+        }
+        Err(_) => assert!(rt; false),
+    }
+    assert!(rt; fields(&SEALED[..33]).is_err());
+}
+
+// A long key: the test cases for AES-GCM in ESP (draft-mcgrew-gcm-test) have this packet of 48 octets.
+#[test]
+fn long_key(rt: HostRuntime) {
+    let material = [
+        0xab, 0xbc, 0xcd, 0xde, 0xf0, 0x01, 0x12, 0x23, 0x34, 0x45, 0x56, 0x67, 0x78, 0x89, 0x9a,
+        0xab, 0xab, 0xbc, 0xcd, 0xde, 0xf0, 0x01, 0x12, 0x23, 0x34, 0x45, 0x56, 0x67, 0x78, 0x89,
+        0x9a, 0xab, 0x11, 0x22, 0x33, 0x44,
+    ];
+    let packet = [
+        0x45, 0x00, 0x00, 0x30, 0x69, 0xa6, 0x40, 0x00, 0x80, 0x06, 0x26, 0x90, 0xc0, 0xa8, 0x01,
+        0x02, 0x93, 0x89, 0x15, 0x5e, 0x0a, 0x9e, 0x00, 0x8b, 0x2d, 0xc5, 0x7e, 0xe0, 0x00, 0x00,
+        0x00, 0x00, 0x70, 0x02, 0x40, 0x00, 0x20, 0xbf, 0x00, 0x00, 0x02, 0x04, 0x05, 0xb4, 0x01,
+        0x01, 0x04, 0x02,
+    ];
+    let sealed = [
+        0x4a, 0x2c, 0xbf, 0xe3, 0x00, 0x00, 0x00, 0x02, 0x01, 0x02, 0x03, 0x04, 0x05, 0x06, 0x07,
+        0x08, 0xff, 0x42, 0x5c, 0x9b, 0x72, 0x45, 0x99, 0xdf, 0x7a, 0x3b, 0xcd, 0x51, 0x01, 0x94,
+        0xe0, 0x0d, 0x6a, 0x78, 0x10, 0x7f, 0x1b, 0x0b, 0x1c, 0xbf, 0x06, 0xef, 0xae, 0x9d, 0x65,
+        0xa5, 0xd7, 0x63, 0x74, 0x8a, 0x63, 0x79, 0x85, 0x77, 0x1d, 0x34, 0x7f, 0x05, 0x45, 0x65,
+        0x9f, 0x14, 0xe9, 0x9d, 0xef, 0x84, 0x2d, 0x8e, 0xb3, 0x35, 0xf4, 0xee, 0xcf, 0xdb, 0xf8,
+        0x31, 0x82, 0x4b, 0x4c, 0x49, 0x15, 0x95, 0x6c, 0x96,
+    ];
+    let key = SealKey::of(0x4a2c_bfe3, &material);
+    let mut esp = sealed;
+    assert_eq!(rt;
+        open(&key, &mut esp, 2),
+        Ok(Opened {
+            next: 1,
+            start: 16,
+            end: 64
+        })
+    );
+    assert!(rt; esp[16..64] == packet[..]);
+}
+
+#[test]
+fn lengths(rt: HostRuntime) {
+    assert_eq!(rt; esp_len(20), 56);
+    assert_eq!(rt; esp_len(21), 56);
+    assert_eq!(rt; esp_len(22), 56);
+    assert_eq!(rt; esp_len(23), 60);
+    assert_eq!(rt; esp_len(65000), 65036);
+}
+
+// The octets after the packet, once sealed octets are opened.
+fn trailer(rt: &impl Abort, len: usize, expected: &[u8])
+    requires { len ≤ 200 }
+{
+    let key = SealKey::of(257, &KEY);
+    let packet = [0x45u8; 200];
+    let mut esp = [0u8; 240];
+    let end = seal(&key, 7, 4, &packet[..len], &mut esp);
+    assert!(rt; open(&key, &mut esp[..end], 7).is_ok());
+    assert!(rt; esp[16 + len..end - 16] == *expected);
+}
+
+#[test]
+fn trailers(rt: HostRuntime) {
+    trailer(&rt, 20, &[1, 2, 2, 4]);
+    trailer(&rt, 21, &[1, 1, 4]);
+    trailer(&rt, 22, &[0, 4]);
+    trailer(&rt, 23, &[1, 2, 3, 3, 4]);
+}
+
+// Sealed, opened again, and nothing written past the end.
+fn round_trip(rt: &impl Abort, key: &SealKey, len: usize)
+    requires { len ≤ 200 }
+{
+    let mut packet = [0u8; 200];
+    for i in 0..200u8 {
+        packet[i as usize] = i;
+    }
+    let mut esp = [0xeeu8; 240];
+    let end = seal(key, 4294967295, 59, &packet[..len], &mut esp);
+    assert!(rt; esp[end..].iter().all(|octet| *octet == 0xee));
+    let opened = Opened {
+        next: 59,
+        start: 16,
+        end: 16 + len,
+    };
+    assert_eq!(rt; open(key, &mut esp[..end], 4294967295), Ok(opened));
+    assert!(rt; esp[16..16 + len] == packet[..len]);
+}
+
+#[test]
+fn every_length(rt: HostRuntime) {
+    let key = SealKey::of(4294967295, &KEY);
+    for len in 0..201usize {
+        round_trip(&rt, &key, len);
+    }
+}
+
+// `esp` is refused for `fault`, and stays as it was.
+fn refused(rt: &impl Abort, key: &SealKey, esp: &mut [u8], fault: OpenFault)
+    requires { length esp.old ≤ 88 }
+{
+    let mut before = [0u8; 88];
+    before[..esp.len()].copy_from_slice(esp);
+    assert_eq!(rt; open(key, esp, 1), Err(fault));
+    assert!(rt; *esp == before[..esp.len()]);
+}
+
+#[test]
+fn every_cut(rt: HostRuntime) {
+    let key = SealKey::of(257, &KEY);
+    let mut esp = SEALED;
+    for len in 0..34usize {
+        refused(&rt, &key, &mut esp[..len], OpenFault::Short);
+    }
+    for len in 34..88usize {
+        refused(&rt, &key, &mut esp[..len], OpenFault::Tag);
+    }
+}
+
+#[test]
+fn every_changed_bit(rt: HostRuntime) {
+    let key = SealKey::of(257, &KEY);
+    let mut esp = SEALED;
+    for i in 0..88usize {
+        for bit in 0..8u32 {
+            esp[i] ^= 1u8 << bit;
+            refused(&rt, &key, &mut esp, OpenFault::Tag);
+            esp[i] ^= 1u8 << bit;
+        }
+    }
+    assert!(rt; open(&key, &mut esp, 1).is_ok());
+}
