@@ -1,11 +1,11 @@
 -- ESP octets part by part.
-use Rattle.std.proofs.Common.{◌≡◌, ℕ, ◌+◌, ◌-◌, ◌<◌, ◌≤◌, List, [], ◌∷◌, ◌++◌, length, get_or, take, drop, refl, ap, subst, sym, ◌∙◌, arith, length-append, append_assoc}
+use Rattle.std.proofs.Common.{◌≡◌, ℕ, ◌+◌, ◌-◌, ◌<◌, ◌≤◌, List, ◌++◌, length, get_or, take, drop, refl, ap, subst, sym, ◌∙◌, arith, length-append, append_assoc}
 use Rattle.std.specs.Prelude.{slice_range}
 use Rattle.std.specs.Int.{w32, w64, to_be_bytes}
 use Rattle.std.proofs.lemmas.List.{drop-drop, drop_at, get_or-drop, get_or-take, take-append-le, take_at}
 use Rattle.std.proofs.lemmas.Slice.{between_is}
 use Rattle.gcm_seal.specs.Gcm.{Opens, sealed, tag_of}
-use Rattle.esp_frame.specs.Esp.{EspOpens, Inner, Keying, NoInner, aad_of, esp, esp_len, icv_of, iv_of, pad_len, padded, text_of, with_text}
+use Rattle.esp_frame.specs.Esp.{EspOpens, Inner, Keying, NoInner, aad_of, esp, icv_of, iv_of, pad_len, padded, text_of, with_text}
 use Rattle.esp_frame.specs.Open.{NoText}
 
 -- ---- b in three parts

@@ -1,22 +1,19 @@
 -- `opened` and `packet_of` are exact, and what is sealed opens.
-use Rattle.std.proofs.Common.{◌≡◌, ℕ, ◌+◌, ◌-◌, ◌*◌, ◌<◌, ◌≤◌, ◌^◌, ◌&&◌, Bool, true, false, cond, leb, List, [], ◌∷◌, ◌++◌, Option, Some, None, Result, Ok, Err, MatchOption, length, get_or, take, drop, map, refl, ap, subst, sym, ◌∙◌, arith, Decides, length-append, length-drop, length-take, append_assoc}
+use Rattle.std.proofs.Common.{◌≡◌, ℕ, ◌+◌, ◌-◌, ◌<◌, ◌≤◌, ◌^◌, ◌&&◌, Bool, true, false, cond, leb, List, ◌++◌, Option, Some, None, Ok, Err, MatchOption, length, get_or, take, drop, refl, ap, sym, ◌∙◌, arith, Decides, length-append, length-drop, length-take, append_assoc}
 use Rattle.std.specs.Prelude.{slice_index, slice_range, bit_xor}
 use Rattle.std.specs.Int.{w32, w64, to_be_bytes, from_be_bytes}
-use Rattle.std.specs.List.{range_with_len}
 use Rattle.std.specs.Str.{bytes_eq}
 use Rattle.std.proofs.lemmas.Bool.{false≢true, le-leb, le-ltb, leb-true, lt-ltb}
 use Rattle.std.proofs.lemmas.Bool.Decides.{Decides-and}
 use Rattle.std.proofs.lemmas.Slice.Eq.{bytes_eq-Decides}
-use Rattle.std.proofs.lemmas.List.{get_or-drop, get_or-take, take_at, drop_at}
+use Rattle.std.proofs.lemmas.List.{get_or-drop, get_or-take}
 use Rattle.std.proofs.lemmas.List.FromFn.{get_or-range_with_len, length-map-range_with_len, length-range_with_len}
 use Rattle.std.proofs.lemmas.Grind.{same_number_lists}
 use Rattle.std.proofs.lemmas.Nat.{from_be_bytes-to_be_bytes_4}
-use Rattle.gcm_seal.specs.Gcm.{Opens, add_blocks, sealed, stream, tag_of}
+use Rattle.gcm_seal.specs.Gcm.{sealed, stream, tag_of}
 use Rattle.gcm_seal.proofs.Texts.{sealed_twice}
 use Rattle.esp_frame.specs.Esp.{EspOpens, Inner, Keying, NoInner, aad_of, esp, esp_len, icv_of, iv_of, pad_len, padded, padding, seq_of, spi_of, text_of, with_text}
 use Rattle.esp_frame.specs.Open.{NoText, Packet, by_packet, by_text, left_by, open_leaves, open_result, opened, packet_of}
-use Rattle.esp_frame.specs.declared.frame.Opened.{Opened}
-use Rattle.esp_frame.specs.declared.frame.OpenFault.{OpenFault}
 use Rattle.esp_frame.specs.declared.frame.OpenFault.TheVariants.{Padding, Short, Tag}
 use Rattle.esp_frame.proofs.Frames.{aad_is, icv_is, iv_is, text_is}
 use Rattle.esp_frame.proofs.Trailers.{inner_found, length-padded, next_at, packet_at, pad_len_at, pads_at}

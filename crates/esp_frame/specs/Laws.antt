@@ -1,9 +1,9 @@
 -- The laws of sealing and opening, for every keying, number, next header and packet.
-use Rattle.std.specs.Prelude.{◌≡◌, ℕ, ◌^◌, ◌<◌, List, ◌++◌, Option, Some, MatchOption, length, take}
+use Rattle.std.specs.Prelude.{◌≡◌, ℕ, ◌^◌, ◌<◌, List, ◌++◌, Some, MatchOption, length}
 use Rattle.std.specs.Int.{w64, to_be_bytes}
 use Rattle.gcm_seal.specs.Gcm.{sealed}
 use Rattle.esp_frame.specs.Esp.{EspOpens, Inner, Keying, NoInner, esp, esp_len, iv_of, pad_len, padded, seq_of, spi_of, text_of}
-use Rattle.esp_frame.specs.Open.{NoText, Packet, opened, packet_of}
+use Rattle.esp_frame.specs.Open.{NoText, opened, packet_of}
 
 -- what `seal` writes opens, and to the packet with the least padding
 abbrev pub SealedOpens : Type 0

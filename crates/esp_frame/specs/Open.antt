@@ -2,7 +2,7 @@
 use Rattle.std.specs.Prelude.{◌≡◌, ℕ, ◌+◌, ◌-◌, ◌≤◌, ◌<◌, ◌&&◌, nat_le, nat_lt, if◌then◌else◌, List, Option, Some, None, Result, Ok, Err, ◌++◌, length, slice_index, slice_range, take}
 use Rattle.std.specs.Str.{bytes_eq}
 use Rattle.gcm_seal.specs.Gcm.{sealed, tag_of}
-use Rattle.esp_frame.specs.Esp.{EspOpens, Inner, Keying, NoInner, aad_of, icv_of, iv_of, padding, text_of, with_text}
+use Rattle.esp_frame.specs.Esp.{EspOpens, Keying, NoInner, aad_of, icv_of, iv_of, padding, text_of, with_text}
 use Rattle.esp_frame.specs.declared.frame.Opened.{Opened}
 use Rattle.esp_frame.specs.declared.frame.OpenFault.{OpenFault}
 use Rattle.esp_frame.specs.declared.frame.OpenFault.TheVariants.{Padding, Short, Tag}

@@ -13,7 +13,11 @@ use crate::key::SealKey;
 use crate::trailer::{packet_len, pad_len, write_padded};
 use gcm_seal::{open_in_place, seal_in_place};
 
+// SPI, number and IV, pad length and next header, and ICV.
+const LEAST_LEN: usize = 34;
+
 /// The fields of ESP octets (RFC 4303, section 2).
+#[derive(Clone, Copy, Drop)]
 pub struct EspFields<'a> {
     /// The SPI.
     pub spi: u32,
@@ -112,7 +116,7 @@ pub fn fields(esp: &[u8]) -> Result<EspFields<'_>, EspShort>
         × (f.iv.now ≡ iv_of esp.now) × (f.text.now ≡ text_of esp.now) × (f.icv.now ≡ icv_of esp.now))
         (λ _. length esp.now < 34) }
 {
-    if esp.len() < 34 {
+    if esp.len() < LEAST_LEN {
         return Err(EspShort);
     }
     let (head, rest) = esp.split_at(16);
@@ -154,7 +158,7 @@ pub fn open(sa: &SealKey, esp: &mut [u8], seq: u64) -> Result<Opened, OpenFault>
     ensures value { result ≡ open_result (keying_of sa.now) esp.old }
     ensures after { esp.new ≡ open_leaves (keying_of sa.now) esp.old }
 {
-    if esp.len() < 34 {
+    if esp.len() < LEAST_LEN {
         return Err(OpenFault::Short);
     }
     let len = esp.len();

@@ -41,7 +41,7 @@ fn worked_octets(rt: HostRuntime) {
         end: 68,
     };
     assert_eq!(rt; open(&key, &mut esp, 1), Ok(opened));
-    assert!(rt; esp[16..68] == PACKET[..]);
+    assert!(rt; &esp[16..68] == PACKET.as_slice());
 }
 
 #[test]
@@ -50,9 +50,9 @@ fn worked_fields(rt: HostRuntime) {
         Ok(f) => {
             assert_eq!(rt; f.spi, 257);
             assert_eq!(rt; f.seq, 1);
-            assert!(rt; *f.iv == [0, 0, 0, 0, 0, 0, 0, 1]);
-            assert!(rt; *f.text == SEALED[16..72]);
-            assert!(rt; *f.icv == SEALED[72..]);
+            assert!(rt; f.iv == [0, 0, 0, 0, 0, 0, 0, 1].as_slice());
+            assert!(rt; f.text == &SEALED[16..72]);
+            assert!(rt; f.icv == &SEALED[72..]);
         }
         Err(_) => assert!(rt; false),
     }
@@ -91,7 +91,7 @@ fn long_key(rt: HostRuntime) {
             end: 64
         })
     );
-    assert!(rt; esp[16..64] == packet[..]);
+    assert!(rt; &esp[16..64] == packet.as_slice());
 }
 
 #[test]
@@ -112,7 +112,7 @@ fn trailer(rt: &impl Abort, len: usize, expected: &[u8])
     let mut esp = [0u8; 240];
     let end = seal(&key, 7, 4, &packet[..len], &mut esp);
     assert!(rt; open(&key, &mut esp[..end], 7).is_ok());
-    assert!(rt; esp[16 + len..end - 16] == *expected);
+    assert!(rt; &esp[16 + len..end - 16] == expected);
 }
 
 #[test]
@@ -140,7 +140,7 @@ fn round_trip(rt: &impl Abort, key: &SealKey, len: usize)
         end: 16 + len,
     };
     assert_eq!(rt; open(key, &mut esp[..end], 4294967295), Ok(opened));
-    assert!(rt; esp[16..16 + len] == packet[..len]);
+    assert!(rt; &esp[16..16 + len] == &packet[..len]);
 }
 
 #[test]
@@ -158,7 +158,7 @@ fn refused(rt: &impl Abort, key: &SealKey, esp: &mut [u8], fault: OpenFault)
     let mut before = [0u8; 88];
     before[..esp.len()].copy_from_slice(esp);
     assert_eq!(rt; open(key, esp, 1), Err(fault));
-    assert!(rt; *esp == before[..esp.len()]);
+    assert!(rt; &*esp == &before[..esp.len()]);
 }
 
 #[test]
@@ -185,4 +185,46 @@ fn every_changed_bit(rt: HostRuntime) {
         }
     }
     assert!(rt; open(&key, &mut esp, 1).is_ok());
+}
+
+// These three were sealed by another program.
+#[test]
+fn too_long_padding(rt: HostRuntime) {
+    let key = SealKey::of(257, &KEY);
+    let mut esp = [
+        0x00, 0x00, 0x01, 0x01, 0x00, 0x00, 0x00, 0x01, 0x00, 0x00, 0x00, 0x00, 0x00, 0x00, 0x00,
+        0x01, 0x47, 0x75, 0xce, 0xde, 0x42, 0x79, 0xb9, 0xf5, 0x90, 0xe2, 0xbc, 0xed, 0x8e, 0x75,
+        0x62, 0x6b, 0x2b, 0x5a,
+    ];
+    assert_eq!(rt; open(&key, &mut esp, 1), Err(OpenFault::Padding));
+    assert_eq!(rt; esp[16], 1);
+    assert_eq!(rt; esp[17], 4);
+}
+
+#[test]
+fn wrong_padding(rt: HostRuntime) {
+    let key = SealKey::of(257, &KEY);
+    let mut esp = [
+        0x00, 0x00, 0x01, 0x01, 0x00, 0x00, 0x00, 0x01, 0x00, 0x00, 0x00, 0x00, 0x00, 0x00, 0x00,
+        0x01, 0x03, 0x70, 0x1f, 0xf0, 0x68, 0xc6, 0xec, 0xcc, 0x19, 0xfb, 0x4d, 0x42, 0x9b, 0x91,
+        0x40, 0x14, 0xf7, 0xc1, 0x0f, 0xcf, 0xa9,
+    ];
+    assert_eq!(rt; open(&key, &mut esp, 1), Err(OpenFault::Padding));
+    assert!(rt; &esp[16..21] == [0x45, 1, 3, 2, 4].as_slice());
+}
+
+#[test]
+fn more_padding_than_needed(rt: HostRuntime) {
+    let key = SealKey::of(257, &KEY);
+    let mut esp = [
+        0x00, 0x00, 0x01, 0x01, 0x00, 0x00, 0x00, 0x01, 0x00, 0x00, 0x00, 0x00, 0x00, 0x00, 0x00,
+        0x01, 0x03, 0x37, 0x1d, 0xf0, 0x6f, 0x80, 0x72, 0x56, 0x80, 0x6b, 0x7d, 0x25, 0x33, 0xfd,
+        0x05, 0x44, 0x00, 0x22, 0x8e, 0x1a, 0x5d, 0x6b, 0xac, 0xbc, 0x15, 0x56, 0xc0,
+    ];
+    let opened = Opened {
+        next: 59,
+        start: 16,
+        end: 18,
+    };
+    assert_eq!(rt; open(&key, &mut esp, 1), Ok(opened));
 }

@@ -1,14 +1,14 @@
-use Rattle.std.proofs.Common.{◌≡◌, ◌+◌, ◌-◌, ◌<◌, ◌≤◌, ◌∙◌, ◌++◌, ℕ, List, length, get_or, take, ap, arith, refl, sym}
+use Rattle.std.proofs.Common.{◌≡◌, ◌-◌, ◌≤◌, ◌∙◌, ◌++◌, ℕ, List, length, get_or, ap, arith, refl, sym}
 use Rattle.esp_frame.specs.Key.{keying_of}
 use Rattle.esp_frame.proofs.Frames.{inner_is, no_inner_is, opens_is, opens_not, rest_is, same_opened, written_is}
 use Rattle.esp_frame.proofs.Opens.{leaves_none, leaves_short, leaves_text, result_packet, result_padding, result_short, result_tag}
 use Rattle.esp_frame.proofs.frame.open.Goals as goal
 
-pub returns-then-esp-lt34-clause-value : goal.returns-then-esp-lt34-clause-value
-returns-then-esp-lt34-clause-value c = result_short (keying_of c.args.sa.now) c.args.esp.now (omega arith)
+pub returns-then-esp-lt-LEAST_LEN-clause-value : goal.returns-then-esp-lt-LEAST_LEN-clause-value
+returns-then-esp-lt-LEAST_LEN-clause-value c = result_short (keying_of c.args.sa.now) c.args.esp.now (omega arith)
 
-pub returns-then-esp-lt34-clause-after : goal.returns-then-esp-lt34-clause-after
-returns-then-esp-lt34-clause-after c = leaves_short (keying_of c.args.sa.now) c.args.esp.now (omega arith)
+pub returns-then-esp-lt-LEAST_LEN-clause-after : goal.returns-then-esp-lt-LEAST_LEN-clause-after
+returns-then-esp-lt-LEAST_LEN-clause-after c = leaves_short (keying_of c.args.sa.now) c.args.esp.now (omega arith)
 
 pub returns-then-not-open_text : goal.returns-then-not-open_text
 returns-then-not-open_text c =

@@ -1,7 +1,6 @@
-use Rattle.std.proofs.Common.{◌≡◌, ◌+◌, ◌-◌, ◌∙◌, ◌++◌, ℕ, List, length, drop, take, ap, arith, refl, sym}
-use Rattle.gcm_seal.specs.Gcm.{Opens}
+use Rattle.std.proofs.Common.{◌≡◌, ◌+◌, ◌∙◌, ◌++◌, ℕ, length, arith}
 use Rattle.aes_block.specs.Schedule.{cipher_of}
-use Rattle.esp_frame.specs.Esp.{esp_len, pad_len}
+use Rattle.esp_frame.specs.Esp.{esp_len}
 use Rattle.esp_frame.specs.Key.{keying_of}
 use Rattle.esp_frame.proofs.Frames.{all_written, dropped, esp_is, opens_moved}
 use Rattle.esp_frame.proofs.frame.seal.Goals as goal

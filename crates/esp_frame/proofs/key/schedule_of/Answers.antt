@@ -1,4 +1,4 @@
-use Rattle.std.proofs.Common.{◌≡◌, ◌/◌, ◌∙◌, ℕ, List, length, take, ap, arith, sym}
+use Rattle.std.proofs.Common.{◌≡◌, ◌/◌, ◌∙◌, length, arith}
 use Rattle.std.proofs.lemmas.List.{take_all}
 use Rattle.aes_block.specs.Aes.{aes}
 use Rattle.esp_frame.proofs.key.schedule_of.Goals as goal

@@ -1,4 +1,4 @@
-use Rattle.std.proofs.Common.{◌≡◌, ◌+◌, ◌-◌, length, arith, refl}
+use Rattle.std.proofs.Common.{arith, refl}
 use Rattle.esp_frame.proofs.Trailers.{inner_found, no_room, wrong_pad}
 use Rattle.esp_frame.proofs.trailer.packet_len.Goals as goal
 

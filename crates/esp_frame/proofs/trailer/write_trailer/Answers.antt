@@ -1,4 +1,4 @@
-use Rattle.std.proofs.Common.{◌≡◌, ◌+◌, ◌-◌, length, arith}
+use Rattle.std.proofs.Common.{◌-◌, length, arith}
 use Rattle.esp_frame.proofs.Trailers.{trailer_is}
 use Rattle.esp_frame.proofs.trailer.write_trailer.Goals as goal
 

@@ -1,6 +1,6 @@
-use Rattle.std.proofs.Common.{◌≡◌, ◌-◌, ◌/◌, ◌∙◌, ℕ, List, length, take, drop, arith, ap}
+use Rattle.std.proofs.Common.{◌≡◌, ◌-◌, ◌/◌, ◌∙◌, ℕ, length, arith}
 use Rattle.aes_block.specs.Aes.{aes}
-use Rattle.esp_frame.specs.Esp.{Keying, keying}
+use Rattle.esp_frame.specs.Esp.{keying}
 use Rattle.esp_frame.proofs.key.SealKey.of.Goals as goal
 
 pub returns : goal.returns
