@@ -1,7 +1,7 @@
 -- AES (FIPS 197). An octet is a number below 256, bit i of which is the coefficient of x^i; a block
 -- is a list of 16 octets, octet r + 4 c in row r and column c; a word is a list of four octets.
 use Rattle.std.specs.Prelude.{ℕ, zero, suc, ◌+◌, ◌-◌, ◌*◌, ◌/◌, ◌%◌, ◌==◌, cond, List, [], ◌∷◌, ◌++◌, map, bit_xor, slice_index, slice_index_or}
-use Rattle.std.specs.Int.{bit_at}
+use Rattle.std.specs.Int.{bit_at, w32, to_be_bytes}
 use Rattle.std.specs.List.{range_with_len}
 use Rattle.gf_poly.specs.Poly.{from_bits, multiply, power}
 
@@ -33,6 +33,10 @@ octet b r c = slice_index b (r + 4 * c)
 abbrev pub block : (ℕ → ℕ → ℕ) → List ℕ
 block f = map (λ k. f (k % 4) (k / 4)) (range_with_len 0 16)
 
+-- the block whose columns are words of 32 bits
+abbrev pub square : List ℕ → List ℕ
+square s = block (λ r c. slice_index (to_be_bytes w32 (slice_index s c)) r)
+
 abbrev pub sub_octets : List ℕ → List ℕ
 sub_octets b = block (λ r c. s_box (octet b r c))
 
@@ -48,6 +52,10 @@ abbrev pub mix_word : List ℕ → List ℕ
 mix_word w = map (λ r.
     let m : ℕ → ℕ = λ k. times (slice_index (matrix r) k) (slice_index w k) in
     bit_xor (bit_xor (bit_xor (m 0) (m 1)) (m 2)) (m 3)) (range_with_len 0 4)
+
+-- what octet x in row k of a column adds to it
+abbrev pub contribution : ℕ → ℕ → List ℕ
+contribution k x = map (λ r. times (slice_index (matrix r) k) (s_box x)) (range_with_len 0 4)
 
 abbrev pub column : List ℕ → ℕ → List ℕ
 column b c = map (λ r. octet b r c) (range_with_len 0 4)

@@ -4,7 +4,9 @@
 ghost use Rattle.std.specs.Prelude.{◌≡◌, ℕ, ◌<◌};
 ghost use Rattle.aes_block.specs.Aes.{inverse, times};
 
+mod columns;
 mod octets;
+pub mod plain;
 mod schedule;
 mod tables;
 #[cfg(test)]

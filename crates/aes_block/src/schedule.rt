@@ -1,17 +1,19 @@
-//! The key schedule and the rounds.
+//! The key schedule (FIPS 197, section 5.2) and the cipher (section 5.1).
 
-ghost use Rattle.std.specs.Prelude.{◌≡◌, ℕ, ◌+◌, ◌-◌, ◌*◌, ◌<◌, ◌≤◌, ◌⊎◌, List, [], ◌∷◌, slice_index_or, take, length};
-ghost use Rattle.aes_block.specs.Aes.{add_key, aes, cipher, first_words, key_word, next_word, round_constant, words};
+ghost use Rattle.std.specs.Prelude.{◌≡◌, ℕ, ◌+◌, ◌-◌, ◌*◌, ◌<◌, ◌≤◌, ◌⊎◌, List, [], ◌∷◌, slice_index_or, length, map, take};
+ghost use Rattle.std.specs.Int.{w32, to_be_bytes};
+ghost use Rattle.aes_block.specs.Aes.{aes, cipher, first_words, key_word, next_word, round_constant, words};
 
-use crate::octets::{add_words, mix_columns, rotate_word, sub_and_shift, sub_word};
+use crate::columns::{first, last, round};
+use crate::octets::{add_words, packed, rotate_word, sub_word};
 use crate::tables::ROUND_CONSTANTS;
 
-/// An expanded key.
+/// An expanded key: the words of the schedule of a key of 16 or 32 octets.
 #[derive(Clone, Copy, Drop)]
 pub struct KeySchedule {
     // Words 0, .., 4 rounds + 3, then zeros.
-    words: [[u8; 4]; 60],
-    rounds: usize,
+    pub(crate) words: [u32; 60],
+    pub(crate) rounds: usize,
     ghost some: { 1 ≤ rounds },
     ghost few: { rounds < 15 },
 }
@@ -67,65 +69,54 @@ fn expand(k: &[u8], n: usize, more: usize) -> [[u8; 4]; 60]
     words
 }
 
-fn add_key(words: &[[u8; 4]; 60], i: usize, b: &[u8; 16]) -> [u8; 16]
-    requires { i < 15 }
-    ensures { result ≡ add_key words.now i b.now }
+fn packed_word(w: [u8; 4]) -> u32
+    ensures { to_be_bytes w32 result ≡ w }
 {
-    let p = words[4 * i];
-    let q = words[4 * i + 1];
-    let r = words[4 * i + 2];
-    let s = words[4 * i + 3];
-    [
-        b[0] ^ p[0],
-        b[1] ^ p[1],
-        b[2] ^ p[2],
-        b[3] ^ p[3],
-        b[4] ^ q[0],
-        b[5] ^ q[1],
-        b[6] ^ q[2],
-        b[7] ^ q[3],
-        b[8] ^ r[0],
-        b[9] ^ r[1],
-        b[10] ^ r[2],
-        b[11] ^ r[3],
-        b[12] ^ s[0],
-        b[13] ^ s[1],
-        b[14] ^ s[2],
-        b[15] ^ s[3],
-    ]
+    packed(w[0], w[1], w[2], w[3])
+}
+
+// The numbers of the words.
+fn packed_words(words: &[[u8; 4]; 60]) -> [u32; 60]
+    ensures { map (to_be_bytes w32) result ≡ words.now }
+{
+    let mut numbers = [0u32; 60];
+    'words: for i in 0..60 {
+        numbers[i] = packed_word(words[i]);
+    }
+    numbers
 }
 
 impl KeySchedule {
     ghost use Rattle.aes_block.specs.Schedule.{cipher_of};
 
-    /// The schedule of a key of 16 octets.
+    /// The schedule of a key of 16 octets: 10 rounds.
     pub fn of_128(k: &[u8; 16]) -> KeySchedule
         ensures { cipher_of result ≡ aes 4 k.now }
     {
         KeySchedule {
-            words: expand(k, 4, 40),
+            words: packed_words(&expand(k, 4, 40)),
             rounds: 10,
         }
     }
 
-    /// The schedule of a key of 32 octets.
+    /// The schedule of a key of 32 octets: 14 rounds.
     pub fn of_256(k: &[u8; 32]) -> KeySchedule
         ensures { cipher_of result ≡ aes 8 k.now }
     {
         KeySchedule {
-            words: expand(k, 8, 52),
+            words: packed_words(&expand(k, 8, 52)),
             rounds: 14,
         }
     }
 
-    /// The cipher of a block.
+    /// The cipher of a block (FIPS 197, section 5.1).
     pub fn encrypt(&self, b: &[u8; 16]) -> [u8; 16]
         ensures { result ≡ cipher_of self.now b.now }
     {
-        let mut state = add_key(&self.words, 0, b);
+        let mut state = first(&self.words, b);
         'rounds: for i in 0..self.rounds - 1 {
-            state = add_key(&self.words, i + 1, &mix_columns(&sub_and_shift(&state)));
+            state = round(&self.words, i + 1, &state);
         }
-        add_key(&self.words, self.rounds, &sub_and_shift(&state))
+        last(&self.words, self.rounds, &state)
     }
 }

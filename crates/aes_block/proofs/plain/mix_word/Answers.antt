@@ -1,6 +1,6 @@
 use Rattle.std.proofs.Common.{arith, get_or}
 use Rattle.aes_block.proofs.Computed.{times_one, times_three}
-use Rattle.aes_block.proofs.octets.mix_word.Goals as goal
+use Rattle.aes_block.proofs.plain.mix_word.Goals as goal
 
 pub returns : goal.returns
 returns c =
