@@ -1,0 +1,4 @@
+pub mod Esp
+pub mod Key
+pub mod Laws
+pub mod Open

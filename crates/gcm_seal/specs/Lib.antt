@@ -1,0 +1,3 @@
+pub mod Gcm
+pub mod Laws
+pub mod Table

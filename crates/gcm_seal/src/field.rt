@@ -1,0 +1,157 @@
+//! GF(2^128): bit i of a number is the coefficient of x^i.
+
+ghost use Rattle.std.specs.Prelude.{◌≡◌, ℕ, ◌+◌, ◌*◌, ◌<◌, ◌≤◌, ◌^◌, ◌++◌, List, length, map, slice_index};
+ghost use Rattle.gf_poly.specs.Poly.{multiply, power_sum, times_x};
+ghost use Rattle.gcm_seal.specs.Gcm.{all_blocks, block_of, element, reversed};
+ghost use Rattle.gcm_seal.specs.Table.{IsTable};
+ghost use Rattle.std.specs.Simd.Lanes.{Each1};
+ghost use Rattle.std.specs.List.{range_with_len};
+
+use crate::tables::REVERSED;
+
+fn reversed(octet: u8) -> u8
+    ensures { result ≡ reversed octet }
+{
+    REVERSED[octet as usize]
+}
+
+fn octet_or_zero(octets: &[u8], i: usize) -> u8
+    ensures { result ≡ slice_index octets.now i }
+{
+    if i < octets.len() { octets[i] } else { 0 }
+}
+
+fn reversed_at(octets: &[u8], i: usize) -> u8
+    ensures { result ≡ reversed (slice_index octets.now i) }
+{
+    reversed(octet_or_zero(octets, i))
+}
+
+// The block of the octets from `at` on, filled up with zeros.
+pub(crate) fn element_at(octets: &[u8], at: usize) -> u128
+    requires { at < 2 ^ 32 }
+    ensures { result ≡ element (λ j. slice_index octets.now (at + j)) }
+{
+    let low = reversed_octets(octets, at);
+    let high = reversed_octets(octets, at + 8);
+    u128::from_le_bytes([
+        low[0], low[1], low[2], low[3], low[4], low[5], low[6], low[7], high[0], high[1], high[2],
+        high[3], high[4], high[5], high[6], high[7],
+    ])
+}
+
+fn reversed_octets(octets: &[u8], at: usize) -> [u8; 8]
+    requires { at < 2 ^ 33 }
+    ensures { result ≡ map (λ j. reversed (slice_index octets.now (at + j))) (range_with_len 0 8) }
+{
+    [
+        reversed_at(octets, at),
+        reversed_at(octets, at + 1),
+        reversed_at(octets, at + 2),
+        reversed_at(octets, at + 3),
+        reversed_at(octets, at + 4),
+        reversed_at(octets, at + 5),
+        reversed_at(octets, at + 6),
+        reversed_at(octets, at + 7),
+    ]
+}
+
+pub(crate) fn block_of(p: u128) -> [u8; 16]
+    ensures { result ≡ block_of p }
+{
+    let b = p.to_le_bytes();
+    let low = reversed_octets(&b, 0);
+    let high = reversed_octets(&b, 8);
+    [
+        low[0], low[1], low[2], low[3], low[4], low[5], low[6], low[7], high[0], high[1], high[2],
+        high[3], high[4], high[5], high[6], high[7],
+    ]
+}
+
+// x^127
+const TOP: u128 = 0x8000_0000_0000_0000_0000_0000_0000_0000;
+
+pub(crate) fn times_x(a: u128) -> u128
+    ensures { result ≡ times_x 128 0x87 a }
+{
+    if a < TOP {
+        a * 2
+    } else {
+        ((a - TOP) * 2) ^ 0x87
+    }
+}
+
+// The products of p by the polynomials of four coefficients.
+fn row_of(p: u128) -> [u128; 16]
+    ensures { (k h : ℕ) → h < 2 ^ 128 → k + 4 ≤ 128 → p ≡ multiply 128 0x87 (2 ^ k) h → result ≡ map (λ n. multiply 128 0x87 (n * 2 ^ k) h) (range_with_len 0 16) }
+{
+    let q = times_x(p);
+    let r = times_x(q);
+    let s = times_x(r);
+    let qp = q ^ p;
+    let rp = r ^ p;
+    let rq = r ^ q;
+    let rqp = r ^ qp;
+    [
+        0,
+        p,
+        q,
+        qp,
+        r,
+        rp,
+        rq,
+        rqp,
+        s,
+        s ^ p,
+        s ^ q,
+        s ^ qp,
+        s ^ r,
+        s ^ rp,
+        s ^ rq,
+        s ^ rqp,
+    ]
+}
+
+fn times_x4(p: u128) -> u128
+    ensures { result ≡ times_x 128 0x87 (times_x 128 0x87 (times_x 128 0x87 (times_x 128 0x87 p))) }
+{
+    times_x(times_x(times_x(times_x(p))))
+}
+
+pub(crate) fn table_of(h: u128) -> [u128; 512]
+    ensures { IsTable result h }
+{
+    let mut t = [0u128; 512];
+    let mut p = h;
+    'rows: for i in 0..32 {
+        let row = row_of(p);
+        'entries: for n in 0..16 {
+            t[16 * i + n] = row[n];
+        }
+        p = times_x4(p);
+    }
+    t
+}
+
+fn multiply(t: &[u128; 512], y: u128) -> u128
+    ensures { (h : ℕ) → IsTable t.now h → result ≡ multiply 128 0x87 y h }
+{
+    let mut z = 0;
+    'nibbles: for i in 0..32usize {
+        z ^= t[16 * i + ((y >> (4 * i)) % 16) as usize];
+    }
+    z
+}
+
+// Horner's rule over the blocks of `octets`.
+pub(crate) fn absorb(before: u128, t: &[u128; 512], octets: &[u8]) -> u128
+    requires { length octets.now ≤ 65535 }
+    ensures { (h : ℕ) (zs : List ℕ) → h < 2 ^ 128 → IsTable t.now h → Each1 (λ z. z < 2 ^ 128) zs → before ≡ power_sum 128 0x87 h zs
+        → result ≡ power_sum 128 0x87 h (zs ++ all_blocks octets.now) }
+{
+    let mut y = before;
+    'chunks: for i in 0..(octets.len() + 15) / 16 {
+        y = multiply(t, y ^ element_at(octets, 16 * i));
+    }
+    y
+}
