@@ -27,7 +27,7 @@ use Rattle.ikeless_cli.specs.Run.{Taken, Ran, BrokeOff, Cause, Refuses, is_write
 use Rattle.ikeless_cli.specs.Reader.{Stands, TakesLine, header_kept, lines_of, Reads, Goes, Ends, Breaks, EndsWith, Finishes, SinkTells}
 use Rattle.ikeless_cli.proofs.Bytes.{gains_none, gains_more}
 
-clash : false ≡ true → ⊥
+pub clash : false ≡ true → ⊥
 clash e = cc
 
 AreLines-push : (lines : List (List ℕ)) (line : List ℕ) → AreLines lines → IsLine line → AreLines (lines ++ line ∷ [])
@@ -316,3 +316,7 @@ at-end-after None None end none = tt
 at-end-after None (Some b) end none = absurd none
 at-end-after (Some a) None end none = absurd none
 at-end-after (Some a) (Some b) end none = sym none ∙ end
+
+-- a run never ends for its words
+pub words-never : (status : Status) (left : Option (List ℕ)) (i t : List ℕ) → Ran status left i t → status ≡ statuses.Words → ⊥
+words-never status left i t r e = let P : Status → Type 0 = λ s. Cause s r.header r.lines r.rest left in subst P e r.cause

@@ -1,9 +1,12 @@
 -- The words of a command line.
-use Rattle.std.specs.Prelude.{◌≡◌, ℕ, List, [], ◌∷◌, map, codes}
+use Rattle.std.specs.Prelude.{ℕ, Bool, false, List, [], ◌∷◌, codes}
+use Rattle.std.specs.Str.{bytes_eq}
 use Rattle.std.specs.String.{string_bytes}
 use Rattle.std.specs.declared.string.String.{String}
 use Rattle.std.specs.declared.alloc.Global.{Global}
 
 -- the words are `replay` alone
-abbrev pub IsReplay : List (String Global) → Type 0
-IsReplay words = map string_bytes words ≡ codes "replay" ∷ []
+abbrev pub is_replay : List (String Global) → Bool
+is_replay [] = false
+is_replay (word ∷ []) = bytes_eq (string_bytes word) (codes "replay")
+is_replay (word ∷ next ∷ more) = false

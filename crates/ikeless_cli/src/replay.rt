@@ -5,7 +5,7 @@ ghost use Rattle.ikl_base.specs.declared.status.Status.TheVariants as statuses;
 ghost use Rattle.ikl_base.specs.declared.status.LineFault.TheVariants as faults;
 ghost use Rattle.ikeless_cli.specs.Run.{Ran, BrokeOff, is_read_fault, is_write_fault};
 ghost use Rattle.ikeless_cli.specs.Reader.{taken_of, lines_of, Reads, Goes, Finishes, IsCounted, SinkTells, broke_of};
-ghost use Rattle.ikeless_cli.specs.Words.{IsReplay};
+ghost use Rattle.ikeless_cli.specs.Words.{is_replay};
 
 use crate::reader::{Reader, next_line, take_octet};
 use ikl_base::{Failed, LineFault, Sink, Source, Status};
@@ -73,6 +73,16 @@ fn at_end(reader: &Reader) -> Status
     }
 }
 
+// Whether the words are `replay` alone.
+fn are_replay(words: &[String]) -> bool
+    ensures { result ≡ is_replay words.now }
+{
+    match words {
+        [word] => word.as_bytes() == b"replay".as_slice(),
+        _ => false,
+    }
+}
+
 // Reads a script to its end, and writes its transcript.
 fn run<S: Source, K: Sink>(alloc: Global, input: &mut S, output: &mut K) -> Status
     ensures ran { is_write_fault result ≡ false → (octets text : List ℕ) × Loses (S.left input.old) (S.left input.new) octets
@@ -107,15 +117,31 @@ fn run<S: Source, K: Sink>(alloc: Global, input: &mut S, output: &mut K) -> Stat
 }
 
 /// Runs the script that the input gives, and writes its transcript. The words are `replay` alone.
+///
+/// `Done`: the input was read to its end and every line was taken. `Words`: the words aren't `replay`
+/// alone; nothing is read or written. `Line`: the first line that isn't one of a script. `ReadFault`,
+/// `WriteFault`: a device failed. `TooLong`: the octet after 64 MiB was read. `NoMemory`: memory ran out.
 pub fn run_replay<S: Source, K: Sink>(
     alloc: Global,
     words: &[String],
     input: &mut S,
     output: &mut K,
 ) -> Status
+    // The octets read are a script up to here, and the octets written are the text of what happened, which is safe.
+    ensures ran { is_replay words.now ≡ true → is_write_fault result ≡ false → (octets text : List ℕ) × Loses (S.left input.old) (S.left input.new) octets
+        × Gains (K.written output.old) (K.written output.new) text × Ran result (S.left input.new) octets text }
+    // Where the sink failed, a front of that text is written.
+    ensures broke { is_write_fault result ≡ true → (octets part : List ℕ) × Loses (S.left input.old) (S.left input.new) octets
+        × Gains (K.written output.old) (K.written output.new) part × BrokeOff octets part }
+    ensures words { (result ≡ statuses.Words) ↔ (is_replay words.now ≡ false) }
+    ensures untouched { result ≡ statuses.Words → (input.new ≡ input.old) × (output.new ≡ output.old) }
+    ensures source { is_read_fault result ≡ true → HasRisen (S.faults input.old) (S.faults input.new) }
+    ensures sink { SinkTells (K.faults output.old) (K.faults output.new) (K.last_failed output.old) (K.last_failed output.new) (is_write_fault result) }
+    ensures last { is_replay words.now ≡ true → IfSome (S.last_failed input.new) (λ failed. failed ≡ is_read_fault result) }
 {
-    match words {
-        [word] if word.as_str() == "replay" => run(alloc, input, output),
-        _ => Status::Words,
+    if are_replay(words) {
+        run(alloc, input, output)
+    } else {
+        Status::Words
     }
 }

@@ -14,7 +14,8 @@ use Rattle.ikeless_tree.specs.declared.entry.Selector.{Selector}
 use Rattle.ikeless_tree.specs.declared.entry.SpdEntry.{SpdEntry}
 use Rattle.yang_values.specs.Numbers.{number_of}
 use Rattle.yang_values.specs.Prefixes.{prefix_of}
-use Rattle.script_lines.specs.Words.{◌>>=◌, or_fault}
+use Rattle.script_lines.specs.declared.entry.Use.{Use}
+use Rattle.script_lines.specs.Words.{◌>>=◌, or_fault, each}
 
 abbrev pub is_comma : ℕ → Bool
 is_comma c = c == 44
@@ -53,9 +54,8 @@ range_in _ = Err faults.Entry
 abbrev pub range_of : List ℕ → Result Range LineFault
 range_of w = range_in (slice_split is_dash w)
 
-unfoldable pub ranges_of : List (List ℕ) → Result (List Range) LineFault
-ranges_of [] = Ok []
-ranges_of (w ∷ ws) = range_of w >>= (λ r. ranges_of ws >>= (λ rs. Ok (r ∷ rs)))
+abbrev pub ranges_of : List (List ℕ) → Result (List Range) LineFault
+ranges_of words = each range_of words
 
 -- any port, or 1 to 8 ranges joined by a plus
 unfoldable pub ports_of : List ℕ → Result (List Range) LineFault
@@ -70,17 +70,25 @@ selector_of local remote proto local_ports remote_ports =
   entry_prefix local >>= (λ l. entry_prefix remote >>= (λ r. proto_of proto >>= (λ p. ports_of local_ports >>= (λ lp. ports_of remote_ports >>= (λ rp.
     Ok (record { local = l; remote = r; proto = p; local_ports = lp; remote_ports = rp }))))))
 
--- the entry of nine parts; its window is 64
+-- a direction, the number that names the policy's associations, and an action
+unfoldable pub use_of : List ℕ → List ℕ → List ℕ → Result Use LineFault
+use_of direction reqid action =
+  direction_of direction >>= (λ d. entry_number (2 ^ 64 - 1) reqid >>= (λ n. action_of action >>= (λ a. Ok (record { direction = d; reqid = n; action = a }))))
+
+-- the selector of five parts
+unfoldable pub selector_in : List (List ℕ) → Result Selector LineFault
+selector_in (local ∷ remote ∷ proto ∷ local_ports ∷ remote_ports ∷ []) = selector_of local remote proto local_ports remote_ports
+selector_in _ = Err faults.Entry
+
+-- the entry of nine parts: a name, what it is used for, and a selector; its window is 64
 unfoldable pub entry_in : List (List ℕ) → Result SpdEntry LineFault
-entry_in (name ∷ direction ∷ reqid ∷ action ∷ local ∷ remote ∷ proto ∷ local_ports ∷ remote_ports ∷ []) =
-  direction_of direction >>= (λ d. entry_number (2 ^ 64 - 1) reqid >>= (λ n. action_of action >>= (λ a.
-    selector_of local remote proto local_ports remote_ports >>= (λ s.
-      Ok (record { name = name; direction = d; reqid = n; window = 64; selector = s; action = a })))))
+entry_in (name ∷ direction ∷ reqid ∷ action ∷ selector) =
+  use_of direction reqid action >>= (λ u. selector_in selector >>= (λ s.
+    Ok (record { name = name; direction = u.direction; reqid = u.reqid; window = 64; selector = s; action = u.action })))
 entry_in _ = Err faults.Entry
 
 abbrev pub entry_of : List ℕ → Result SpdEntry LineFault
 entry_of w = entry_in (slice_split is_comma w)
 
-unfoldable pub entries_of : List (List ℕ) → Result (List SpdEntry) LineFault
-entries_of [] = Ok []
-entries_of (w ∷ ws) = entry_of w >>= (λ e. entries_of ws >>= (λ es. Ok (e ∷ es)))
+abbrev pub entries_of : List (List ℕ) → Result (List SpdEntry) LineFault
+entries_of words = each entry_of words

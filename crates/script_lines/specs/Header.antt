@@ -12,7 +12,7 @@ use Rattle.hist_acts.specs.declared.event.Header.{Header}
 use Rattle.hist_acts.specs.Gateways.{is_named}
 use Rattle.yang_values.specs.Numbers.{number_of}
 use Rattle.yang_values.specs.Addresses.{address_of}
-use Rattle.script_lines.specs.Words.{◌>>=◌, or_fault, words, is_printable, is_gateway}
+use Rattle.script_lines.specs.Words.{◌>>=◌, or_fault, each, words, is_printable, is_gateway}
 
 abbrev pub is_equals : ℕ → Bool
 is_equals c = c == 61
@@ -30,9 +30,8 @@ gateway_in _ = Err faults.Header
 abbrev pub peer_of : List ℕ → Result Peer LineFault
 peer_of w = gateway_in (slice_split is_equals w)
 
-unfoldable pub peers_of : List (List ℕ) → Result (List Peer) LineFault
-peers_of [] = Ok []
-peers_of (w ∷ ws) = peer_of w >>= (λ p. peers_of ws >>= (λ ps. Ok (p ∷ ps)))
+abbrev pub peers_of : List (List ℕ) → Result (List Peer) LineFault
+peers_of words = each peer_of words
 
 abbrev pub is_same_address : Addr → Addr → Bool
 is_same_address (V4 a) (V4 b) = bytes_eq a b

@@ -1,5 +1,5 @@
 -- The words of a line (the format of scripts is of this project: docs/FORMATS.md).
-use Rattle.std.specs.Prelude.{ℕ, ◌-◌, ◌^◌, ◌==◌, ◌&&◌, ◌||◌, nat_le, Bool, List, [], ◌∷◌, length, codes, if◌then◌else◌, Option, Some, None, Result, Ok, Err}
+use Rattle.std.specs.Prelude.{ℕ, ◌-◌, ◌^◌, ◌==◌, ◌&&◌, ◌||◌, nat_le, Bool, List, [], ◌∷◌, ◌++◌, length, codes, if◌then◌else◌, Option, Some, None, Result, Ok, Err}
 use Rattle.std.specs.List.{list_all, slice_split}
 use Rattle.std.specs.Str.{bytes_eq}
 use Rattle.ikl_base.specs.declared.status.LineFault.{LineFault}
@@ -44,3 +44,13 @@ gateway_of w = if is_gateway w then Ok w else Err faults.Gateway
 -- octets as hex digits, or a dash for none
 abbrev pub octets_of : List ℕ → Result (List ℕ) LineFault
 octets_of w = if bytes_eq w (codes "-") then Ok [] else or_fault faults.Hex (digits_of w)
+
+-- what was read before, and what is read of the rest
+abbrev pub onto : {A : Type 0} → List A → Result (List A) LineFault → Result (List A) LineFault
+onto front (Ok rest) = Ok (front ++ rest)
+onto front (Err e) = Err e
+
+-- each word read, or the reason of the first that can't be
+abbrev pub each : {A : Type 0} → (List ℕ → Result A LineFault) → List (List ℕ) → Result (List A) LineFault
+each f [] = Ok []
+each f (w ∷ ws) = f w >>= (λ x. each f ws >>= (λ xs. Ok (x ∷ xs)))

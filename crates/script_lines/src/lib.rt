@@ -1,9 +1,13 @@
 //! The lines of scripts and transcripts: events and acts as text, each act in one spelling.
 #![tactic(auto)]
 
-mod read;
+mod entry;
+mod event;
+mod header;
+mod parts;
 mod write;
 
+pub use event::read_event;
 pub use hist_acts::{Act, Acts, Event, Header};
-pub use read::{read_event, read_header};
+pub use header::read_header;
 pub use write::put_acts;

@@ -1,13 +1,230 @@
 // Writes the lines of a transcript.
-ghost use Rattle.std.specs.Prelude.{◌≡◌, ◌++◌, OnOk};
-ghost use Rattle.script_lines.specs.Text.{text_of};
+ghost use Rattle.std.specs.Prelude.{◌≡◌, ◌++◌, ◌∷◌, [], OnOk, List, ℕ, codes};
+ghost use Rattle.std.specs.List.{flat_map};
+ghost use Rattle.script_lines.specs.Text.{hex_text, why_text, direction_text, action_text, proto_text, range_text, more_ranges_text, ports_text, prefixes_text, both_ports_text, selector_text, name_text, use_text, entry_text, entries_text, act_text, line_of, text_of};
 
-use hist_acts::Acts;
-use ikl_base::NoMemory;
+use hist_acts::{Act, Acts};
+use ikeless_tree::{Action, Direction, DropWhy, Entries, Ports, Range, Selector, SpdEntry};
+use ikl_base::{Name, NoMemory, Octets};
+use yang_values::{put_digits, put_number, put_prefix};
+
+fn put(out: &mut Vec<u8>, text: &[u8]) -> Result<(), NoMemory>
+    ensures { OnOk result (out.new.items ≡ out.old.items ++ text.now) }
+{
+    Ok(out.extend_from_slice(text)?)
+}
+
+fn put_octet(out: &mut Vec<u8>, octet: u8) -> Result<(), NoMemory>
+    ensures { OnOk result (out.new.items ≡ out.old.items ++ octet ∷ []) }
+{
+    Ok(out.push(octet)?)
+}
+
+fn put_hex(out: &mut Vec<u8>, octets: &[u8]) -> Result<(), NoMemory>
+    ensures { OnOk result (out.new.items ≡ out.old.items ++ hex_text octets.now) }
+{
+    match octets {
+        [] => put(out, b"-"),
+        [_, ..] => put_digits(out, octets),
+    }
+}
+
+fn put_why(out: &mut Vec<u8>, why: DropWhy) -> Result<(), NoMemory>
+    ensures { OnOk result (out.new.items ≡ out.old.items ++ why_text why) }
+{
+    match why {
+        DropWhy::Malformed => put(out, b"malformed"),
+        DropWhy::Fragment => put(out, b"fragment"),
+        DropWhy::TooLong => put(out, b"too-long"),
+        DropWhy::NoPolicy => put(out, b"no-policy"),
+        DropWhy::Discard => put(out, b"discard"),
+        DropWhy::ClearRefused => put(out, b"clear-refused"),
+        DropWhy::NoSa => put(out, b"no-sa"),
+        DropWhy::SeqLimit => put(out, b"seq-limit"),
+        DropWhy::Short => put(out, b"short"),
+        DropWhy::BadSpi => put(out, b"bad-spi"),
+        DropWhy::Zero => put(out, b"zero"),
+        DropWhy::Old => put(out, b"old"),
+        DropWhy::Seen => put(out, b"seen"),
+        DropWhy::Auth => put(out, b"auth"),
+        DropWhy::Padding => put(out, b"padding"),
+        DropWhy::Dummy => put(out, b"dummy"),
+        DropWhy::Inner => put(out, b"inner"),
+        DropWhy::Selector => put(out, b"selector"),
+    }
+}
+
+fn put_direction(out: &mut Vec<u8>, direction: Direction) -> Result<(), NoMemory>
+    ensures { OnOk result (out.new.items ≡ out.old.items ++ direction_text direction) }
+{
+    match direction {
+        Direction::In => put(out, b"in"),
+        Direction::Out => put(out, b"out"),
+    }
+}
+
+fn put_action(out: &mut Vec<u8>, action: Action) -> Result<(), NoMemory>
+    ensures { OnOk result (out.new.items ≡ out.old.items ++ action_text action) }
+{
+    match action {
+        Action::Protect => put(out, b"protect"),
+        Action::Bypass => put(out, b"bypass"),
+        Action::Discard => put(out, b"discard"),
+    }
+}
+
+fn put_proto(out: &mut Vec<u8>, proto: Option<u8>) -> Result<(), NoMemory>
+    ensures { OnOk result (out.new.items ≡ out.old.items ++ proto_text proto) }
+{
+    match proto {
+        None => put(out, b"any"),
+        Some(n) => put_number(out, u64::from(n)),
+    }
+}
+
+fn put_range(out: &mut Vec<u8>, range: &Range) -> Result<(), NoMemory>
+    ensures { OnOk result (out.new.items ≡ out.old.items ++ range_text range.now) }
+{
+    put_number(out, u64::from(range.start))?;
+    put_octet(out, b'-')?;
+    put_number(out, u64::from(range.end))
+}
+
+fn put_more_ranges(out: &mut Vec<u8>, ranges: &[Range]) -> Result<(), NoMemory>
+    ensures { OnOk result (out.new.items ≡ out.old.items ++ more_ranges_text ranges.now) }
+{
+    for range in ranges {
+        put_octet(out, b'+')?;
+        put_range(out, range)?;
+    }
+    Ok(())
+}
+
+fn put_ports(out: &mut Vec<u8>, ports: &Ports) -> Result<(), NoMemory>
+    ensures { OnOk result (out.new.items ≡ out.old.items ++ ports_text ports.now) }
+{
+    match ports.as_slice() {
+        [] => put(out, b"any"),
+        [first, more @ ..] => {
+            put_range(out, first)?;
+            put_more_ranges(out, more)
+        }
+    }
+}
+
+fn put_prefixes(out: &mut Vec<u8>, selector: &Selector) -> Result<(), NoMemory>
+    ensures { OnOk result (out.new.items ≡ out.old.items ++ prefixes_text selector.now) }
+{
+    put_prefix(out, &selector.local)?;
+    put_octet(out, b',')?;
+    put_prefix(out, &selector.remote)
+}
+
+fn put_both_ports(out: &mut Vec<u8>, selector: &Selector) -> Result<(), NoMemory>
+    ensures { OnOk result (out.new.items ≡ out.old.items ++ both_ports_text selector.now) }
+{
+    put_ports(out, &selector.local_ports)?;
+    put_octet(out, b',')?;
+    put_ports(out, &selector.remote_ports)
+}
+
+#[tactic(auto, unfolding(crate::specs::Text::selector_text))]
+fn put_selector(out: &mut Vec<u8>, selector: &Selector) -> Result<(), NoMemory>
+    ensures { OnOk result (out.new.items ≡ out.old.items ++ selector_text selector.now) }
+{
+    put_prefixes(out, selector)?;
+    put_octet(out, b',')?;
+    put_proto(out, selector.proto)?;
+    put_octet(out, b',')?;
+    put_both_ports(out, selector)
+}
+
+fn put_name(out: &mut Vec<u8>, entry: &SpdEntry) -> Result<(), NoMemory>
+    ensures { OnOk result (out.new.items ≡ out.old.items ++ name_text entry.now) }
+{
+    put(out, entry.name.as_slice())?;
+    put_octet(out, b',')?;
+    put_direction(out, entry.direction)
+}
+
+fn put_use(out: &mut Vec<u8>, entry: &SpdEntry) -> Result<(), NoMemory>
+    ensures { OnOk result (out.new.items ≡ out.old.items ++ use_text entry.now) }
+{
+    put_number(out, entry.reqid)?;
+    put_octet(out, b',')?;
+    put_action(out, entry.action)
+}
+
+#[tactic(auto, unfolding(crate::specs::Text::entry_text))]
+fn put_entry(out: &mut Vec<u8>, entry: &SpdEntry) -> Result<(), NoMemory>
+    ensures { OnOk result (out.new.items ≡ out.old.items ++ entry_text entry.now) }
+{
+    put_name(out, entry)?;
+    put_octet(out, b',')?;
+    put_use(out, entry)?;
+    put_octet(out, b',')?;
+    put_selector(out, &entry.selector)
+}
+
+fn put_entries(out: &mut Vec<u8>, list: &[SpdEntry]) -> Result<(), NoMemory>
+    ensures { OnOk result (out.new.items ≡ out.old.items ++ entries_text list.now) }
+{
+    for entry in list {
+        put_octet(out, b' ')?;
+        put_entry(out, entry)?;
+    }
+    Ok(())
+}
+
+fn put_policy(out: &mut Vec<u8>, g: &Name, list: &Entries) -> Result<(), NoMemory>
+    ensures { OnOk result (out.new.items ≡ out.old.items ++ (codes "policy " ++ (g.now ++ entries_text list.now))) }
+{
+    put(out, b"policy ")?;
+    put(out, g.as_slice())?;
+    put_entries(out, list.as_slice())
+}
+
+fn put_packet(out: &mut Vec<u8>, what: &[u8], g: &Name, o: &Octets) -> Result<(), NoMemory>
+    ensures { OnOk result (out.new.items ≡ out.old.items ++ (what.now ++ (g.now ++ 32 ∷ hex_text o.now))) }
+{
+    put(out, what)?;
+    put(out, g.as_slice())?;
+    put_octet(out, b' ')?;
+    put_hex(out, o.as_slice())
+}
+
+fn put_drop(out: &mut Vec<u8>, g: &Name, why: DropWhy) -> Result<(), NoMemory>
+    ensures { OnOk result (out.new.items ≡ out.old.items ++ (codes "drop " ++ (g.now ++ 32 ∷ why_text why))) }
+{
+    put(out, b"drop ")?;
+    put(out, g.as_slice())?;
+    put_octet(out, b' ')?;
+    put_why(out, why)
+}
+
+#[tactic(auto, unfolding(crate::specs::Text::act_text))]
+fn put_act(out: &mut Vec<u8>, act: &Act) -> Result<(), NoMemory>
+    ensures { OnOk result (out.new.items ≡ out.old.items ++ act_text act.now) }
+{
+    match act {
+        Act::Took(k) => {
+            put(out, b"@ ")?;
+            put_number(out, *k)
+        }
+        Act::Policy(g, list) => put_policy(out, g, list),
+        Act::Let(g, o) => put_packet(out, b"let ", g, o),
+        Act::Clear(g, o) => put_packet(out, b"clear ", g, o),
+        Act::Drop(g, why) => put_drop(out, g, *why),
+    }
+}
 
 /// Adds a line for each act, each with its LF.
-pub fn put_acts(_out: &mut Vec<u8>, _acts: &Acts) -> Result<(), NoMemory>
-    ensures { OnOk result (_out.new.items ≡ _out.old.items ++ text_of _acts.now) }
+pub fn put_acts(out: &mut Vec<u8>, acts: &Acts) -> Result<(), NoMemory>
+    ensures { OnOk result (out.new.items ≡ out.old.items ++ text_of acts.now) }
 {
-    Err(NoMemory)
+    for act in acts.as_slice() {
+        put_act(out, act)?;
+        put_octet(out, b'\n')?;
+    }
+    Ok(())
 }

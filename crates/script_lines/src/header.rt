@@ -1,0 +1,183 @@
+// Reads the first line of a script.
+ghost use Rattle.std.specs.Prelude.{◌≡◌, ◌-◌, ◌^◌, List, ℕ};
+ghost use Rattle.std.specs.List.{list_all};
+ghost use Rattle.ikl_base.specs.Answers.{Gives};
+ghost use Rattle.ikeless_tree.specs.Check.{is_one_family};
+ghost use Rattle.script_lines.specs.Parts.{texts};
+ghost use Rattle.script_lines.specs.Words.{is_printable, is_gateway_octet, is_gateway};
+ghost use Rattle.script_lines.specs.Header.{seq_last_of, gateway_in, peer_of, peers_of, is_same_address, go_together, all_go_together, gateways_of, header_in, header_of};
+
+use crate::parts::{is_word, parts};
+use hist_acts::Header;
+use ikeless_tree::{Peer, Peers};
+use ikl_base::{Addr, LineFault, ListOf, Name, OrMemory};
+use std::alloc::Global;
+use yang_values::{read_address, read_number};
+
+const MOST_GATEWAYS: usize = 16;
+
+fn is_name_octet(octet: u8) -> bool
+    ensures { result ≡ is_gateway_octet octet }
+{
+    octet.is_ascii_lowercase() || octet.is_ascii_digit()
+}
+
+fn are_name_octets(text: &[u8]) -> bool
+    ensures { result ≡ list_all is_gateway_octet text.now }
+{
+    text.iter().all(|octet| is_name_octet(*octet))
+}
+
+/// Whether a word is the name of a gateway: 1 to 32 lower case letters and digits.
+pub fn names_gateway(word: &[u8]) -> bool
+    ensures { result ≡ is_gateway word.now }
+{
+    1 <= word.len() && word.len() <= 32 && are_name_octets(word)
+}
+
+fn is_text(octet: u8) -> bool
+    ensures { result ≡ is_printable octet }
+{
+    32 <= octet && octet <= 126
+}
+
+/// Whether a line has only octets that a line may have.
+pub fn are_text(line: &[u8]) -> bool
+    ensures { result ≡ list_all is_printable line.now }
+{
+    line.iter().all(|octet| is_text(*octet))
+}
+
+#[tactic(auto, unfolding(crate::specs::Header::seq_last_of))]
+fn seq_last(word: &[u8]) -> Result<u64, LineFault>
+    ensures { result ≡ seq_last_of word.now }
+{
+    match read_number(word, 4_294_967_295) {
+        Ok(n) if n >= 1 => Ok(n),
+        _ => Err(LineFault::Header),
+    }
+}
+
+#[tactic(auto, unfolding(crate::specs::Header::gateway_in))]
+fn peer(alloc: Global, word: &[u8]) -> Result<Peer, OrMemory<LineFault>>
+    ensures { Gives result (peer_of word.now) }
+{
+    match parts(alloc, word, b'=')?.as_slice() {
+        [name, address] => {
+            if !names_gateway(name) {
+                return Err(OrMemory::Refused(LineFault::Header));
+            }
+            match read_address(address) {
+                Ok(address) => Ok(Peer {
+                    name: Name::from_slice(alloc, name)?,
+                    address,
+                }),
+                Err(_) => Err(OrMemory::Refused(LineFault::Header)),
+            }
+        }
+        _ => Err(OrMemory::Refused(LineFault::Header)),
+    }
+}
+
+fn peers(alloc: Global, words: &[&[u8]]) -> Result<Peers, OrMemory<LineFault>>
+    ensures { Gives result (peers_of (texts words.now)) }
+{
+    let mut list = ListOf::new(alloc);
+    for word in words {
+        match peer(alloc, word) {
+            Ok(peer) => list.push(peer)?,
+            Err(refused) => return Err(refused),
+        }
+    }
+    Ok(list)
+}
+
+fn is_same(a: &Addr, b: &Addr) -> bool
+    ensures { result ≡ is_same_address a.now b.now }
+{
+    match a {
+        Addr::V4(x) => match b {
+            Addr::V4(y) => x.as_slice() == y.as_slice(),
+            Addr::V6(_) => false,
+        },
+        Addr::V6(x) => match b {
+            Addr::V4(_) => false,
+            Addr::V6(y) => x.as_slice() == y.as_slice(),
+        },
+    }
+}
+
+fn is_family(a: &Addr, b: &Addr) -> bool
+    ensures { result ≡ is_one_family a.now b.now }
+{
+    match a {
+        Addr::V4(_) => matches!(b, Addr::V4(_)),
+        Addr::V6(_) => matches!(b, Addr::V6(_)),
+    }
+}
+
+fn fit(p: &Peer, q: &Peer) -> bool
+    ensures { result ≡ go_together p.now q.now }
+{
+    p.name.as_slice() != q.name.as_slice()
+        && !is_same(&p.address, &q.address)
+        && is_family(&p.address, &q.address)
+}
+
+fn fits_all(p: &Peer, others: &[Peer]) -> bool
+    ensures { result ≡ list_all (go_together p.now) others.now }
+{
+    others.iter().all(|q| fit(p, q))
+}
+
+fn all_fit(peers: &[Peer]) -> bool
+    ensures { result ≡ all_go_together peers.now }
+{
+    match peers {
+        [] => true,
+        [first, others @ ..] => fits_all(first, others) && all_fit(others),
+    }
+}
+
+#[tactic(auto, unfolding(crate::specs::Header::gateways_of))]
+fn gateways(alloc: Global, words: &[&[u8]]) -> Result<Peers, OrMemory<LineFault>>
+    ensures { Gives result (gateways_of (texts words.now)) }
+{
+    if words.is_empty() || words.len() > MOST_GATEWAYS {
+        return Err(OrMemory::Refused(LineFault::Header));
+    }
+    let list = peers(alloc, words)?;
+    if all_fit(list.as_slice()) {
+        Ok(list)
+    } else {
+        Err(OrMemory::Refused(LineFault::Header))
+    }
+}
+
+#[tactic(auto, unfolding(crate::specs::Header::header_in))]
+fn header(alloc: Global, words: &[&[u8]]) -> Result<Header, OrMemory<LineFault>>
+    ensures { Gives result (header_in (texts words.now)) }
+{
+    match words {
+        [world, last, number, names @ ..] => {
+            if !is_word(world, b"world") || !is_word(last, b"seq-last") {
+                return Err(OrMemory::Refused(LineFault::Header));
+            }
+            let seq_last = seq_last(number)?;
+            let gateways = gateways(alloc, names)?;
+            Ok(Header { seq_last, gateways })
+        }
+        _ => Err(OrMemory::Refused(LineFault::Header)),
+    }
+}
+
+/// The header that the first line is, without its LF, or the reason why it is none.
+#[tactic(auto, unfolding(crate::specs::Header::header_of))]
+pub fn read_header(alloc: Global, line: &[u8]) -> Result<Header, OrMemory<LineFault>>
+    ensures { Gives result (header_of line.now) }
+{
+    if !are_text(line) {
+        return Err(OrMemory::Refused(LineFault::Octet));
+    }
+    header(alloc, parts(alloc, line, b' ')?.as_slice())
+}
