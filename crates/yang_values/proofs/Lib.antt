@@ -9,3 +9,5 @@ pub mod JoinedText
 pub mod ValueText
 pub mod QuadText
 pub mod GroupText
+pub mod PrefixText
+pub mod AddressText

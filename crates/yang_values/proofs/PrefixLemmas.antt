@@ -33,7 +33,7 @@ unfolding made
 same_prefix p q e f = same_made p.addr p.len p.in_range p.cleared q.addr e q.len f q.in_range q.cleared
 
 -- a number and its place among those that fit
-where_ok : (a : Addr) (m n : ℕ) (p : Prefix) (s : (bits_of a < m) ⊎ (m ≤ bits_of a)) → n ≡ m → n ≤ bits_of a → p.len ≡ n
+pub where_ok : (a : Addr) (m n : ℕ) (p : Prefix) (s : (bits_of a < m) ⊎ (m ≤ bits_of a)) → n ≡ m → n ≤ bits_of a → p.len ≡ n
     → p.addr ≡ address_cleared n a → Ok p ≡ prefix_where a m s
 unfolding prefix_made
 where_ok a m n p (inl above) e fits len addr = absurd (omega arith)

@@ -22,7 +22,7 @@ is_quad_octet c = is_ascii_digit c || is_dot c
 digits_only : (n : ℕ) → n < 256 → list_all is_ascii_digit (decimal n) ≡ true
 digits_only n small = digits_decimal decimal_model n (omega arith)
 
-also : (q r : ℕ → Bool) → ((c : ℕ) → q c ≡ true → r c ≡ true) → (t : List ℕ) → list_all q t ≡ true → list_all r t ≡ true
+pub also : (q r : ℕ → Bool) → ((c : ℕ) → q c ≡ true → r c ≡ true) → (t : List ℕ) → list_all q t ≡ true → list_all r t ≡ true
 also q r f [] all = refl
 also q r f (c ∷ cs) all = let parts = and_parts (q c) (list_all q cs) all in and_from _ _ (f c parts.0) (also q r f cs parts.1)
 
