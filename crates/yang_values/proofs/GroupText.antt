@@ -1,16 +1,14 @@
 -- The canonical text of an IPv6 address is read again.
-use Rattle.std.proofs.Common.{◌≡◌, ℕ, zero, suc, ◌+◌, ◌-◌, ◌*◌, ◌/◌, ◌%◌, ◌<◌, ◌≤◌, ◌==◌, ◌||◌, ◌&&◌, nat_lt, nat_le, cond, Bool, true, false, List, [], ◌∷◌, ◌++◌, length, take, drop, replicate, map, max, Option, Some, None, Ok, inl, inr, ◌⊎◌, refl, sym, ap, ◌∙◌, arith, subst, append_assoc, append-nil, length-append, ltb-false}
+use Rattle.std.proofs.Common.{◌≡◌, ℕ, zero, suc, ◌+◌, ◌-◌, ◌*◌, ◌/◌, ◌%◌, ◌<◌, ◌≤◌, ◌==◌, nat_lt, Bool, true, false, List, [], ◌∷◌, ◌++◌, length, take, drop, replicate, Option, Some, None, Ok, inl, inr, ◌⊎◌, refl, sym, ap, ◌∙◌, arith, append_assoc, append-nil, length-append, ltb-false}
 use Rattle.std.specs.Option.{option_map}
-use Rattle.std.specs.List.{All, AllByRecursion, list_all, list_any, slice_split, join_with_byte, flat_map}
+use Rattle.std.specs.List.{All, AllByRecursion, list_all, list_any, flat_map}
 use Rattle.std.specs.Char.{is_ascii_hexdigit}
-use Rattle.std.proofs.lemmas.Bool.{and_parts, le-leb, lt-leb, lt-ltb, eq-eqb, eqb-true, cases_lt, or_left, or_right}
+use Rattle.std.proofs.lemmas.Bool.{and_parts, le-leb, lt-leb, lt-ltb, eq-eqb, eqb-true, cases_lt, or_right}
 use Rattle.std.proofs.lemmas.List.Folds.{list_any-append}
 use Rattle.std.proofs.lemmas.List.{take_at, drop_at, length-take-le, length-drop, drop-drop, take-append-drop}
-use Rattle.ikl_base.specs.declared.address.Addr.{Addr}
 use Rattle.ikl_base.specs.declared.address.Addr.TheVariants.{V6}
-use Rattle.yang_values.specs.Parts.{each}
 use Rattle.yang_values.specs.HexText.{is_colon}
-use Rattle.yang_values.specs.Addresses.{groups_of, octets_of, group_of, group_text, joined, groups_in, double_colon, begins_with_colon, zeros_at_front, longest_run, first_run, shortened, groups_text, filled, eight, eight_between, eight_from, address_of, v6_of}
+use Rattle.yang_values.specs.Addresses.{groups_of, octets_of, group_of, group_text, joined, groups_in, double_colon, begins_with_colon, zeros_at_front, longest_run, first_run, groups_text, filled, eight_from, address_of}
 use Rattle.yang_values.proofs.EachLemmas.{joined_is}
 use Rattle.yang_values.proofs.JoinedText.{lacks_mark, each_also, split_texts, each_read, some_joined}
 use Rattle.yang_values.proofs.ValueText.{apart, group_digits, some_group, group_of-text}
@@ -64,9 +62,9 @@ groups_again : (groups : List ℕ) → AllByRecursion (λ g. g < 65536) groups �
 groups_again [] small = refl
 groups_again (x ∷ xs) small =
     let split = split_texts is_colon 58 group_text refl x xs
-      (each_also (λ g. g < 65536) (λ g. All (λ c. is_colon c ≡ false) (group_text g)) no_colon (x ∷ xs) small) in
+    (each_also (λ g. g < 65536) (λ g. All (λ c. is_colon c ≡ false) (group_text g)) no_colon (x ∷ xs) small) in
     let read = each_read group_of group_text (x ∷ xs)
-      (each_also (λ g. g < 65536) (λ g. group_of (group_text g) ≡ Some g) group_of-text (x ∷ xs) small) in
+    (each_also (λ g. g < 65536) (λ g. group_of (group_text g) ≡ Some g) group_of-text (x ∷ xs) small) in
     rw (some_joined 58 group_text x xs (some_group x small.0), split, read) refl
 
 -- ---- where `::` is
@@ -118,8 +116,8 @@ double_joined (x ∷ y ∷ ys) s small =
     ap double_colon (append_assoc (group_text x) (58 ∷ rest) s)
     ∙ double_plain (group_text x) (58 ∷ (rest ++ s)) (group_digits x small.0)
     ∙ ap (shift (length (group_text x))) (double_behind (rest ++ s) (begins_joined y ys s small.1.0)
-      ∙ ap (shift 1) (double_joined (y ∷ ys) s small.1)
-      ∙ shift_shift 1 (length rest) (1 + length rest) (double_colon s) refl)
+    ∙ ap (shift 1) (double_joined (y ∷ ys) s small.1)
+    ∙ shift_shift 1 (length rest) (1 + length rest) (double_colon s) refl)
     ∙ shift_shift (length (group_text x)) (1 + length rest) (length (joined (x ∷ y ∷ ys))) (double_colon s) size
 
 -- ---- without `::`
@@ -157,51 +155,51 @@ zeros_take zero gs h = refl
 zeros_take (suc n) [] h = absurd (omega arith)
 zeros_take (suc n) (g ∷ gs) h = by_test (g == 0) refl (zeros_take n gs)
   where
-  by_test : (b : Bool) → (g == 0) ≡ b → (n ≤ zeros_at_front gs → take n gs ≡ replicate n 0) → take (suc n) (g ∷ gs) ≡ replicate (suc n) 0
-  by_test true e ih =
-      let front : zeros_at_front (g ∷ gs) ≡ 1 + zeros_at_front gs = rw e refl in
-      rw (eqb-true g 0 e, ih (omega (arith, h, front))) refl
-  by_test false e ih =
-      let front : zeros_at_front (g ∷ gs) ≡ 0 = rw e refl in
-      absurd (omega (arith, h, front))
+    by_test : (b : Bool) → (g == 0) ≡ b → (n ≤ zeros_at_front gs → take n gs ≡ replicate n 0) → take (suc n) (g ∷ gs) ≡ replicate (suc n) 0
+    by_test true e ih =
+        let front : zeros_at_front (g ∷ gs) ≡ 1 + zeros_at_front gs = rw e refl in
+        rw (eqb-true g 0 e, ih (omega (arith, h, front))) refl
+    by_test false e ih =
+        let front : zeros_at_front (g ∷ gs) ≡ 0 = rw e refl in
+        absurd (omega (arith, h, front))
 
 zeros_within : (gs : List ℕ) → zeros_at_front gs ≤ length gs
 zeros_within [] = omega arith
 zeros_within (g ∷ gs) = by_test (g == 0) refl (zeros_within gs)
   where
-  by_test : (b : Bool) → (g == 0) ≡ b → zeros_at_front gs ≤ length gs → zeros_at_front (g ∷ gs) ≤ length (g ∷ gs)
-  by_test true e ih = rw e (omega (arith, ih))
-  by_test false e ih = rw e (omega arith)
+    by_test : (b : Bool) → (g == 0) ≡ b → zeros_at_front gs ≤ length gs → zeros_at_front (g ∷ gs) ≤ length (g ∷ gs)
+    by_test true e ih = rw e (omega (arith, ih))
+    by_test false e ih = rw e (omega arith)
 
 run_zeros : (n : ℕ) (gs : List ℕ) → 1 ≤ n → n ≤ longest_run gs → take n (drop (first_run n gs) gs) ≡ replicate n 0
 unfolding longest_run first_run
 run_zeros n [] some fits = absurd (omega arith)
 run_zeros n (g ∷ gs) some fits = by_place (cases_lt (zeros_at_front (g ∷ gs)) n) (run_zeros n gs some)
   where
-  by_place : (zeros_at_front (g ∷ gs) < n) ⊎ (n ≤ zeros_at_front (g ∷ gs)) → (n ≤ longest_run gs → take n (drop (first_run n gs) gs) ≡ replicate n 0)
-      → take n (drop (first_run n (g ∷ gs)) (g ∷ gs)) ≡ replicate n 0
-  by_place (inr here) ih =
-      let e : first_run n (g ∷ gs) ≡ 0 = rw (le-leb n (zeros_at_front (g ∷ gs)) here) refl in
-      rw e (zeros_take n (g ∷ gs) here)
-  by_place (inl later) ih =
-      let e : first_run n (g ∷ gs) ≡ suc (first_run n gs) = rw (lt-leb n (zeros_at_front (g ∷ gs)) later) (omega arith) in
-      rw e (ih (omega (arith, fits, later)))
+    by_place : (zeros_at_front (g ∷ gs) < n) ⊎ (n ≤ zeros_at_front (g ∷ gs)) → (n ≤ longest_run gs → take n (drop (first_run n gs) gs) ≡ replicate n 0)
+        → take n (drop (first_run n (g ∷ gs)) (g ∷ gs)) ≡ replicate n 0
+    by_place (inr here) ih =
+        let e : first_run n (g ∷ gs) ≡ 0 = rw (le-leb n (zeros_at_front (g ∷ gs)) here) refl in
+        rw e (zeros_take n (g ∷ gs) here)
+    by_place (inl later) ih =
+        let e : first_run n (g ∷ gs) ≡ suc (first_run n gs) = rw (lt-leb n (zeros_at_front (g ∷ gs)) later) (omega arith) in
+        rw e (ih (omega (arith, fits, later)))
 
 run_within : (n : ℕ) (gs : List ℕ) → 1 ≤ n → n ≤ longest_run gs → first_run n gs + n ≤ length gs
 unfolding longest_run first_run
 run_within n [] some fits = absurd (omega arith)
 run_within n (g ∷ gs) some fits = by_place (cases_lt (zeros_at_front (g ∷ gs)) n) (run_within n gs some)
   where
-  by_place : (zeros_at_front (g ∷ gs) < n) ⊎ (n ≤ zeros_at_front (g ∷ gs)) → (n ≤ longest_run gs → first_run n gs + n ≤ length gs)
-      → first_run n (g ∷ gs) + n ≤ length (g ∷ gs)
-  by_place (inr here) ih =
-      let e : first_run n (g ∷ gs) ≡ 0 = rw (le-leb n (zeros_at_front (g ∷ gs)) here) refl in
-      let within = zeros_within (g ∷ gs) in
-      omega (arith, e, here, within)
-  by_place (inl later) ih =
-      let e : first_run n (g ∷ gs) ≡ first_run n gs + 1 = rw (lt-leb n (zeros_at_front (g ∷ gs)) later) refl in
-      let rest = ih (omega (arith, fits, later)) in
-      omega (arith, e, rest)
+    by_place : (zeros_at_front (g ∷ gs) < n) ⊎ (n ≤ zeros_at_front (g ∷ gs)) → (n ≤ longest_run gs → first_run n gs + n ≤ length gs)
+        → first_run n (g ∷ gs) + n ≤ length (g ∷ gs)
+    by_place (inr here) ih =
+        let e : first_run n (g ∷ gs) ≡ 0 = rw (le-leb n (zeros_at_front (g ∷ gs)) here) refl in
+        let within = zeros_within (g ∷ gs) in
+        omega (arith, e, here, within)
+    by_place (inl later) ih =
+        let e : first_run n (g ∷ gs) ≡ first_run n gs + 1 = rw (lt-leb n (zeros_at_front (g ∷ gs)) later) refl in
+        let rest = ih (omega (arith, fits, later)) in
+        omega (arith, e, rest)
 
 -- the groups, with the run of zeros in its place
 pub filled_again : (gs : List ℕ) (k n : ℕ) → length gs ≡ 8 → 1 ≤ n → k + n ≤ 8 → take n (drop k gs) ≡ replicate n 0
@@ -224,19 +222,19 @@ groups_text_again : (gs : List ℕ) → length gs ≡ 8 → AllByRecursion (λ g
 unfolding groups_text
 groups_text_again gs size small = by_length (nat_lt (longest_run gs) 2) refl
   where
-  by_length : (b : Bool) → nat_lt (longest_run gs) 2 ≡ b → eight_from (groups_text gs) (double_colon (groups_text gs)) ≡ Some gs
-  by_length true short =
-      let e : groups_text gs ≡ joined gs = rw short refl in
-      rw e (whole_again gs size small)
-  by_length false long =
-      let n : ℕ = longest_run gs in
-      let k : ℕ = first_run n gs in
-      let e : groups_text gs ≡ joined (take k gs) ++ 58 ∷ 58 ∷ joined (drop (k + n) gs) = rw long refl in
-      let some : 2 ≤ n = ltb-false n 2 long in
-      let within = run_within n gs (omega arith) (omega arith) in
-      rw e
-      (halves_again (take k gs) (drop (k + n) gs) (all_take (λ g. g < 65536) k gs small) (all_drop (λ g. g < 65536) (k + n) gs small)
-      ∙ filled_again gs k n size (omega arith) (omega (arith, within, size)) (run_zeros n gs (omega arith) (omega arith)))
+    by_length : (b : Bool) → nat_lt (longest_run gs) 2 ≡ b → eight_from (groups_text gs) (double_colon (groups_text gs)) ≡ Some gs
+    by_length true short =
+        let e : groups_text gs ≡ joined gs = rw short refl in
+        rw e (whole_again gs size small)
+    by_length false long =
+        let n : ℕ = longest_run gs in
+        let k : ℕ = first_run n gs in
+        let e : groups_text gs ≡ joined (take k gs) ++ 58 ∷ 58 ∷ joined (drop (k + n) gs) = rw long refl in
+        let some : 2 ≤ n = ltb-false n 2 long in
+        let within = run_within n gs (omega arith) (omega arith) in
+        rw e
+        (halves_again (take k gs) (drop (k + n) gs) (all_take (λ g. g < 65536) k gs small) (all_drop (λ g. g < 65536) (k + n) gs small)
+        ∙ filled_again gs k n size (omega arith) (omega (arith, within, size)) (run_zeros n gs (omega arith) (omega arith)))
 
 -- a colon stands between two groups
 colon_between : (gs : List ℕ) → 2 ≤ length gs → list_any is_colon (joined gs) ≡ true
@@ -249,15 +247,15 @@ has_colon : (gs : List ℕ) → length gs ≡ 8 → list_any is_colon (groups_te
 unfolding groups_text
 has_colon gs size = by_length (nat_lt (longest_run gs) 2) refl
   where
-  by_length : (b : Bool) → nat_lt (longest_run gs) 2 ≡ b → list_any is_colon (groups_text gs) ≡ true
-  by_length true short =
-      let e : groups_text gs ≡ joined gs = rw short refl in
-      rw e (colon_between gs (omega arith))
-  by_length false long =
-      let n : ℕ = longest_run gs in
-      let k : ℕ = first_run n gs in
-      let e : groups_text gs ≡ joined (take k gs) ++ 58 ∷ 58 ∷ joined (drop (k + n) gs) = rw long refl in
-      rw e (list_any-append is_colon (joined (take k gs)) (58 ∷ 58 ∷ joined (drop (k + n) gs)) ∙ or_right _ _ refl)
+    by_length : (b : Bool) → nat_lt (longest_run gs) 2 ≡ b → list_any is_colon (groups_text gs) ≡ true
+    by_length true short =
+        let e : groups_text gs ≡ joined gs = rw short refl in
+        rw e (colon_between gs (omega arith))
+    by_length false long =
+        let n : ℕ = longest_run gs in
+        let k : ℕ = first_run n gs in
+        let e : groups_text gs ≡ joined (take k gs) ++ 58 ∷ 58 ∷ joined (drop (k + n) gs) = rw long refl in
+        rw e (list_any-append is_colon (joined (take k gs)) (58 ∷ 58 ∷ joined (drop (k + n) gs)) ∙ or_right _ _ refl)
 
 pub v6_again : (octets : List ℕ) → length octets ≡ 16 → AllByRecursion (λ o. o < 256) octets
     → address_of (groups_text (groups_of octets)) ≡ Ok (V6 octets)

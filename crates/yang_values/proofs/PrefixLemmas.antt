@@ -1,5 +1,5 @@
 -- Prefixes made of an address and a length.
-use Rattle.std.proofs.Common.{◌≡◌, ℕ, ◌<◌, ◌≤◌, Bool, true, false, IsTrue, List, Result, Ok, Err, inl, inr, ◌⊎◌, refl, sym, ap, subst, ◌∙◌, arith, nat_lt, not, cond, ltb-true}
+use Rattle.std.proofs.Common.{◌≡◌, ℕ, ◌<◌, ◌≤◌, Bool, true, false, IsTrue, List, Ok, Err, inl, inr, ◌⊎◌, refl, ap, subst, ◌∙◌, arith, nat_lt, not, cond, ltb-true}
 use Rattle.std.proofs.Props.{props}
 use Rattle.std.specs.Str.Parse.{digits_value}
 use Rattle.std.proofs.lemmas.Bool.{cases_lt}

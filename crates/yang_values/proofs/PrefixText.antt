@@ -1,10 +1,10 @@
 -- The canonical text of a prefix is read again.
-use Rattle.std.proofs.Common.{◌≡◌, ℕ, ◌+◌, ◌-◌, ◌%◌, ◌^◌, ◌<◌, ◌≤◌, ◌==◌, ◌||◌, ◌&&◌, nat_lt, Bool, true, false, List, [], ◌∷◌, ◌++◌, length, take, drop, Some, Ok, inl, inr, refl, sym, ap, ◌∙◌, arith, append_assoc, length-append}
-use Rattle.std.specs.List.{AllByRecursion, list_all, position_or_len, before_first, after_first}
+use Rattle.std.proofs.Common.{◌≡◌, ℕ, ◌+◌, ◌-◌, ◌%◌, ◌^◌, ◌<◌, ◌≤◌, ◌==◌, ◌||◌, nat_lt, Bool, true, false, List, [], ◌∷◌, ◌++◌, length, take, drop, Some, Ok, inl, inr, refl, sym, ap, ◌∙◌, arith, append_assoc, length-append}
+use Rattle.std.specs.List.{AllByRecursion, list_all, position_or_len}
 use Rattle.std.specs.Char.{is_ascii_digit, is_ascii_hexdigit}
 use Rattle.std.specs.Fmt.{decimal}
 use Rattle.std.specs.Str.Parse.{digits_value}
-use Rattle.std.proofs.lemmas.Bool.{and_parts, and_from, or_left, or_right, or_cases, cases_lt, lt-ltb, ltb-false, eqb-true}
+use Rattle.std.proofs.lemmas.Bool.{and_parts, and_from, or_left, or_right, or_cases, cases_lt, lt-ltb, eqb-true}
 use Rattle.std.proofs.lemmas.Fmt.{digits_decimal, digits_value-decimal}
 use Rattle.std.proofs.lemmas.List.{take_at, drop_at}
 use Rattle.std.proofs.lemmas.List.Elements.{recursion_from_All}
@@ -16,7 +16,7 @@ use Rattle.ikl_base.specs.Address.{bits_of, are_zero_from, cleared_from, is_clea
 use Rattle.yang_values.specs.Parts.{cut_at}
 use Rattle.yang_values.specs.HexText.{is_colon}
 use Rattle.yang_values.specs.Addresses.{IsAddress, is_dot, address_of, address_text, groups_of, group_text, joined, groups_text, longest_run, first_run}
-use Rattle.yang_values.specs.Prefixes.{is_slash, is_value_octet, with_length, prefix_from, prefix_of_cut, prefix_of, prefix_text}
+use Rattle.yang_values.specs.Prefixes.{is_slash, is_value_octet, prefix_of, prefix_text}
 use Rattle.yang_values.proofs.NumberLemmas.{decimal_model}
 use Rattle.yang_values.proofs.JoinedText.{each_also, all_joined}
 use Rattle.yang_values.proofs.ValueText.{apart, is_number-decimal, group_digits}
@@ -46,23 +46,23 @@ unfolding is_address_octet
 joined_octets gs small =
     all_joined is_address_octet 58 group_text refl gs
     (each_also (λ g. g < 65536) (λ g. list_all is_address_octet (group_text g) ≡ true)
-      (λ g h. also is_ascii_hexdigit is_address_octet (λ c d. or_left _ _ (or_left _ _ d)) (group_text g) (group_digits g h)) gs small)
+    (λ g h. also is_ascii_hexdigit is_address_octet (λ c d. or_left _ _ (or_left _ _ d)) (group_text g) (group_digits g h)) gs small)
 
 groups_octets : (gs : List ℕ) → AllByRecursion (λ g. g < 65536) gs → list_all is_address_octet (groups_text gs) ≡ true
 unfolding groups_text is_address_octet
 groups_octets gs small = by_length (nat_lt (longest_run gs) 2) refl
   where
-  by_length : (b : Bool) → nat_lt (longest_run gs) 2 ≡ b → list_all is_address_octet (groups_text gs) ≡ true
-  by_length true short =
-      let e : groups_text gs ≡ joined gs = rw short refl in
-      rw e (joined_octets gs small)
-  by_length false long =
-      let n : ℕ = longest_run gs in
-      let k : ℕ = first_run n gs in
-      let e : groups_text gs ≡ joined (take k gs) ++ 58 ∷ 58 ∷ joined (drop (k + n) gs) = rw long refl in
-      let front = joined_octets (take k gs) (all_take (λ g. g < 65536) k gs small) in
-      let back = joined_octets (drop (k + n) gs) (all_drop (λ g. g < 65536) (k + n) gs small) in
-      rw e (list_all-append is_address_octet (joined (take k gs)) (58 ∷ 58 ∷ joined (drop (k + n) gs)) ∙ and_from _ _ front back)
+    by_length : (b : Bool) → nat_lt (longest_run gs) 2 ≡ b → list_all is_address_octet (groups_text gs) ≡ true
+    by_length true short =
+        let e : groups_text gs ≡ joined gs = rw short refl in
+        rw e (joined_octets gs small)
+    by_length false long =
+        let n : ℕ = longest_run gs in
+        let k : ℕ = first_run n gs in
+        let e : groups_text gs ≡ joined (take k gs) ++ 58 ∷ 58 ∷ joined (drop (k + n) gs) = rw long refl in
+        let front = joined_octets (take k gs) (all_take (λ g. g < 65536) k gs small) in
+        let back = joined_octets (drop (k + n) gs) (all_drop (λ g. g < 65536) (k + n) gs small) in
+        rw e (list_all-append is_address_octet (joined (take k gs)) (58 ∷ 58 ∷ joined (drop (k + n) gs)) ∙ and_from _ _ front back)
 
 address_octets : (a : Addr) → IsAddress a → list_all is_address_octet (address_text a) ≡ true
 unfolding address_text
@@ -136,4 +136,4 @@ prefix_again p is read =
     let value = digits_value-decimal decimal_model p.len small in
     rw (cut, read, number)
     (sym (where_ok p.addr (digits_value 10 (decimal p.len)) p.len p (cases_lt (bits_of p.addr) (digits_value 10 (decimal p.len))) (sym value) fits refl
-      (sym (same_address p.len p.addr p.cleared))))
+    (sym (same_address p.len p.addr p.cleared))))

@@ -1,13 +1,11 @@
 -- The canonical text of an IPv4 address is read again.
-use Rattle.std.proofs.Common.{◌≡◌, ℕ, ◌+◌, ◌<◌, ◌≤◌, ◌==◌, ◌||◌, Bool, true, false, List, [], ◌∷◌, ◌++◌, length, map, Ok, refl, sym, ap, ◌∙◌, arith}
-use Rattle.std.specs.List.{All, AllByRecursion, list_all, list_any, slice_split, join_with_byte}
+use Rattle.std.proofs.Common.{◌≡◌, ℕ, ◌<◌, ◌||◌, Bool, true, false, List, [], ◌∷◌, length, Ok, refl, ap, arith}
+use Rattle.std.specs.List.{All, AllByRecursion, list_all}
 use Rattle.std.specs.Char.{is_ascii_digit}
 use Rattle.std.specs.Fmt.{decimal}
-use Rattle.std.specs.Str.Parse.{digits_value}
 use Rattle.std.proofs.lemmas.Bool.{le-leb, and_parts, and_from, or_left}
 use Rattle.std.proofs.lemmas.Fmt.{digits_decimal, digits_value-decimal}
 use Rattle.std.proofs.lemmas.List.Folds.{list_any_none}
-use Rattle.ikl_base.specs.declared.address.Addr.{Addr}
 use Rattle.ikl_base.specs.declared.address.Addr.TheVariants.{V4}
 use Rattle.yang_values.specs.HexText.{is_colon}
 use Rattle.yang_values.specs.Addresses.{dotted, is_dot, quad_of, address_of, v4_of}
@@ -30,7 +28,7 @@ pub quad_octets : (octets : List ℕ) → AllByRecursion (λ o. o < 256) octets 
 quad_octets octets small =
     all_joined is_quad_octet 46 decimal refl octets
     (each_also (λ o. o < 256) (λ o. list_all is_quad_octet (decimal o) ≡ true)
-      (λ o h. also is_ascii_digit is_quad_octet (λ c. or_left (is_ascii_digit c) (is_dot c)) (decimal o) (digits_only o h)) octets small)
+    (λ o h. also is_ascii_digit is_quad_octet (λ c. or_left (is_ascii_digit c) (is_dot c)) (decimal o) (digits_only o h)) octets small)
 
 no_dot : (n : ℕ) → n < 256 → All (λ c. is_dot c ≡ false) (decimal n)
 no_dot n small = lacks_mark is_ascii_digit is_dot (λ c. apart is_ascii_digit c 46 refl) (decimal n) (digits_only n small)
@@ -58,8 +56,8 @@ unfolding address_of
 v4_again (a ∷ b ∷ c ∷ d ∷ []) size small =
     let octets : List ℕ = a ∷ b ∷ c ∷ d ∷ [] in
     let plain = list_any_none is_colon (dotted octets)
-      (lacks_mark is_quad_octet is_colon (λ c. apart is_quad_octet c 58 refl) (dotted octets) (quad_octets octets small)) in
+    (lacks_mark is_quad_octet is_colon (λ c. apart is_quad_octet c 58 refl) (dotted octets) (quad_octets octets small)) in
     let split = split_texts is_dot 46 decimal refl a (b ∷ c ∷ d ∷ [])
-      (each_also (λ o. o < 256) (λ o. All (λ c. is_dot c ≡ false) (decimal o)) no_dot octets small) in
+    (each_also (λ o. o < 256) (λ o. All (λ c. is_dot c ≡ false) (decimal o)) no_dot octets small) in
     rw (plain, split) (ap v4_of (quad_again a b c d small.0 small.1.0 small.1.1.0 small.1.1.1.0))
 v4_again _ size small = absurd (omega arith)

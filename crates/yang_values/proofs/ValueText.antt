@@ -1,14 +1,14 @@
 -- The canonical texts of numbers, pairs and groups are read again.
-use Rattle.std.proofs.Common.{◌≡◌, ℕ, ◌+◌, ◌-◌, ◌*◌, ◌/◌, ◌%◌, ◌^◌, ◌<◌, ◌≤◌, ◌==◌, ◌&&◌, ◌||◌, not, nat_le, nat_lt, Bool, true, false, List, [], ◌∷◌, ◌++◌, length, slice_index, unwrap_or, Option, Some, None, Ok, Err, ◌⊎◌, inl, inr, refl, sym, ap, ◌∙◌, arith, length-append, lit<}
-use Rattle.std.specs.List.{All, AllByRecursion, list_all}
+use Rattle.std.proofs.Common.{◌≡◌, ℕ, ◌+◌, ◌-◌, ◌/◌, ◌%◌, ◌^◌, ◌<◌, ◌≤◌, ◌==◌, ◌&&◌, ◌||◌, not, Bool, true, false, List, [], ◌∷◌, length, slice_index, unwrap_or, Option, Some, None, Ok, ◌⊎◌, inl, inr, refl, sym, ap, ◌∙◌, arith, length-append, lit<}
+use Rattle.std.specs.List.{list_all}
 use Rattle.std.specs.Int.{is_in_range}
-use Rattle.std.specs.Char.{is_ascii_digit, is_ascii_hexdigit, digit_value}
-use Rattle.std.specs.Fmt.{decimal, digits, digit_glyph}
+use Rattle.std.specs.Char.{is_ascii_hexdigit, digit_value}
+use Rattle.std.specs.Fmt.{decimal, digit_glyph}
 use Rattle.std.specs.Str.Parse.{digits_value, AllDigits, IsNumeral}
-use Rattle.std.proofs.lemmas.Bool.{false≢true, and_parts, and_from, or_left, or_right, ne_eqb, eq-eqb, eqb-true, le-leb, le-ltb, cases_lt, cases_eq, agree_below, agree_below_at}
+use Rattle.std.proofs.lemmas.Bool.{false≢true, and_parts, and_from, or_left, or_right, ne_eqb, eqb-true, le-leb, le-ltb, cases_lt, agree_below, agree_below_at}
 use Rattle.std.proofs.lemmas.Fmt.{digits_decimal, digits_value-decimal, decimal_digit, decimal_nonempty, first_decimal, digits_is_IsNumeral, hex_one_digit}
-use Rattle.yang_values.specs.Numbers.{is_number, number_of, u64_of}
-use Rattle.yang_values.specs.HexText.{hex_number, pair_of, pair_text, is_colon}
+use Rattle.yang_values.specs.Numbers.{is_number, number_of}
+use Rattle.yang_values.specs.HexText.{hex_number, pair_of, pair_text}
 use Rattle.yang_values.specs.Addresses.{group_of, group_text}
 use Rattle.yang_values.proofs.NumberLemmas.{AreDigits, decimal_model}
 use Rattle.yang_values.proofs.HexNumberLemmas.{hex_step}
@@ -26,15 +26,15 @@ pub is_number-decimal : (n : ℕ) → n < 2 ^ 64 → is_number (decimal n) ≡ t
 is_number-decimal n small =
     is_number_from (decimal n) (decimal_nonempty n small) (bare (cases_lt 0 n)) (digits_decimal decimal_model n small)
   where
-  bare : (0 < n) ⊎ (n ≤ 0) → (not (slice_index (decimal n) 0 == 48) || length (decimal n) == 1) ≡ true
-  bare (inl some) =
-      let first = first_decimal n some small in
-      let e : (slice_index (decimal n) 0 == 48) ≡ false = ne_eqb _ _ (λ z. omega (arith, first, z)) in
-      rw e refl
-  bare (inr none) =
-      let zero_is : n ≡ 0 = omega arith in
-      let e : decimal n ≡ 48 ∷ [] = ap decimal zero_is ∙ decimal_digit 0 (omega arith) in
-      rw e refl
+    bare : (0 < n) ⊎ (n ≤ 0) → (not (slice_index (decimal n) 0 == 48) || length (decimal n) == 1) ≡ true
+    bare (inl some) =
+        let first = first_decimal n some small in
+        let e : (slice_index (decimal n) 0 == 48) ≡ false = ne_eqb _ _ (λ z. omega (arith, first, z)) in
+        rw e refl
+    bare (inr none) =
+        let zero_is : n ≡ 0 = omega arith in
+        let e : decimal n ≡ 48 ∷ [] = ap decimal zero_is ∙ decimal_digit 0 (omega arith) in
+        rw e refl
 
 -- the canonical text of a number is read again
 pub number_of-decimal : (n most : ℕ) → n < 2 ^ 64 → n ≤ most → number_of most (decimal n) ≡ Ok n
@@ -90,12 +90,12 @@ hexdigit_from_value c small = elim (cases_lt c 48) [
           | inr f ↦ elim (cases_lt c 123) [
             | inl g ↦ let v = value_lower c f g in or_right _ _ (in_range_from 97 102 c f (omega (arith, v)))
             | inr g ↦ let v = value_high c g in absurd (omega (arith, v))
-            ]
           ]
         ]
       ]
     ]
   ]
+]
 
 hexdigits_from : (t : List ℕ) → AllDigits 16 t → list_all is_ascii_hexdigit t ≡ true
 hexdigits_from [] all = refl

@@ -39,5 +39,4 @@ pub fn plain_texts()
     ensures number { (n : ℕ) → n < 2 ^ 64 → IsTrue (list_all is_value_octet (decimal n)) }
     ensures address { (a : Addr) → IsAddress a → IsTrue (list_all is_value_octet (address_text a)) }
     ensures prefix { (p : Prefix) → IsAddress p.addr → IsTrue (list_all is_value_octet (prefix_text p)) }
-{
-}
+{}

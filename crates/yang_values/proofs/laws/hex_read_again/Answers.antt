@@ -1,8 +1,8 @@
-use Rattle.std.proofs.Common.{◌≡◌, ℕ, ◌<◌, ◌∷◌, [], List, Bool, true, false, Ok, Some, refl, ap, ◌∙◌, sym}
+use Rattle.std.proofs.Common.{◌≡◌, ℕ, ◌<◌, ◌∷◌, [], List, false, Ok, Some, refl}
 use Rattle.std.specs.List.{All, AllByRecursion}
 use Rattle.std.specs.Char.{is_ascii_hexdigit}
 use Rattle.std.proofs.lemmas.List.Elements.{recursion_from_All}
-use Rattle.yang_values.specs.HexText.{hex_of, hex_colons, pair_of, pair_text, is_colon, some_or_form}
+use Rattle.yang_values.specs.HexText.{hex_of, hex_colons, pair_of, pair_text, is_colon}
 use Rattle.yang_values.proofs.JoinedText.{lacks_mark, each_also, split_texts, each_read, some_joined}
 use Rattle.yang_values.proofs.ValueText.{apart, pair_of-text, pair_digits, some_pair}
 use Rattle.yang_values.proofs.laws.hex_read_again.Goals as goal
@@ -16,9 +16,9 @@ unfolding hex_of
 again [] all = refl
 again (x ∷ xs) all =
     let split = split_texts is_colon 58 pair_text refl x xs
-      (each_also (λ o. o < 256) (λ o. All (λ c. is_colon c ≡ false) (pair_text o)) no_colon (x ∷ xs) all) in
+    (each_also (λ o. o < 256) (λ o. All (λ c. is_colon c ≡ false) (pair_text o)) no_colon (x ∷ xs) all) in
     let read = each_read pair_of pair_text (x ∷ xs)
-      (each_also (λ o. o < 256) (λ o. pair_of (pair_text o) ≡ Some o) pair_of-text (x ∷ xs) all) in
+    (each_also (λ o. o < 256) (λ o. pair_of (pair_text o) ≡ Some o) pair_of-text (x ∷ xs) all) in
     rw (some_joined 58 pair_text x xs (some_pair x), split, read) refl
 
 pub returns : goal.returns

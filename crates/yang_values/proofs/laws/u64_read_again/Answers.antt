@@ -1,6 +1,5 @@
 use Rattle.std.proofs.Common.{arith}
-use Rattle.yang_values.proofs.JoinedText.{split_texts}
-use Rattle.yang_values.proofs.ValueText.{number_of-decimal, group_of-text}
+use Rattle.yang_values.proofs.ValueText.{number_of-decimal}
 use Rattle.yang_values.proofs.laws.u64_read_again.Goals as goal
 
 pub returns : goal.returns
