@@ -1,5 +1,5 @@
 -- The values of texts one after another, and texts joined by a mark.
-use Rattle.std.proofs.Common.{◌≡◌, ℕ, ◌+◌, ◌<◌, ◌≤◌, List, [], ◌∷◌, ◌++◌, Bool, true, false, length, map, Option, Some, None, refl, sym, ap, ◌∙◌, arith, append_assoc, append-nil, get_or, drop, length-append, subst}
+use Rattle.std.proofs.Common.{◌≡◌, ℕ, ◌<◌, ◌≤◌, List, [], ◌∷◌, ◌++◌, Bool, length, map, Option, Some, None, refl, sym, ap, ◌∙◌, arith, append_assoc, append-nil, get_or, drop, length-append, subst}
 use Rattle.std.specs.Prelude.{IfSome, option_and_then}
 use Rattle.std.specs.Option.{option_map}
 use Rattle.std.specs.List.{flat_map, join_with_byte, slice_split}

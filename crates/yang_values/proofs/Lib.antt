@@ -5,3 +5,9 @@ pub mod HexNumberLemmas
 pub mod RunLemmas
 pub mod PrefixLemmas
 pub mod QuadLemmas
+pub mod JoinedText
+pub mod ValueText
+pub mod QuadText
+pub mod GroupText
+pub mod PrefixText
+pub mod AddressText

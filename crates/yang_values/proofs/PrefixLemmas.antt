@@ -1,5 +1,5 @@
 -- Prefixes made of an address and a length.
-use Rattle.std.proofs.Common.{◌≡◌, ℕ, ◌<◌, ◌≤◌, Bool, true, false, IsTrue, List, Result, Ok, Err, inl, inr, ◌⊎◌, refl, sym, ap, subst, ◌∙◌, arith, nat_lt, not, cond, ltb-true}
+use Rattle.std.proofs.Common.{◌≡◌, ℕ, ◌<◌, ◌≤◌, Bool, true, false, IsTrue, List, Ok, Err, inl, inr, ◌⊎◌, refl, ap, subst, ◌∙◌, arith, nat_lt, not, cond, ltb-true}
 use Rattle.std.proofs.Props.{props}
 use Rattle.std.specs.Str.Parse.{digits_value}
 use Rattle.std.proofs.lemmas.Bool.{cases_lt}
@@ -33,7 +33,7 @@ unfolding made
 same_prefix p q e f = same_made p.addr p.len p.in_range p.cleared q.addr e q.len f q.in_range q.cleared
 
 -- a number and its place among those that fit
-where_ok : (a : Addr) (m n : ℕ) (p : Prefix) (s : (bits_of a < m) ⊎ (m ≤ bits_of a)) → n ≡ m → n ≤ bits_of a → p.len ≡ n
+pub where_ok : (a : Addr) (m n : ℕ) (p : Prefix) (s : (bits_of a < m) ⊎ (m ≤ bits_of a)) → n ≡ m → n ≤ bits_of a → p.len ≡ n
     → p.addr ≡ address_cleared n a → Ok p ≡ prefix_where a m s
 unfolding prefix_made
 where_ok a m n p (inl above) e fits len addr = absurd (omega arith)

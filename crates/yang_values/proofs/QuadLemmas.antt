@@ -1,5 +1,5 @@
 -- The parts of a dotted quad.
-use Rattle.std.proofs.Common.{◌≡◌, ℕ, Bool, true, false, ◌&&◌, not, List, [], ◌∷◌, Err, refl, sym, ap, ◌∙◌}
+use Rattle.std.proofs.Common.{◌≡◌, ℕ, Bool, true, false, ◌&&◌, List, [], ◌∷◌, Err, refl}
 use Rattle.yang_values.specs.Numbers.{is_number}
 use Rattle.yang_values.specs.Addresses.{quad_of}
 use Rattle.yang_values.specs.declared.value.BadValue.TheVariants.{Form}

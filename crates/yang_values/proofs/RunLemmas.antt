@@ -1,7 +1,6 @@
 -- The longest run of zero groups, and the place of `::`.
-use Rattle.std.proofs.Common.{◌≡◌, ℕ, zero, suc, ◌+◌, ◌-◌, ◌<◌, ◌≤◌, List, [], ◌∷◌, ◌++◌, Bool, true, false, cond, max, nat_le, length, take, drop, get_or, replicate, Option, Some, None, refl, sym, ap, ◌∙◌, arith, append_assoc, append-nil, length-append, ◌&&◌, nat_lt, subst}
+use Rattle.std.proofs.Common.{◌≡◌, ℕ, zero, suc, ◌+◌, ◌-◌, ◌<◌, ◌≤◌, List, [], ◌∷◌, ◌++◌, true, false, length, take, drop, get_or, replicate, Some, None, refl, sym, ap, ◌∙◌, arith, append_assoc, append-nil, length-append, ◌&&◌, subst}
 use borrow.Rule.Slice.PartMut.{put_mid}
-use Rattle.std.specs.Option.{option_map}
 use Rattle.std.proofs.lemmas.Bool.{le-leb, lt-leb, lt-ltb}
 use Rattle.std.proofs.lemmas.List.{length-replicate, drop-replicate, replicate-append-replicate, take_at, drop_at, drop_all}
 use Rattle.yang_values.specs.HexText.{is_colon}

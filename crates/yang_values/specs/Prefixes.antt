@@ -1,5 +1,5 @@
 -- Prefixes as text (RFC 6991 section 4, `ip-prefix`): an address, a slash and a length.
-use Rattle.std.specs.Prelude.{◌≡◌, ℕ, ◌≤◌, ◌<◌, ◌==◌, ◌⊎◌, if◌then◌else◌, Bool, List, [], ◌∷◌, ◌++◌, Option, Some, None, Result, Ok, Err}
+use Rattle.std.specs.Prelude.{ℕ, ◌≤◌, ◌<◌, ◌==◌, ◌||◌, ◌⊎◌, if◌then◌else◌, Bool, List, ◌∷◌, ◌++◌, Option, Some, None, Result, Ok, Err}
 use Rattle.std.specs.Fmt.{decimal}
 use Rattle.ikl_base.specs.declared.address.Addr.{Addr}
 use Rattle.ikl_base.specs.declared.address.Prefix.{Prefix}
@@ -8,9 +8,11 @@ use Rattle.ikl_base.proofs.AddressLemmas.{bits_of-cleared, is_clear_from-cleared
 use Rattle.std.proofs.Common.{subst, sym, inl, inr}
 use Rattle.std.specs.Str.Parse.{digits_value}
 use Rattle.std.proofs.lemmas.Bool.{cases_lt}
+use Rattle.std.specs.Char.{is_ascii_hexdigit}
 use Rattle.yang_values.specs.Parts.{cut_at}
+use Rattle.yang_values.specs.HexText.{is_colon}
 use Rattle.yang_values.specs.Numbers.{is_number}
-use Rattle.yang_values.specs.Addresses.{address_of, address_text}
+use Rattle.yang_values.specs.Addresses.{is_dot, address_of, address_text}
 use Rattle.yang_values.specs.declared.value.BadValue.{BadValue}
 use Rattle.yang_values.specs.declared.value.BadValue.TheVariants.{Form, Range}
 
@@ -20,6 +22,10 @@ prefix_text p = address_text p.addr ++ 47 ∷ decimal p.len
 
 abbrev pub is_slash : ℕ → Bool
 is_slash c = c == 47
+
+-- what stands in the text of a number, an address or a prefix
+abbrev pub is_value_octet : ℕ → Bool
+is_value_octet c = is_ascii_hexdigit c || is_dot c || is_colon c || is_slash c
 
 -- these many bits of an address; the host bits are dropped
 unfoldable pub prefix_made : (a : Addr) (n : ℕ) → n ≤ bits_of a → Prefix

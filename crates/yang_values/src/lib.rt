@@ -16,7 +16,8 @@ mod value;
 pub use address::{put_address, read_address, write_address};
 pub use digits::{put_digits, read_digits, read_hex, write_hex};
 pub use laws::{
-    address_read_again, digits_read_again, hex_read_again, prefix_read_again, u64_read_again,
+    address_read_again, digits_read_again, hex_read_again, plain_texts, prefix_read_again,
+    u64_read_again,
 };
 pub use number::{put_number, read_number, read_port, read_u64, write_u64};
 pub use prefix::{put_prefix, read_prefix, write_prefix};

@@ -1,9 +1,9 @@
-use Rattle.std.proofs.Common.{◌≡◌, List, ℕ, Bool, false, Option, Ok, Err, Some, arith, refl, ap, sym, ◌∙◌, length, ◌==◌, ◌++◌, ◌∷◌, []}
+use Rattle.std.proofs.Common.{◌≡◌, List, ℕ, false, Option, Some, refl, ap, sym, ◌∙◌, length, ◌==◌, ◌++◌, ◌∷◌, []}
 use Rattle.std.specs.Option.{option_copied}
 use Rattle.std.specs.List.{slice_split}
-use Rattle.yang_values.specs.Parts.{each, parts_in}
+use Rattle.yang_values.specs.Parts.{each}
 use Rattle.yang_values.specs.HexText.{hex_of, pair_of, is_colon, some_or_form}
-use Rattle.yang_values.proofs.EachLemmas.{with_front, next_value, next_none, none_left}
+use Rattle.yang_values.proofs.EachLemmas.{next_value, next_none, none_left}
 use Rattle.yang_values.proofs.digits.read_hex.Goals as goal
 
 -- a text that isn't empty is read by its parts

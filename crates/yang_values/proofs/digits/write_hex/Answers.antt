@@ -1,4 +1,4 @@
-use Rattle.std.proofs.Common.{ap, ◌∙◌, sym, ◌++◌, map}
+use Rattle.std.proofs.Common.{ap, ◌∙◌, ◌++◌, map}
 use Rattle.std.specs.List.{join_with_byte}
 use Rattle.std.proofs.lemmas.List.{take_rest}
 use Rattle.yang_values.specs.HexText.{pair_text}

@@ -1,4 +1,4 @@
-use Rattle.std.proofs.Common.{arith, ap, ◌∙◌, ◌≡◌, ◌≤◌, Some, length, take}
+use Rattle.std.proofs.Common.{arith, ap, ◌∙◌, Some, take}
 use Rattle.std.proofs.lemmas.List.{length-take-le}
 use Rattle.yang_values.proofs.RunLemmas.{fill_is, filled_is}
 use Rattle.yang_values.proofs.groups.fill.Goals as goal

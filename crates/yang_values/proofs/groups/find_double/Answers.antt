@@ -1,4 +1,4 @@
-use Rattle.std.proofs.Common.{arith, ◌≡◌, true, ◌∙◌, sym}
+use Rattle.std.proofs.Common.{arith, sym}
 use Rattle.yang_values.proofs.RunLemmas.{double_colon-found, double_colon-none}
 use Rattle.yang_values.proofs.groups.find_double.Goals as goal
 

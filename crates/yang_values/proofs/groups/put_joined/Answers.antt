@@ -1,4 +1,3 @@
-use Rattle.std.proofs.Common.{ap, ◌∙◌, sym}
 use Rattle.std.proofs.lemmas.List.{take_rest}
 use Rattle.yang_values.specs.Addresses.{group_text}
 use Rattle.yang_values.proofs.EachLemmas.{joined_end}

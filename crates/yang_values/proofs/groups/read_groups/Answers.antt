@@ -1,5 +1,4 @@
-use Rattle.std.proofs.Common.{◌≡◌, ◌<◌, List, ℕ, Bool, false, Option, Some, None, arith, refl, ap, sym, ◌∙◌, length, take, ◌==◌, subst}
-use Rattle.std.specs.Prelude.{IfSome}
+use Rattle.std.proofs.Common.{◌≡◌, List, ℕ, false, arith, refl, ap, sym, ◌∙◌, length, ◌==◌}
 use Rattle.std.specs.Option.{option_copied}
 use Rattle.std.specs.List.{slice_split}
 use Rattle.std.proofs.lemmas.List.{take_more_set, length-take-le, length-set}

@@ -1,4 +1,4 @@
-use Rattle.std.proofs.Common.{arith, rules}
+use Rattle.std.proofs.Common.{arith}
 use Rattle.yang_values.proofs.number.is_decimal.Goals as goal
 use Rattle.yang_values.proofs.number.is_decimal.Goals.{then-not-is_empty+then-t-ne48, then-not-is_empty+else-t-ne48, else-not-is_empty}
 

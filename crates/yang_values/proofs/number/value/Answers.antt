@@ -1,7 +1,7 @@
-use Rattle.std.proofs.Common.{arith, rules, take, ap, ◌∙◌, refl, ◌≡◌, ◌≤◌, length, ◌+◌}
+use Rattle.std.proofs.Common.{arith, ap, ◌∙◌, ◌≤◌, length, ◌+◌}
 use Rattle.std.specs.Str.Parse.{digits_value}
 use Rattle.std.proofs.lemmas.List.{take_all}
-use Rattle.yang_values.proofs.NumberLemmas.{front_more, front_small, digit_in}
+use Rattle.yang_values.proofs.NumberLemmas.{front_more, front_small}
 use Rattle.yang_values.proofs.number.value.Goals as goal
 
 pub returns-in_err-checked_mul : goal.returns-in_err-checked_mul

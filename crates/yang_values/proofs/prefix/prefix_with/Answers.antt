@@ -1,5 +1,4 @@
-use Rattle.std.proofs.Common.{arith, ◌≡◌, ◌≤◌, ap, ◌∙◌, sym, Ok, Err}
-use Rattle.ikl_base.specs.Address.{bits_of}
+use Rattle.std.proofs.Common.{arith, ap, ◌∙◌}
 use Rattle.yang_values.specs.Numbers.{number_of}
 use Rattle.yang_values.proofs.PrefixLemmas.{with_length-ok, with_length-err}
 use Rattle.yang_values.proofs.prefix.prefix_with.Goals as goal
