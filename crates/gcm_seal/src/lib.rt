@@ -15,8 +15,8 @@ use tag::{hash_key, length_block, masked};
 
 mod counter;
 mod field;
+mod lanes;
 pub mod plain;
-mod tables;
 mod tag;
 #[cfg(test)]
 mod tests;
