@@ -1,7 +1,6 @@
 -- Reversed octets, elements and blocks.
-use Rattle.std.proofs.Common.{◌≡◌, ℕ, zero, suc, ◌+◌, ◌-◌, ◌*◌, ◌/◌, ◌%◌, ◌^◌, ◌<◌, ◌≤◌, List, [], ◌∷◌, ◌++◌, length, refl, true, bit_xor, arith, lit<, map, get_or, pow_pos, pow-add, ap, sym, ◌∙◌, add-one, add-zero, zero-add, append_assoc, append-nil}
-use Rattle.std.specs.Prelude.{slice_index, ◌==◌}
-use Rattle.std.proofs.lemmas.Bool.{eqb-true}
+use Rattle.std.proofs.Common.{◌≡◌, ℕ, zero, suc, ◌+◌, ◌-◌, ◌*◌, ◌/◌, ◌%◌, ◌^◌, ◌<◌, ◌≤◌, List, [], ◌∷◌, ◌++◌, length, refl, bit_xor, arith, lit<, map, get_or, pow_pos, pow-add, ap, sym, ◌∙◌, add-one, add-zero, zero-add, append_assoc, append-nil}
+use Rattle.std.specs.Prelude.{slice_index}
 use Rattle.std.proofs.lemmas.Nat.{shr-shr}
 use Rattle.std.proofs.Math.Nat.{mod-eq_of_lt, pow-le-pow_right, pow-suc}
 use Rattle.std.proofs.lemmas.Grind.{same_number_lists}
@@ -11,7 +10,6 @@ use Rattle.std.specs.Int.{w128, byte_at, bytes_low_first, from_le_bytes, to_le_b
 use lib.Lanes.{Each1}
 use Rattle.gf_poly.specs.Poly.{from_bits, multiply, power_sum, times_x}
 use Rattle.gf_poly.proofs.Field.{iterate, iterate-pow, multiply-double, multiply-more, multiply-parts, multiply-zero, power_sum-append, times_x-high, times_x-low}
-use Rattle.gf_poly.proofs.Tables.{all_below, all_below_at}
 use Rattle.gcm_seal.specs.Gcm.{add_blocks, all_blocks, block_at, block_of, blocks, counter, element, ghash, hash_key, lengths, reversed, tag_of}
 
 pub low_fits : 0x87 < 2 ^ 128

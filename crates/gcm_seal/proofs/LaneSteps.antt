@@ -1,5 +1,5 @@
 -- Lanes of octets, one by one.
-use Rattle.std.proofs.Common.{◌≡◌, ℕ, zero, suc, ◌+◌, ◌-◌, ◌*◌, ◌/◌, ◌%◌, ◌<◌, ◌≤◌, ◌^◌, Bool, true, List, [], ◌∷◌, ◌++◌, map, length, get_or, replicate, bit_and, bit_or, bit_xor, refl, sym, ap, ◌∙◌, arith, w8, Fits, take, drop, zero-add}
+use Rattle.std.proofs.Common.{◌≡◌, ℕ, zero, suc, ◌+◌, ◌-◌, ◌*◌, ◌/◌, ◌<◌, ◌≤◌, ◌^◌, true, List, [], ◌∷◌, ◌++◌, map, length, get_or, replicate, bit_and, bit_or, bit_xor, refl, sym, ap, ◌∙◌, arith, w8, Fits, take, drop, zero-add}
 use Rattle.std.specs.Prelude.{slice_index, ◌==◌}
 use Rattle.std.specs.List.{range_with_len}
 use Rattle.std.proofs.lemmas.Bool.{eqb-true}
@@ -106,4 +106,4 @@ added xs ys at k le long above below =
     ∙ get_or-zip2 bit_xor load ys j 0 0 0 (omega arith) (omega arith)
     ∙ ap (λ (x : ℕ). bit_xor x (get_or ys j 0))
     (get_or-chunk 0 16 part j 0 (omega arith) ∙ ap (λ (m : ℕ). get_or part m 0) (zero-add j) ∙ get_or-take n (drop at xs) j 0 (omega arith) ∙ get_or-drop at xs j 0
-      ∙ ap (λ (m : ℕ). get_or xs m 0) place)
+    ∙ ap (λ (m : ℕ). get_or xs m 0) place)

@@ -74,10 +74,10 @@ fn times_x4(p: u128) -> u128
     times_x(times_x(times_x(times_x(p))))
 }
 
-pub(crate) fn table_of(h: u128) -> [u128; 512]
-    ensures { IsTable result h }
+// Fills `t` with the table of h.
+pub(crate) fn fill_table(t: &mut [u128; 512], h: u128)
+    ensures { IsTable t.new h }
 {
-    let mut t = [0u128; 512];
     let mut p = h;
     'rows: for i in 0..32 {
         let row = row_of(p);
@@ -86,7 +86,6 @@ pub(crate) fn table_of(h: u128) -> [u128; 512]
         }
         p = times_x4(p);
     }
-    t
 }
 
 fn multiply(t: &[u128; 512], y: u128) -> u128

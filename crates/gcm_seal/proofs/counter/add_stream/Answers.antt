@@ -1,7 +1,6 @@
-use Rattle.std.proofs.Common.{◌≡◌, ◌+◌, ◌*◌, ◌-◌, ◌/◌, ◌%◌, ◌∙◌, ℕ, List, get_or, length, bit_xor, arith, inl, inr, ap}
+use Rattle.std.proofs.Common.{◌≡◌, ◌*◌, ◌/◌, ◌∙◌, ℕ, List, length, bit_xor, arith, inl, inr}
 use Rattle.std.proofs.lemmas.Bool.{cases_lt}
 use Rattle.aes_block.specs.Schedule.{cipher_of}
-use Rattle.gcm_seal.specs.Gcm.{stream}
 use Rattle.gcm_seal.proofs.Texts.{rest_stream, sealed_is}
 use Rattle.gcm_seal.proofs.counter.add_stream.Goals as goal
 

@@ -1,4 +1,4 @@
-use Rattle.std.proofs.Common.{◌≡◌, ◌+◌, ◌*◌, ◌/◌, ◌%◌, ◌^◌, ◌∙◌, arith, ap, get_or, ℕ, List, refl}
+use Rattle.std.proofs.Common.{◌≡◌, ◌+◌, ◌*◌, ◌/◌, ◌%◌, ◌^◌, ◌∙◌, arith, ap, get_or, ℕ, List}
 use Rattle.gcm_seal.proofs.Elements.{all_multiplied, eight_more, none_multiplied, octet_at}
 use Rattle.gcm_seal.proofs.field.multiply.Goals as goal
 

@@ -1,4 +1,4 @@
-use Rattle.std.proofs.Common.{arith, ◌≡◌, length}
+use Rattle.std.proofs.Common.{arith}
 use Rattle.gcm_seal.proofs.LaneSteps.{added}
 use Rattle.gcm_seal.proofs.lanes.add_block.Goals as goal
 
