@@ -1,5 +1,5 @@
 -- Columns of 32 bits.
-use Rattle.std.proofs.Common.{◌≡◌, ℕ, ◌/◌, ◌%◌, ◌^◌, ◌<◌, Bool, List, [], ◌∷◌, map, refl, true, bit_xor, arith, ap, sym, ◌∙◌, lit<, ◌+◌, ◌*◌, ◌≤◌, length, get_or}
+use Rattle.std.proofs.Common.{◌≡◌, ℕ, ◌/◌, ◌%◌, ◌^◌, ◌<◌, Bool, List, [], ◌∷◌, map, refl, true, bit_xor, arith, ap, sym, ◌∙◌, lit<, zero-add, ◌+◌, ◌*◌, ◌≤◌, length, get_or}
 use Rattle.std.specs.Prelude.{slice_index, ◌==◌}
 use Rattle.std.specs.Int.{w32, to_be_bytes}
 use Rattle.std.proofs.lemmas.Bool.{eqb-true}
@@ -7,7 +7,7 @@ use Rattle.std.proofs.lemmas.List.{get_or-map, get_or_default, length-map, same_
 use Rattle.std.proofs.lemmas.Nat.{xor_mod, xor_shr}
 use Rattle.gf_poly.specs.Poly.{product, times_x, remainder, multiply}
 use Rattle.aes_block.specs.Aes.{add_key, add_words, contribution, matrix, mix_columns, mix_word, s_box, shift_rows, square, sub_octets, sub_word, times}
-use Rattle.aes_block.specs.declared.tables.TheConstants.{S_TABLE, T0, T1, T2, T3}
+use Rattle.aes_block.specs.declared.tables.TheConstants.{S_TABLE, T}
 use Rattle.gf_poly.proofs.Tables.{all_below, all_below_at}
 use Rattle.aes_block.proofs.Computed.{s_table_at}
 
@@ -23,50 +23,50 @@ octets_xor x y =
     let e0 = xor_mod x y 8 in
     (λ i. e3 i ∷ e2 i ∷ e1 i ∷ e0 i ∷ [])
 
-is_entry : List ℕ → ℕ → ℕ → Bool
-is_entry t k x = all_below (λ r. slice_index (to_be_bytes w32 (slice_index t x)) r == times (slice_index (matrix r) k) (slice_index S_TABLE x)) 4
+is_entry : ℕ → ℕ → ℕ → Bool
+is_entry at k x = all_below (λ r. slice_index (to_be_bytes w32 (slice_index T (at + x))) r == times (slice_index (matrix r) k) (slice_index S_TABLE x)) 4
 
-t0_is : all_below (is_entry T0 0) 256 ≡ true
+t0_is : all_below (is_entry 0 0) 256 ≡ true
 unfolding is_entry times multiply product times_x remainder
 t0_is = refl
 
-t1_is : all_below (is_entry T1 1) 256 ≡ true
+t1_is : all_below (is_entry 256 1) 256 ≡ true
 unfolding is_entry times multiply product times_x remainder
 t1_is = refl
 
-t2_is : all_below (is_entry T2 2) 256 ≡ true
+t2_is : all_below (is_entry 512 2) 256 ≡ true
 unfolding is_entry times multiply product times_x remainder
 t2_is = refl
 
-t3_is : all_below (is_entry T3 3) 256 ≡ true
+t3_is : all_below (is_entry 768 3) 256 ≡ true
 unfolding is_entry times multiply product times_x remainder
 t3_is = refl
 
-entry_of : (t : List ℕ) (k x : ℕ) → x < 256 → all_below (is_entry t k) 256 ≡ true → to_be_bytes w32 (slice_index t x) ≡ contribution k x
+entry_of : (at k x : ℕ) → x < 256 → all_below (is_entry at k) 256 ≡ true → to_be_bytes w32 (slice_index T (at + x)) ≡ contribution k x
 unfolding is_entry
-entry_of t k x lt h =
-    let b : List ℕ = to_be_bytes w32 (slice_index t x) in
-    let all = all_below_at (is_entry t k) 256 x h lt in
-    let at : (r : ℕ) → r < 4 → slice_index b r ≡ times (slice_index (matrix r) k) (s_box x) =
+entry_of at k x lt h =
+    let b : List ℕ = to_be_bytes w32 (slice_index T (at + x)) in
+    let all = all_below_at (is_entry at k) 256 x h lt in
+    let row : (r : ℕ) → r < 4 → slice_index b r ≡ times (slice_index (matrix r) k) (s_box x) =
     λ r less. eqb-true (slice_index b r) (times (slice_index (matrix r) k) (slice_index S_TABLE x)) (all_below_at (λ r. slice_index b r == times (slice_index (matrix r) k) (slice_index S_TABLE x)) 4 r all less)
     ∙ ap (times (slice_index (matrix r) k)) (s_table_at x lt) in
-    let e0 = at 0 (lit< tt) in
-    let e1 = at 1 (lit< tt) in
-    let e2 = at 2 (lit< tt) in
-    let e3 = at 3 (lit< tt) in
+    let e0 = row 0 (lit< tt) in
+    let e1 = row 1 (lit< tt) in
+    let e2 = row 2 (lit< tt) in
+    let e3 = row 3 (lit< tt) in
     (λ i. e0 i ∷ e1 i ∷ e2 i ∷ e3 i ∷ [])
 
-pub t0_at : (x : ℕ) → x < 256 → to_be_bytes w32 (slice_index T0 x) ≡ contribution 0 x
-t0_at x lt = entry_of T0 0 x lt t0_is
+pub t0_at : (x : ℕ) → x < 256 → to_be_bytes w32 (slice_index T x) ≡ contribution 0 x
+t0_at x lt = ap (λ (n : ℕ). to_be_bytes w32 (slice_index T n)) (sym (zero-add x)) ∙ entry_of 0 0 x lt t0_is
 
-pub t1_at : (x : ℕ) → x < 256 → to_be_bytes w32 (slice_index T1 x) ≡ contribution 1 x
-t1_at x lt = entry_of T1 1 x lt t1_is
+pub t1_at : (x : ℕ) → x < 256 → to_be_bytes w32 (slice_index T (256 + x)) ≡ contribution 1 x
+t1_at x lt = entry_of 256 1 x lt t1_is
 
-pub t2_at : (x : ℕ) → x < 256 → to_be_bytes w32 (slice_index T2 x) ≡ contribution 2 x
-t2_at x lt = entry_of T2 2 x lt t2_is
+pub t2_at : (x : ℕ) → x < 256 → to_be_bytes w32 (slice_index T (512 + x)) ≡ contribution 2 x
+t2_at x lt = entry_of 512 2 x lt t2_is
 
-pub t3_at : (x : ℕ) → x < 256 → to_be_bytes w32 (slice_index T3 x) ≡ contribution 3 x
-t3_at x lt = entry_of T3 3 x lt t3_is
+pub t3_at : (x : ℕ) → x < 256 → to_be_bytes w32 (slice_index T (768 + x)) ≡ contribution 3 x
+t3_at x lt = entry_of 768 3 x lt t3_is
 
 pub column_is : (p q r s k a b c d : ℕ) → to_be_bytes w32 p ≡ contribution 0 a → to_be_bytes w32 q ≡ contribution 1 b
     → to_be_bytes w32 r ≡ contribution 2 c → to_be_bytes w32 s ≡ contribution 3 d

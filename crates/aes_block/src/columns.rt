@@ -5,30 +5,30 @@ ghost use Rattle.std.specs.Int.{w32, to_be_bytes};
 ghost use Rattle.aes_block.specs.Aes.{add_key, add_words, contribution, mix_columns, mix_word, shift_rows, square, sub_octets, sub_word};
 
 use crate::octets::{packed, s_box};
-use crate::tables::{T0, T1, T2, T3};
+use crate::tables::T;
 
 fn entry_0(w: u32) -> u32
     ensures { to_be_bytes w32 result ≡ contribution 0 (slice_index (to_be_bytes w32 w) 0) }
 {
-    T0[w.to_be_bytes()[0] as usize]
+    T[w.to_be_bytes()[0] as usize]
 }
 
 fn entry_1(w: u32) -> u32
     ensures { to_be_bytes w32 result ≡ contribution 1 (slice_index (to_be_bytes w32 w) 1) }
 {
-    T1[w.to_be_bytes()[1] as usize]
+    T[256 + w.to_be_bytes()[1] as usize]
 }
 
 fn entry_2(w: u32) -> u32
     ensures { to_be_bytes w32 result ≡ contribution 2 (slice_index (to_be_bytes w32 w) 2) }
 {
-    T2[w.to_be_bytes()[2] as usize]
+    T[512 + w.to_be_bytes()[2] as usize]
 }
 
 fn entry_3(w: u32) -> u32
     ensures { to_be_bytes w32 result ≡ contribution 3 (slice_index (to_be_bytes w32 w) 3) }
 {
-    T3[w.to_be_bytes()[3] as usize]
+    T[768 + w.to_be_bytes()[3] as usize]
 }
 
 // One column of a round: row r comes from column r of the four.
@@ -69,27 +69,25 @@ pub(crate) fn first(w: &[u32; 60], b: &[u8; 16]) -> [u32; 4]
 }
 
 // One column of the last round.
-fn last_column(a: u32, b: u32, c: u32, d: u32, k: u32) -> [u8; 4]
-    ensures { result ≡ add_words (sub_word (slice_index (to_be_bytes w32 a) 0 ∷ slice_index (to_be_bytes w32 b) 1
+fn last_column(a: u32, b: u32, c: u32, d: u32, k: u32) -> u32
+    ensures { to_be_bytes w32 result ≡ add_words (sub_word (slice_index (to_be_bytes w32 a) 0 ∷ slice_index (to_be_bytes w32 b) 1
         ∷ slice_index (to_be_bytes w32 c) 2 ∷ slice_index (to_be_bytes w32 d) 3 ∷ [])) (to_be_bytes w32 k) }
 {
-    let k = k.to_be_bytes();
-    [
-        s_box(a.to_be_bytes()[0]) ^ k[0],
-        s_box(b.to_be_bytes()[1]) ^ k[1],
-        s_box(c.to_be_bytes()[2]) ^ k[2],
-        s_box(d.to_be_bytes()[3]) ^ k[3],
-    ]
+    let p = s_box(a.to_be_bytes()[0]);
+    let q = s_box(b.to_be_bytes()[1]);
+    let r = s_box(c.to_be_bytes()[2]);
+    let t = s_box(d.to_be_bytes()[3]);
+    packed(p, q, r, t) ^ k
 }
 
 pub(crate) fn last(w: &[u32; 60], i: usize, s: &[u32; 4]) -> [u8; 16]
     requires { i < 15 }
     ensures { result ≡ add_key (map (to_be_bytes w32) w.now) i (shift_rows (sub_octets (square s.now))) }
 {
-    let p = last_column(s[0], s[1], s[2], s[3], w[4 * i]);
-    let q = last_column(s[1], s[2], s[3], s[0], w[4 * i + 1]);
-    let r = last_column(s[2], s[3], s[0], s[1], w[4 * i + 2]);
-    let t = last_column(s[3], s[0], s[1], s[2], w[4 * i + 3]);
+    let p = last_column(s[0], s[1], s[2], s[3], w[4 * i]).to_be_bytes();
+    let q = last_column(s[1], s[2], s[3], s[0], w[4 * i + 1]).to_be_bytes();
+    let r = last_column(s[2], s[3], s[0], s[1], w[4 * i + 2]).to_be_bytes();
+    let t = last_column(s[3], s[0], s[1], s[2], w[4 * i + 3]).to_be_bytes();
     [
         p[0], p[1], p[2], p[3], q[0], q[1], q[2], q[3], r[0], r[1], r[2], r[3], t[0], t[1], t[2],
         t[3],

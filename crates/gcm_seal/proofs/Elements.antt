@@ -1,25 +1,16 @@
 -- Reversed octets, elements and blocks.
-use Rattle.std.proofs.Common.{◌≡◌, ℕ, zero, suc, ◌+◌, ◌-◌, ◌*◌, ◌/◌, ◌%◌, ◌^◌, ◌<◌, ◌≤◌, List, [], ◌∷◌, ◌++◌, length, refl, true, bit_xor, arith, lit<, map, get_or, pow_pos, pow-add, ap, sym, ◌∙◌, add-one, append_assoc, append-nil}
-use Rattle.std.specs.Prelude.{slice_index, ◌==◌}
-use Rattle.std.proofs.lemmas.Bool.{eqb-true}
-use Rattle.std.proofs.Math.Nat.{mod-eq_of_lt, pow-le-pow_right}
+use Rattle.std.proofs.Common.{◌≡◌, ℕ, zero, suc, ◌+◌, ◌-◌, ◌*◌, ◌/◌, ◌%◌, ◌^◌, ◌<◌, ◌≤◌, List, [], ◌∷◌, ◌++◌, length, refl, bit_xor, arith, lit<, map, get_or, pow_pos, pow-add, ap, sym, ◌∙◌, add-one, add-zero, zero-add, append_assoc, append-nil}
+use Rattle.std.specs.Prelude.{slice_index}
+use Rattle.std.proofs.lemmas.Nat.{shr-shr}
+use Rattle.std.proofs.Math.Nat.{mod-eq_of_lt, pow-le-pow_right, pow-suc}
 use Rattle.std.proofs.lemmas.Grind.{same_number_lists}
 use Rattle.std.proofs.lemmas.List.FromFn.{get_or-map-range_with_len, length-map-range_with_len}
 use Rattle.std.specs.List.{range_with_len}
-use Rattle.std.specs.Int.{w128, from_le_bytes, to_le_bytes}
+use Rattle.std.specs.Int.{w128, byte_at, bytes_low_first, from_le_bytes, to_le_bytes}
 use lib.Lanes.{Each1}
 use Rattle.gf_poly.specs.Poly.{from_bits, multiply, power_sum, times_x}
 use Rattle.gf_poly.proofs.Field.{iterate, iterate-pow, multiply-double, multiply-more, multiply-parts, multiply-zero, power_sum-append, times_x-high, times_x-low}
-use Rattle.gf_poly.proofs.Tables.{all_below, all_below_at}
 use Rattle.gcm_seal.specs.Gcm.{add_blocks, all_blocks, block_at, block_of, blocks, counter, element, ghash, hash_key, lengths, reversed, tag_of}
-use Rattle.gcm_seal.specs.declared.tables.TheConstants.{REVERSED}
-
-table_is_reversed : all_below (λ x. slice_index REVERSED x == reversed x) 256 ≡ true
-unfolding reversed from_bits
-table_is_reversed = refl
-
-pub reversed_at : (x : ℕ) → x < 256 → slice_index REVERSED x ≡ reversed x
-reversed_at x lt = eqb-true (slice_index REVERSED x) (reversed x) (all_below_at (λ x. slice_index REVERSED x == reversed x) 256 x table_is_reversed lt)
 
 pub low_fits : 0x87 < 2 ^ 128
 low_fits = lit< tt
@@ -134,8 +125,28 @@ entry_at h i n k v row lt e held is =
     ∙ sym ((λ j. of_h h (lo j * 2 ^ (4 * (hi j)))))
 
 -- ---- the product, four coefficients at a time
-pub none_multiplied : (y h : ℕ) → 0 ≡ of_h h (y % 2 ^ (4 * 0))
-none_multiplied y h = sym (ap (of_h h) (let z : y % 2 ^ (4 * 0) ≡ 0 = omega arith in z) ∙ multiply-zero 128 0x87 low_fits h)
+pub none_multiplied : (y h : ℕ) → 0 ≡ of_h h (y % 2 ^ (8 * 0))
+none_multiplied y h = sym (ap (of_h h) (let z : y % 2 ^ (8 * 0) ≡ 0 = omega arith in z) ∙ multiply-zero 128 0x87 low_fits h)
+
+pow_of_256 : (j : ℕ) → 256 ^ j ≡ 2 ^ (8 * j)
+pow_of_256 zero = refl
+pow_of_256 (suc j) =
+    let e : 8 * suc j ≡ 8 + 8 * j = omega arith in
+    let d : 2 ^ 8 ≡ 256 = refl in
+    pow-suc 256 j ∙ omega (arith, pow_of_256 j, pow-add 2 8 (8 * j), ap (λ (m : ℕ). 2 ^ m) e)
+
+byte_is : (y i : ℕ) → byte_at i y ≡ y / 2 ^ (8 * i) % 256
+byte_is y zero = omega arith
+byte_is y (suc i) = ap (λ (m : ℕ). y / m % 256) (pow_of_256 (suc i))
+
+bytes_at : (a k y i : ℕ) → i < k → get_or (bytes_low_first a k y) i 0 ≡ byte_at (a + i) y
+bytes_at a zero y i lt = absurd (omega arith)
+bytes_at a (suc k) y zero lt = ap (λ (m : ℕ). byte_at m y) (sym (add-zero a))
+bytes_at a (suc k) y (suc i) lt = bytes_at (suc a) k y i (omega arith) ∙ ap (λ (m : ℕ). byte_at m y) (let e : suc a + i ≡ a + suc i = omega arith in e)
+
+-- octet i of y, counted from the lowest
+pub octet_at : (y i : ℕ) → i < 16 → get_or (to_le_bytes w128 y) i 0 ≡ y / 2 ^ (8 * i) % 256
+octet_at y i lt = bytes_at 0 16 y i lt ∙ ap (λ (m : ℕ). byte_at m y) (zero-add i) ∙ byte_is y i
 
 pub four_more : (y h i z v k n : ℕ) → y < 2 ^ 128 → n ≡ y / 2 ^ (4 * i) % 16 → k ≡ 16 * i + n → z ≡ of_h h (y % 2 ^ (4 * i)) → v ≡ of_h h (k % 16 * 2 ^ (4 * (k / 16)))
     → bit_xor z v ≡ of_h h (y % 2 ^ (4 * (i + 1)))
@@ -146,10 +157,24 @@ four_more y h i z v k n fits hn hk hz hv =
     (λ j. bit_xor (hz j) (hv j)) ∙ (λ j. bit_xor (of_h h (y % 2 ^ (4 * i))) (of_h h (lo j * 2 ^ (4 * (hi j)))))
     ∙ multiply-more 128 0x87 low_fits y h 4 (4 * i) fits ∙ ap (λ (m : ℕ). of_h h (y % 2 ^ m)) e
 
-pub all_multiplied : (y h i z : ℕ) → y < 2 ^ 128 → i ≡ 32 → z ≡ of_h h (y % 2 ^ (4 * i)) → z ≡ of_h h y
+-- eight coefficients more, by two entries of the table
+pub eight_more : (y h i z o v v' : ℕ) → o ≡ y / 2 ^ (8 * i) % 256 → y < 2 ^ 128 → z ≡ of_h h (y % 2 ^ (8 * i))
+    → v ≡ of_h h ((32 * i + o % 16) % 16 * 2 ^ (4 * ((32 * i + o % 16) / 16)))
+    → v' ≡ of_h h ((32 * i + 16 + o / 16) % 16 * 2 ^ (4 * ((32 * i + 16 + o / 16) / 16)))
+    → bit_xor (bit_xor z v) v' ≡ of_h h (y % 2 ^ (8 * (i + 1)))
+eight_more y h i z o v v' is fits hz hv hv' =
+    let start : 8 * i ≡ 4 * (2 * i) = omega arith in
+    let end : 4 * (2 * i + 1 + 1) ≡ 8 * (i + 1) = omega arith in
+    let half : y / 2 ^ (4 * (2 * i + 1)) ≡ y / 2 ^ (8 * i) / 2 ^ 4 = ap (λ (n : ℕ). y / 2 ^ n) (let e : 4 * (2 * i + 1) ≡ 8 * i + 4 = omega arith in e) ∙ sym (shr-shr y (8 * i) 4) in
+    let low : o % 16 ≡ y / 2 ^ (4 * (2 * i)) % 16 = ap (λ (n : ℕ). n % 16) is ∙ omega arith ∙ ap (λ (n : ℕ). y / 2 ^ n % 16) start in
+    let high : o / 16 ≡ y / 2 ^ (4 * (2 * i + 1)) % 16 = ap (λ (n : ℕ). n / 16) is ∙ omega arith ∙ sym (ap (λ (n : ℕ). n % 16) half) in
+    let first = four_more y h (2 * i) z v (32 * i + o % 16) (o % 16) fits low (omega arith) (hz ∙ ap (λ (n : ℕ). of_h h (y % 2 ^ n)) start) hv in
+    four_more y h (2 * i + 1) (bit_xor z v) v' (32 * i + 16 + o / 16) (o / 16) fits high (omega arith) first hv' ∙ ap (λ (n : ℕ). of_h h (y % 2 ^ n)) end
+
+pub all_multiplied : (y h i z : ℕ) → y < 2 ^ 128 → i ≡ 16 → z ≡ of_h h (y % 2 ^ (8 * i)) → z ≡ of_h h y
 all_multiplied y h i z fits e held =
     let whole : y % 2 ^ 128 ≡ y = mod-eq_of_lt fits in
-    held ∙ ap (λ (m : ℕ). of_h h (y % 2 ^ (4 * m))) e ∙ ap (of_h h) whole
+    held ∙ ap (λ (m : ℕ). of_h h (y % 2 ^ (8 * m))) e ∙ ap (of_h h) whole
 
 -- ---- Horner's rule over blocks
 abbrev pub AllFit : List ℕ → Type 0

@@ -2,70 +2,26 @@
 
 ghost use Rattle.std.specs.Prelude.{◌≡◌, ℕ, ◌+◌, ◌*◌, ◌<◌, ◌≤◌, ◌^◌, ◌++◌, List, length, map, slice_index};
 ghost use Rattle.gf_poly.specs.Poly.{multiply, power_sum, times_x};
-ghost use Rattle.gcm_seal.specs.Gcm.{all_blocks, block_of, element, reversed};
+ghost use Rattle.gcm_seal.specs.Gcm.{all_blocks, block_of, element};
 ghost use Rattle.gcm_seal.specs.Table.{IsTable};
 ghost use Rattle.std.specs.Simd.Lanes.{Each1};
 ghost use Rattle.std.specs.List.{range_with_len};
 
-use crate::tables::REVERSED;
-
-fn reversed(octet: u8) -> u8
-    ensures { result ≡ reversed octet }
-{
-    REVERSED[octet as usize]
-}
-
-fn octet_or_zero(octets: &[u8], i: usize) -> u8
-    ensures { result ≡ slice_index octets.now i }
-{
-    if i < octets.len() { octets[i] } else { 0 }
-}
-
-fn reversed_at(octets: &[u8], i: usize) -> u8
-    ensures { result ≡ reversed (slice_index octets.now i) }
-{
-    reversed(octet_or_zero(octets, i))
-}
+use crate::lanes::{block_at, reversed};
+use std::simd::prelude::*;
 
 // The block of the octets from `at` on, filled up with zeros.
 pub(crate) fn element_at(octets: &[u8], at: usize) -> u128
     requires { at < 2 ^ 32 }
     ensures { result ≡ element (λ j. slice_index octets.now (at + j)) }
 {
-    let low = reversed_octets(octets, at);
-    let high = reversed_octets(octets, at + 8);
-    u128::from_le_bytes([
-        low[0], low[1], low[2], low[3], low[4], low[5], low[6], low[7], high[0], high[1], high[2],
-        high[3], high[4], high[5], high[6], high[7],
-    ])
-}
-
-fn reversed_octets(octets: &[u8], at: usize) -> [u8; 8]
-    requires { at < 2 ^ 33 }
-    ensures { result ≡ map (λ j. reversed (slice_index octets.now (at + j))) (range_with_len 0 8) }
-{
-    [
-        reversed_at(octets, at),
-        reversed_at(octets, at + 1),
-        reversed_at(octets, at + 2),
-        reversed_at(octets, at + 3),
-        reversed_at(octets, at + 4),
-        reversed_at(octets, at + 5),
-        reversed_at(octets, at + 6),
-        reversed_at(octets, at + 7),
-    ]
+    u128::from_le_bytes(reversed(block_at(octets, at)).to_array())
 }
 
 pub(crate) fn block_of(p: u128) -> [u8; 16]
     ensures { result ≡ block_of p }
 {
-    let b = p.to_le_bytes();
-    let low = reversed_octets(&b, 0);
-    let high = reversed_octets(&b, 8);
-    [
-        low[0], low[1], low[2], low[3], low[4], low[5], low[6], low[7], high[0], high[1], high[2],
-        high[3], high[4], high[5], high[6], high[7],
-    ]
+    reversed(u8x16::from_array(p.to_le_bytes())).to_array()
 }
 
 // x^127
@@ -118,10 +74,10 @@ fn times_x4(p: u128) -> u128
     times_x(times_x(times_x(times_x(p))))
 }
 
-pub(crate) fn table_of(h: u128) -> [u128; 512]
-    ensures { IsTable result h }
+// Fills `t` with the table of h.
+pub(crate) fn fill_table(t: &mut [u128; 512], h: u128)
+    ensures { IsTable t.new h }
 {
-    let mut t = [0u128; 512];
     let mut p = h;
     'rows: for i in 0..32 {
         let row = row_of(p);
@@ -130,15 +86,18 @@ pub(crate) fn table_of(h: u128) -> [u128; 512]
         }
         p = times_x4(p);
     }
-    t
 }
 
 fn multiply(t: &[u128; 512], y: u128) -> u128
     ensures { (h : ℕ) → IsTable t.now h → result ≡ multiply 128 0x87 y h }
 {
+    let octets = y.to_le_bytes();
     let mut z = 0;
-    'nibbles: for i in 0..32usize {
-        z ^= t[16 * i + ((y >> (4 * i)) % 16) as usize];
+    'octets: for i in 0..16usize {
+        let octet = octets[i] as usize;
+        let low = t[32 * i + octet % 16];
+        let high = t[32 * i + 16 + octet / 16];
+        z = z ^ low ^ high;
     }
     z
 }

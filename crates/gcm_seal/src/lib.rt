@@ -10,13 +10,13 @@ ghost use Rattle.gcm_seal.specs.Laws.{OpensOnce, SealsOpen, TagsOpen};
 
 use aes_block::KeySchedule;
 use counter::add_stream;
-use field::{absorb, table_of};
+use field::{absorb, fill_table};
 use tag::{hash_key, length_block, masked};
 
 mod counter;
 mod field;
+mod lanes;
 pub mod plain;
-mod tables;
 mod tag;
 #[cfg(test)]
 mod tests;
@@ -39,7 +39,8 @@ fn tag_for(k: &KeySchedule, nonce: &[u8; 12], aad: &[u8], sealed: &[u8]) -> [u8;
     ensures { result ≡ tag_of (cipher_of k.now) nonce.now aad.now sealed.now }
 {
     let h = hash_key(k);
-    let t = table_of(h);
+    let mut t = [0u128; 512];
+    fill_table(&mut t, h);
     let first = absorb(0, &t, aad);
     let second = absorb(first, &t, sealed);
     let third = absorb(second, &t, &length_block(aad, sealed));

@@ -11,7 +11,7 @@ returns c =
     let s = c.args.sealed.now in
     let h = c.hash_key-h.result in
     let small = (let q : h < 2 ^ 128 = omega arith in q) in
-    let table = c.table_of-t.ensures in
+    let table = c.fill_table.ensures in
     let y1 = c.absorb-first.ensures h [] small table tt (sum_of_none h) in
     let y2 = c.absorb-second.ensures h (all_blocks aad) small table (all_blocks_fit aad) y1 in
     let y3 = c.absorb-third.ensures h (all_blocks aad ++ all_blocks s) small table (fit_both aad s) y2 in

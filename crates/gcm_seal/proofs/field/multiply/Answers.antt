@@ -1,15 +1,17 @@
-use Rattle.std.proofs.Common.{◌+◌, ◌*◌, ◌/◌, ◌%◌, ◌^◌, arith, ℕ, refl}
-use Rattle.gcm_seal.proofs.Elements.{all_multiplied, four_more, none_multiplied}
+use Rattle.std.proofs.Common.{◌≡◌, ◌+◌, ◌*◌, ◌/◌, ◌%◌, ◌^◌, ◌∙◌, arith, ap, get_or, ℕ, List}
+use Rattle.gcm_seal.proofs.Elements.{all_multiplied, eight_more, none_multiplied, octet_at}
 use Rattle.gcm_seal.proofs.field.multiply.Goals as goal
 
-pub nibbles-init : goal.nibbles-init
-nibbles-init c = λ h _. none_multiplied c.args.y h
+pub octets-init : goal.octets-init
+octets-init c = λ h _. none_multiplied c.args.y h
 
-pub nibbles-preserved : goal.nibbles-preserved
-nibbles-preserved c = λ h table.
-    let i = c.nibbles.i in
-    let n : ℕ = c.args.y / 2 ^ (4 * i) % 16 in
-    four_more c.args.y h i c.nibbles.z _ (16 * i + n) n (omega arith) refl refl (c.nibbles.invariant h table) (table (16 * i + n) (omega arith))
+pub octets-preserved : goal.octets-preserved
+octets-preserved c = λ h table.
+    let y = c.args.y in
+    let i = c.octets.i in
+    let o : ℕ = get_or c.to_le_bytes-octets.result i 0 in
+    let is : o ≡ y / 2 ^ (8 * i) % 256 = ap (λ (l : List ℕ). get_or l i 0) c.to_le_bytes-octets.ensures ∙ octet_at y i (omega arith) in
+    eight_more y h i c.octets.z o _ _ is (omega arith) (c.octets.invariant h table) (table (32 * i + o % 16) (omega arith)) (table (32 * i + 16 + o / 16) (omega arith))
 
 pub returns : goal.returns
-returns c = λ h table. all_multiplied c.args.y h c.nibbles.i c.nibbles.z (omega arith) (omega (arith, c.nibbles.auto.i-end)) (c.nibbles.invariant h table)
+returns c = λ h table. all_multiplied c.args.y h c.octets.i c.octets.z (omega arith) (omega (arith, c.octets.auto.i-end)) (c.octets.invariant h table)

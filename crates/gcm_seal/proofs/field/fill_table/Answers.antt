@@ -2,10 +2,10 @@ use Rattle.std.proofs.Common.{set, ◌≡◌, ◌*◌, ◌+◌, ℕ, get_or, ari
 use Rattle.std.proofs.lemmas.List.{get_or-set_same, get_or-set_other, length-set}
 use Rattle.std.proofs.lemmas.Bool.{cases_lt}
 use Rattle.gcm_seal.proofs.Elements.{entry_at, power_at_first, power_at_is, power_at_next}
-use Rattle.gcm_seal.proofs.field.table_of.Goals as goal
+use Rattle.gcm_seal.proofs.field.fill_table.Goals as goal
 
 pub rows-init : goal.rows-init
-rows-init c = record { long = refl; power = power_at_first c.args.h; entries = λ k lt. absurd (omega arith) }
+rows-init c = record { long = omega arith; power = power_at_first c.args.h; entries = λ k lt. absurd (omega arith) }
 
 pub entries-preserved : goal.entries-preserved
 entries-preserved c =
