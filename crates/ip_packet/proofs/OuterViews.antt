@@ -118,7 +118,7 @@ sealed-size o (V4 src) (V6 dst) are = absurd are
 sealed-size o (V6 src) (V4 dst) are = absurd are
 sealed-size o (V6 src) (V6 dst) are = let both = length-both src dst 16 16 are.0 are.1 in omega arith
 
-pub sealed-id : (o : Outer) (src dst : List ℕ) → o.src ≡ V4 src → o.dst ≡ V4 dst → number_at (header_between o o.src o.dst) 4 ≡ o.id
-sealed-id o src dst es ed =
+pub sealed-id : (o : Outer) (src dst rest : List ℕ) → o.src ≡ V4 src → o.dst ≡ V4 dst → number_at (header_between o o.src o.dst ++ rest) 4 ≡ o.id
+sealed-id o src dst rest es ed =
     let split : 256 * (o.id / 256) + o.id % 256 ≡ o.id = omega arith in
-    ap (λ a. number_at (header_between o a o.dst) 4) es ∙ ap (λ a. number_at (header_between o (V4 src) a) 4) ed ∙ split
+    ap (λ a. number_at (header_between o a o.dst ++ rest) 4) es ∙ ap (λ a. number_at (header_between o (V4 src) a ++ rest) 4) ed ∙ split

@@ -1,5 +1,6 @@
 ghost use Rattle.std.specs.Prelude.{◌≡◌, ◌+◌, ◌^◌, ◌<◌, ◌≤◌, ◌++◌, ℕ, List, length, drop, IsTrue, Ok, if◌then◌else◌};
 ghost use Rattle.ip_packet.specs.View.{view_of};
+ghost use Rattle.ip_packet.specs.Field.{number_at};
 ghost use Rattle.ip_packet.specs.Outer.{AreOneFamily, header_size, is_one_family, told_length, header_between, outer_header, outer_view};
 ghost use Rattle.ikl_base.specs.declared.address.Addr.TheVariants.{V4, V6};
 
@@ -79,18 +80,13 @@ fn write_6(out: &mut [u8], o: &Outer, src: &[u8; 16], dst: &[u8; 16])
     put(out, 24, dst);
 }
 
-/// Writes the header for protocol 50 at the front of `out`, and answers its length (RFC 791 section 3.1, RFC 8200 section 3).
-///
-/// IPv4 has the service octet 0, no options and offset 0, IPv6 class and flow 0; the time to live and the hop limit are 64.
 #[tactic(auto, unfolding(crate::specs::Outer::outer_header))]
-pub fn write_outer(out: &mut [u8], o: &Outer) -> usize
+fn write_header(out: &mut [u8], o: &Outer)
     requires family { IsTrue (is_one_family o.now.src o.now.dst) }
     requires room { header_size o.now.src ≤ length out.old }
     requires fits { told_length o.now.src o.now.payload < 2 ^ 16 }
-    ensures length { result ≡ header_size o.now.src }
+    ensures sizes { AreOneFamily o.now.src o.now.dst }
     ensures octets { out.new ≡ outer_header o.now ++ drop (header_size o.now.src) out.old }
-    ensures view { (payload : List ℕ) → length payload ≡ o.now.payload
-        → view_of (outer_header o.now ++ payload) ≡ Ok (outer_view o.now payload) }
 {
     match &o.src {
         Addr::V4(src) => match &o.dst {
@@ -102,5 +98,21 @@ pub fn write_outer(out: &mut [u8], o: &Outer) -> usize
             Addr::V6(dst) => write_6(out, o, src, dst),
         },
     }
+}
+
+/// Writes the header for protocol 50 at the front of `out`, and answers its length (RFC 791 section 3.1, RFC 8200 section 3).
+///
+/// IPv4 has the service octet 0, no options and offset 0, IPv6 class and flow 0; the time to live and the hop limit are 64.
+pub fn write_outer(out: &mut [u8], o: &Outer) -> usize
+    requires family { IsTrue (is_one_family o.now.src o.now.dst) }
+    requires room { header_size o.now.src ≤ length out.old }
+    requires fits { told_length o.now.src o.now.payload < 2 ^ 16 }
+    ensures length { result ≡ header_size o.now.src }
+    ensures octets { out.new ≡ outer_header o.now ++ drop (header_size o.now.src) out.old }
+    ensures view { (payload : List ℕ) → length payload ≡ o.now.payload
+        → view_of (outer_header o.now ++ payload) ≡ Ok (outer_view o.now payload) }
+    ensures id { (src dst : List ℕ) → o.now.src ≡ V4 src → o.now.dst ≡ V4 dst → number_at out.new 4 ≡ o.now.id }
+{
+    write_header(out, o);
     header_len(&o.src)
 }

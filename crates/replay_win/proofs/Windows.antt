@@ -1,10 +1,10 @@
 -- What a window keeps of the numbers marked.
-use Rattle.std.proofs.Common.{◌≡◌, ℕ, ◌+◌, ◌-◌, ◌<◌, ◌≤◌, ◌==◌, ◌&&◌, ◌||◌, nat_le, nat_lt, max, Bool, true, false, not, List, [], ◌∷◌, ◌++◌, length, filter, refl, sym, ap, ◌∙◌, if◌then◌else◌, arith}
+use Rattle.std.proofs.Common.{◌≡◌, ℕ, ◌+◌, ◌-◌, ◌<◌, ◌≤◌, ◌==◌, ◌&&◌, ◌||◌, nat_le, nat_lt, max, Bool, true, false, not, List, [], ◌∷◌, ◌++◌, length, filter, fold, refl, sym, ap, ◌∙◌, if◌then◌else◌, arith}
 use Rattle.std.specs.List.{range_with_len}
 use Rattle.std.proofs.lemmas.Bool.{false≢true}
 use Rattle.std.proofs.lemmas.Bool.Decides.{nat_tests}
 use Rattle.replay_win.specs.declared.verdict.Verdict.TheVariants.{Fresh, Old, Seen, Zero}
-use Rattle.replay_win.specs.Marks.{Marks, greatest, is_among, is_below, spanned, judged, verdict_by, verdict_over, window_after, IsKept}
+use Rattle.replay_win.specs.Marks.{marked, no_marks, Marks, greatest, is_among, is_below, spanned, judged, verdict_by, verdict_over, window_after, IsKept}
 use Rattle.replay_win.proofs.Among.{is_among-append, is_among-filter, is_among-range, filter-same, are_distinct-filter, are_distinct-push, filter-none, length-range}
 
 pub is_among-spanned : (size top : ℕ) (test : ℕ → Bool) (k : ℕ) → is_among k (spanned size top test) ≡ (test k && (nat_le (top + 1 - size) k && nat_lt k (top + 1 - size + size)))
@@ -51,6 +51,32 @@ judged-window_after size taken s =
     ap (λ n. verdict_by n w.top (is_among s w.inside) s) (size-window_after size taken)
     ∙ ap (λ t. verdict_by size t (is_among s w.inside) s) (top-window_after size taken)
     ∙ verdict_by-same size (greatest taken) s (is_among s w.inside) (is_among s taken) (is_among-window_after size taken s)
+
+-- the numbers of two lists, those of the second turned round in front
+abbrev behind : List ℕ → List ℕ → List ℕ
+behind taken [] = taken
+behind taken (x ∷ xs) = behind (x ∷ taken) xs
+
+is_among-behind : (q : ℕ) (xs taken : List ℕ) → is_among q (behind taken xs) ≡ (is_among q taken || is_among q xs)
+is_among-behind q [] taken = grind arith
+is_among-behind q (x ∷ xs) taken = let ih = is_among-behind q xs (x ∷ taken) in grind (arith, ih)
+
+greatest-behind : (xs taken : List ℕ) → greatest (behind taken xs) ≡ max (greatest taken) (greatest xs)
+greatest-behind [] taken = omega arith
+greatest-behind (x ∷ xs) taken = let ih = greatest-behind xs (x ∷ taken) in omega arith
+
+fold-window_after : (size : ℕ) (xs taken : List ℕ) → fold marked (window_after size taken) xs ≡ window_after size (behind taken xs)
+fold-window_after size [] taken = refl
+fold-window_after size (x ∷ xs) taken = fold-window_after size xs (x ∷ taken)
+
+-- the verdict hangs on no order
+pub judged-fold : (size : ℕ) (taken : List ℕ) (s : ℕ) → judged (fold marked (no_marks size) taken) s ≡ verdict_over size taken s
+judged-fold size taken s =
+    let most : greatest (behind [] taken) ≡ greatest taken = greatest-behind taken [] ∙ omega arith in
+    ap (λ w. judged w s) (fold-window_after size taken [])
+    ∙ judged-window_after size (behind [] taken) s
+    ∙ ap (λ t. verdict_by size t (is_among s (behind [] taken)) s) most
+    ∙ ap (λ b. verdict_by size (greatest taken) b s) (is_among-behind s taken [])
 
 -- a window's numbers inside are those of its list
 pub is_among-inside : (size top capacity : ℕ) (marks : List ℕ) (k : ℕ) → IsKept size top capacity marks → is_among k (spanned size top (λ k. is_among k marks)) ≡ is_among k marks

@@ -24,3 +24,23 @@ fn judges_by_the_numbers_marked(rt: HostRuntime) -> Result<(), Fail> {
     verdicts();
     Ok(())
 }
+
+// Even numbers up to 200 in a window of 32, and then the odd ones that it still spans.
+#[test]
+fn keeps_all_numbers_that_it_spans(rt: HostRuntime) -> Result<(), Fail> {
+    let mut window = Window::new(rt.alloc(), 32).map_err(|_| "no memory")?;
+    for half in 1..=100u64 {
+        assert_eq!(rt; window.judge(2 * half), Verdict::Fresh);
+        window.mark(2 * half);
+    }
+    for half in 84..100u64 {
+        assert_eq!(rt; window.judge(2 * half + 1), Verdict::Fresh);
+        window.mark(2 * half + 1);
+    }
+    for s in 1..=200u64 {
+        let verdict = if s < 169 { Verdict::Old } else { Verdict::Seen };
+        assert_eq!(rt; window.judge(s), verdict, "{s}");
+    }
+    assert_eq!(rt; window.top(), 200);
+    Ok(())
+}

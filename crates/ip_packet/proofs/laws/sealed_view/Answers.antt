@@ -12,4 +12,4 @@ returns-clause-size c = λ o are. sealed-size o o.src o.dst are
 
 pub returns-clause-id : goal.returns-clause-id
 unfolding outer_header
-returns-clause-id c = λ o src dst es ed. sealed-id o src dst es ed
+returns-clause-id c = λ o src dst payload es ed. sealed-id o src dst payload es ed
