@@ -14,15 +14,13 @@ ghost use Rattle.hist_gateway.specs.Safe.{Safe};
 /// Whatever events come, a packet leaves in clear only where the first policy that holds it says bypass.
 pub fn is_every_history_safe()
     ensures { (gateways : List Peer) (events : List Event) → Safe (after [] (history gateways [] events)) }
-{
-}
+{}
 
 /// A packet from inside has exactly one answer: it leaves with its own octets, or it is dropped.
 pub fn answers()
     ensures { (g : List ℕ) (list : List SpdEntry) (o : List ℕ) →
         (answer g list o ≡ acts.Clear g o) ⊎ ((why : DropWhy) × (answer g list o ≡ acts.Drop g why)) }
-{
-}
+{}
 
 /// One more event adds its block at the end, and one to the number of events.
 pub fn goes_on()
@@ -31,5 +29,4 @@ pub fn goes_on()
     ensures count { (gateways : List Peer) (h : List Act) (events : List Event) →
         events_taken (after h (history gateways h events)) ≡ events_taken h + length events }
     ensures past { (h xs ys : List Act) → after h (xs ++ ys) ≡ after (after h xs) ys }
-{
-}
+{}

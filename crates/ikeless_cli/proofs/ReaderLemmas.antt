@@ -53,22 +53,23 @@ pub takes-event : (w w' : World) (e : Event) (acts : List Act) (line text : List
     text ≡ text_of acts → TakesLine (Some w) (Some w') line text
 takes-event w w' e acts line text goes past says header step written = record {
   more = λ lines events is stands.
-    let gateways : List Peer = w.header.gateways in
-    let before : List Act = history gateways [] events in
-    let h : List Act = after [] before in
-    let taken = step h stands.state in
-    let grown : history w'.header.gateways [] (events ++ e ∷ []) ≡ before ++ block gateways h e = ap (λ (x : Header). history x.gateways [] (events ++ e ∷ [])) header ∙ goes gateways [] events e in
-    let now : after [] (history w'.header.gateways [] (events ++ e ∷ [])) ≡ after h (block gateways h e) = ap (after []) grown ∙ past [] before (block gateways h e) in
-    let P : List Act → Type 0 = λ x. StandsFor w' x in
-    let Q : Header → Type 0 = λ x. IsScript (Some x) (lines ++ line ∷ []) (events ++ e ∷ []) in
-    let script = stands.script in
-    (events ++ e ∷ [],
-     record {
-       each = AreLines-push lines line stands.each is;
-       script = subst Q (sym header) (script.0, script.1 ++ line ∷ [], ap (λ x. x ++ line ∷ []) script.2, script.3, AreEvents-push gateways script.1 events line e script.4 says);
-       state = subst P (sym now) taken.1
-     },
-     ap text_of grown ∙ (text_of-append before (block gateways h e) ∙ ap (λ x. text_of before ++ x) (sym (written ∙ ap text_of taken.0))))
+      let gateways : List Peer = w.header.gateways in
+      let before : List Act = history gateways [] events in
+      let h : List Act = after [] before in
+      let taken = step h stands.state in
+      let grown : history w'.header.gateways [] (events ++ e ∷ []) ≡ before ++ block gateways h e = ap (λ (x : Header). history x.gateways [] (events ++ e ∷ [])) header ∙ goes gateways [] events e in
+      let now : after [] (history w'.header.gateways [] (events ++ e ∷ [])) ≡ after h (block gateways h e) = ap (after []) grown ∙ past [] before (block gateways h e) in
+      let P : List Act → Type 0 = λ x. StandsFor w' x in
+      let Q : Header → Type 0 = λ x. IsScript (Some x) (lines ++ line ∷ []) (events ++ e ∷ []) in
+      let script = stands.script in (
+        events ++ e ∷ [],
+        record {
+          each = AreLines-push lines line stands.each is;
+          script = subst Q (sym header) (script.0, script.1 ++ line ∷ [], ap (λ x. x ++ line ∷ []) script.2, script.3, AreEvents-push gateways script.1 events line e script.4 says);
+          state = subst P (sym now) taken.1;
+        },
+        ap text_of grown ∙ (text_of-append before (block gateways h e) ∙ ap (λ x. text_of before ++ x) (sym (written ∙ ap text_of taken.0))),
+      );
 }
 
 AreEvents-length : (gateways : List Peer) (lines : List (List ℕ)) (events : List Event) → AreEvents gateways lines events → length lines ≡ length events
@@ -105,9 +106,9 @@ ran status left i t more w line whole r cause = record {
     each = r.stands.each;
     script = r.stands.script;
     written = append-nil t ∙ r.written;
-    safe = acts-safe (header_kept w) r.events
+    safe = acts-safe (header_kept w) r.events;
   };
-  cause = cause
+  cause = cause;
 }
 
 numbered : (w : Option World) (lines : List (List ℕ)) (events : List Event) (number : ℕ) → Stands w lines events → number ≡ lines_of w + 1 → number ≡ length lines + 1
@@ -116,27 +117,38 @@ numbered w lines events number stands e = let counted = lines-length w lines eve
 -- a whole line can't be taken
 pub ends-line : (w : Option World) (line : List ℕ) (whole number : ℕ) (reason : LineFault) (a : Option (List ℕ)) → number ≡ lines_of w + 1 → length line < 1048576 → Refuses (header_kept w) line reason →
     Ends (λ i t. Reads i t w line whole) (statuses.Line number reason) (Gains a a) (10 ∷ [])
-ends-line w line whole number reason a e short refused i t r =
-    ([], gains_none a, λ left after. ran (statuses.Line number reason) left i t (10 ∷ after) w line whole r
-      (numbered w r.lines r.events number r.stands e,
-       inl (record { line = line; more = after; cut = refl; is_line = record { inside = r.inside; short = short }; refused = refused })))
+ends-line w line whole number reason a e short refused i t r = (
+  [],
+  gains_none a,
+  λ left after. ran (statuses.Line number reason) left i t (10 ∷ after) w line whole r (
+    numbered w r.lines r.events number r.stands e,
+    inl (record { line = line; more = after; cut = refl; is_line = record { inside = r.inside; short = short }; refused = refused }),
+  ),
+)
 
 -- a line has more than 1 MiB
 pub ends-long : (w : Option World) (line : List ℕ) (whole number octet : ℕ) (a : Option (List ℕ)) → number ≡ lines_of w + 1 → 1048576 ≤ length line →
     Ends (λ i t. Reads i t w line whole) (statuses.Line number faults.Long) (Gains a a) (octet ∷ [])
 ends-long w line whole number octet a e long i t r =
-    let size : length line ≡ 1048576 = let short = r.short in omega (arith, short, long) in
-    ([], gains_none a, λ left after. ran (statuses.Line number faults.Long) left i t (octet ∷ after) w line whole r
-      (numbered w r.lines r.events number r.stands e,
-       inr (inl (refl, record { front = line; next = octet; more = after; cut = refl; inside = r.inside; size = size }))))
+    let size : length line ≡ 1048576 = let short = r.short in omega (arith, short, long) in (
+      [],
+      gains_none a,
+      λ left after. ran (statuses.Line number faults.Long) left i t (octet ∷ after) w line whole r (
+        numbered w r.lines r.events number r.stands e,
+        inr (inl (refl, record { front = line; next = octet; more = after; cut = refl; inside = r.inside; size = size })),
+      ),
+    )
 
 -- the octet after 64 MiB
 pub ends-too_long : (w : Option World) (line : List ℕ) (whole octet : ℕ) (a : Option (List ℕ)) → whole + length line ≡ 67108864 →
     Ends (λ i t. Reads i t w line whole) statuses.TooLong (Gains a a) (octet ∷ [])
 ends-too_long w line whole octet a full i t r =
-    let size : length (joined r.lines) + length line ≡ 67108864 = ap (λ n. n + length line) (sym r.count) ∙ full in
-    ([], gains_none a, λ left after. ran statuses.TooLong left i t (octet ∷ after) w line whole r
-      (record { begun = line; next = octet; more = after; cut = refl; inside = r.inside; short = r.short; size = size }))
+    let size : length (joined r.lines) + length line ≡ 67108864 = ap (λ n. n + length line) (sym r.count) ∙ full in (
+      [],
+      gains_none a,
+      λ left after. ran statuses.TooLong left i t (octet ∷ after) w line whole r
+          (record { begun = line; next = octet; more = after; cut = refl; inside = r.inside; short = r.short; size = size }),
+    )
 
 pub ends-no_memory : (w : Option World) (line : List ℕ) (whole octet : ℕ) (a : Option (List ℕ)) → Ends (λ i t. Reads i t w line whole) statuses.NoMemory (Gains a a) (octet ∷ [])
 ends-no_memory w line whole octet a i t r = ([], gains_none a, λ left after. ran statuses.NoMemory left i t (octet ∷ after) w line whole r tt)
@@ -156,17 +168,20 @@ inside-push (c ∷ cs) octet inside other =
 pub reads-octet : (w : Option World) (line : List ℕ) (whole octet : ℕ) (a : Option (List ℕ)) (line' : List ℕ) → line' ≡ line ++ octet ∷ [] → length line < 1048576 → (octet == 10) ≡ false →
     Goes (λ i t. Reads i t w line whole) (λ i t. Reads i t w line' whole) (Gains a a) (octet ∷ [])
 reads-octet w line whole octet a line' e short other i t r =
-    let P : List ℕ → Type 0 = λ x. Reads (i ++ octet ∷ []) (t ++ []) w x whole in
-    ([], gains_none a, subst P (sym e) (record {
-      lines = r.lines;
-      events = r.events;
-      octets = ap (λ x. x ++ octet ∷ []) r.octets ∙ append_assoc (joined r.lines) line (octet ∷ []);
-      stands = r.stands;
-      written = append-nil t ∙ r.written;
-      inside = inside-push line octet r.inside other;
-      short = let size = length-append line (octet ∷ []) in omega (arith, size, short);
-      count = r.count
-    }))
+    let P : List ℕ → Type 0 = λ x. Reads (i ++ octet ∷ []) (t ++ []) w x whole in (
+      [],
+      gains_none a,
+      subst P (sym e) (record {
+        lines = r.lines;
+        events = r.events;
+        octets = ap (λ x. x ++ octet ∷ []) r.octets ∙ append_assoc (joined r.lines) line (octet ∷ []);
+        stands = r.stands;
+        written = append-nil t ∙ r.written;
+        inside = inside-push line octet r.inside other;
+        short = let size = length-append line (octet ∷ []) in omega (arith, size, short);
+        count = r.count;
+      }),
+    )
 
 joined-push : (lines : List (List ℕ)) (line : List ℕ) → joined (lines ++ line ∷ []) ≡ joined lines ++ (line ++ 10 ∷ [])
 joined-push lines line = flat_map-append (λ l. l ++ 10 ∷ []) lines (line ∷ []) ∙ ap (λ x. joined lines ++ x) (append-nil (line ++ 10 ∷ []))
@@ -184,21 +199,24 @@ pub breaks : (w w' : Option World) (line text part more : List ℕ) (whole : ℕ
     Breaks (λ i t. Reads i t w line whole) (Gains a b) (10 ∷ [])
 breaks w w' line text part more whole a b takes short cut gains i t r =
     let is : IsLine line = record { inside = r.inside; short = short } in
-    let step = takes.more r.lines r.events is r.stands in
-    (part, gains, λ after. record {
-      header = header_kept w';
-      lines = r.lines ++ line ∷ [];
-      events = step.0;
-      rest = after;
-      more = more;
-      taken = record {
-        octets = line-joined i r.lines line after r.octets;
-        each = step.1.each;
-        script = step.1.script;
-        written = append_assoc t part more ∙ (ap (λ x. t ++ x) cut ∙ (ap (λ x. x ++ text) r.written ∙ sym step.2));
-        safe = acts-safe (header_kept w') step.0
-      }
-    })
+    let step = takes.more r.lines r.events is r.stands in (
+      part,
+      gains,
+      λ after. record {
+        header = header_kept w';
+        lines = r.lines ++ line ∷ [];
+        events = step.0;
+        rest = after;
+        more = more;
+        taken = record {
+          octets = line-joined i r.lines line after r.octets;
+          each = step.1.each;
+          script = step.1.script;
+          written = append_assoc t part more ∙ (ap (λ x. t ++ x) cut ∙ (ap (λ x. x ++ text) r.written ∙ sym step.2));
+          safe = acts-safe (header_kept w') step.0;
+        };
+      },
+    )
 
 -- no octets
 pub goes-none : (w : Option World) (line : List ℕ) (whole : ℕ) (a : Option (List ℕ)) → Goes (λ i t. Reads i t w line whole) (λ i t. Reads i t w line whole) (Gains a a) []
@@ -211,34 +229,41 @@ goes-none w line whole a i t r =
 pub goes-on : (old mid new : List ℕ → List ℕ → Type 0) (a b c : Option (List ℕ)) (xs ys zs : List ℕ) → xs ++ ys ≡ zs →
     Goes old mid (Gains a b) xs → Goes mid new (Gains b c) ys → Goes old new (Gains a c) zs
 goes-on old mid new a b c xs ys zs e p q i t r =
-  let first = p i t r in
-  let second = q (i ++ xs) (t ++ first.0) first.2 in
-  let P : List ℕ → Type 0 = λ x. new x (t ++ (first.0 ++ second.0)) in
-  let Q : List ℕ → Type 0 = λ x. new ((i ++ xs) ++ ys) x in
-  (first.0 ++ second.0, gains_more a b c first.0 second.0 first.1 second.1,
-    subst P (append_assoc i xs ys ∙ ap (λ x. i ++ x) e) (subst Q (append_assoc t first.0 second.0) second.2))
+    let first = p i t r in
+    let second = q (i ++ xs) (t ++ first.0) first.2 in
+    let P : List ℕ → Type 0 = λ x. new x (t ++ (first.0 ++ second.0)) in
+    let Q : List ℕ → Type 0 = λ x. new ((i ++ xs) ++ ys) x in (
+      first.0 ++ second.0,
+      gains_more a b c first.0 second.0 first.1 second.1,
+      subst P (append_assoc i xs ys ∙ ap (λ x. i ++ x) e) (subst Q (append_assoc t first.0 second.0) second.2),
+    )
 
 ends-after : (status : Status) (old mid : List ℕ → List ℕ → Type 0) (a b c : Option (List ℕ)) (xs : List ℕ) (octet : ℕ) (rest zs : List ℕ) → xs ++ octet ∷ rest ≡ zs →
     Goes old mid (Gains a b) xs → Ends mid status (Gains b c) (octet ∷ []) →
     (input text : List ℕ) → old input text → (more : List ℕ) × Gains a c more × ((left : Option (List ℕ)) → Ran status left (input ++ zs) (text ++ more))
 ends-after status old mid a b c xs octet rest zs e p q i t r =
-  let first = p i t r in
-  let second = q (i ++ xs) (t ++ first.0) first.2 in
-  (first.0 ++ second.0, gains_more a b c first.0 second.0 first.1 second.1, λ left.
-    let P : List ℕ → Type 0 = λ x. Ran status left x (t ++ (first.0 ++ second.0)) in
-    let Q : List ℕ → Type 0 = λ x. Ran status left ((i ++ xs) ++ (octet ∷ rest)) x in
-    subst P (append_assoc i xs (octet ∷ rest) ∙ ap (λ x. i ++ x) e) (subst Q (append_assoc t first.0 second.0) (second.2 left rest)))
+    let first = p i t r in
+    let second = q (i ++ xs) (t ++ first.0) first.2 in (
+      first.0 ++ second.0,
+      gains_more a b c first.0 second.0 first.1 second.1,
+      λ left.
+          let P : List ℕ → Type 0 = λ x. Ran status left x (t ++ (first.0 ++ second.0)) in
+          let Q : List ℕ → Type 0 = λ x. Ran status left ((i ++ xs) ++ (octet ∷ rest)) x in
+          subst P (append_assoc i xs (octet ∷ rest) ∙ ap (λ x. i ++ x) e) (subst Q (append_assoc t first.0 second.0) (second.2 left rest)),
+    )
 
 breaks-after : (old mid : List ℕ → List ℕ → Type 0) (a b c : Option (List ℕ)) (xs : List ℕ) (octet : ℕ) (rest zs : List ℕ) → xs ++ octet ∷ rest ≡ zs →
     Goes old mid (Gains a b) xs → Breaks mid (Gains b c) (octet ∷ []) →
     (input text : List ℕ) → old input text → (part : List ℕ) × Gains a c part × BrokeOff (input ++ zs) (text ++ part)
 breaks-after old mid a b c xs octet rest zs e p q i t r =
-  let first = p i t r in
-  let second = q (i ++ xs) (t ++ first.0) first.2 in
-  let P : List ℕ → Type 0 = λ x. BrokeOff x (t ++ (first.0 ++ second.0)) in
-  let Q : List ℕ → Type 0 = λ x. BrokeOff ((i ++ xs) ++ (octet ∷ rest)) x in
-  (first.0 ++ second.0, gains_more a b c first.0 second.0 first.1 second.1,
-    subst P (append_assoc i xs (octet ∷ rest) ∙ ap (λ x. i ++ x) e) (subst Q (append_assoc t first.0 second.0) (second.2 rest)))
+    let first = p i t r in
+    let second = q (i ++ xs) (t ++ first.0) first.2 in
+    let P : List ℕ → Type 0 = λ x. BrokeOff x (t ++ (first.0 ++ second.0)) in
+    let Q : List ℕ → Type 0 = λ x. BrokeOff ((i ++ xs) ++ (octet ∷ rest)) x in (
+      first.0 ++ second.0,
+      gains_more a b c first.0 second.0 first.1 second.1,
+      subst P (append_assoc i xs (octet ∷ rest) ∙ ap (λ x. i ++ x) e) (subst Q (append_assoc t first.0 second.0) (second.2 rest)),
+    )
 
 -- a run that ends at an octet ends within the piece that has it
 pub finishes : (status : Status) (old mid : List ℕ → List ℕ → Type 0) (a b c : Option (List ℕ)) (xs : List ℕ) (octet : ℕ) (rest zs : List ℕ) → xs ++ octet ∷ rest ≡ zs →
@@ -259,8 +284,8 @@ reads-finish status w0 l0 n0 w1 l1 n1 a b c xs octet rest zs e p q = finishes st
 pub reads-same : (w0 : Option World) (l0 : List ℕ) (n0 : ℕ) (w1 : Option World) (l1 : List ℕ) (n1 : ℕ) (a b : Option (List ℕ)) (xs zs : List ℕ) → xs ≡ zs →
     Goes (λ i t. Reads i t w0 l0 n0) (λ i t. Reads i t w1 l1 n1) (Gains a b) xs → Goes (λ i t. Reads i t w0 l0 n0) (λ i t. Reads i t w1 l1 n1) (Gains a b) zs
 reads-same w0 l0 n0 w1 l1 n1 a b xs zs e p =
-  let P : List ℕ → Type 0 = λ x. Goes (λ i t. Reads i t w0 l0 n0) (λ i t. Reads i t w1 l1 n1) (Gains a b) x in
-  subst P e p
+    let P : List ℕ → Type 0 = λ x. Goes (λ i t. Reads i t w0 l0 n0) (λ i t. Reads i t w1 l1 n1) (Gains a b) x in
+    subst P e p
 
 risen-later : (a b c : ℕ) → a ≤ b → HasRisen b c → HasRisen a c
 risen-later a b c later risen = omega (arith, later, risen)
@@ -271,7 +296,7 @@ sink-on a b c x y z broke p q = record {
   later = let first = p.later in let second = q.later in omega (arith, first, second);
   risen = λ e. risen-later a b c p.later (q.risen e);
   failed = q.failed;
-  calm = λ e calm. q.calm e (p.calm refl calm)
+  calm = λ e calm. q.calm e (p.calm refl calm);
 }
 
 -- a run that ends between two octets

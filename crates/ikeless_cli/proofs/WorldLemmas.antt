@@ -65,5 +65,5 @@ pub stands-after : (w w' : World) (h : List Act) (e : Event) → ((g : List ℕ)
     w'.lists.items ≡ lists_after w e → w'.taken ≡ w.taken + 1 → StandsFor w' (after h (block w.header.gateways h e))
 stands-after w w' h e answers s lists taken = record {
   lists = λ g. ap (λ ls. kept_for ls g) lists ∙ lists_after-force w h e answers s g;
-  taken = taken ∙ (ap (λ n. n + 1) s.taken ∙ events_taken-block w.header.gateways h e answers)
+  taken = taken ∙ (ap (λ n. n + 1) s.taken ∙ events_taken-block w.header.gateways h e answers);
 }

@@ -4,3 +4,4 @@ pub mod Script
 pub mod Run
 pub mod Reader
 pub mod Words
+pub mod Exit

@@ -54,7 +54,7 @@ pub record IsCutOff (header : Option Header) (rest : List ℕ) (left : Option (L
 
 abbrev pub IsRefused : Option Header → List ℕ → Option (List ℕ) → LineFault → Type 0
 IsRefused header rest left reason =
-  IsBadLine header rest reason ⊎ (((reason ≡ faults.Long) × IsLongLine rest) ⊎ ((reason ≡ faults.End) × IsCutOff header rest left))
+    IsBadLine header rest reason ⊎ (((reason ≡ faults.Long) × IsLongLine rest) ⊎ ((reason ≡ faults.End) × IsCutOff header rest left))
 
 -- an octet comes after 64 MiB of whole lines and a line that has begun
 pub record IsTooLong (lines : List (List ℕ)) (rest : List ℕ) : Type 0 where

@@ -11,6 +11,7 @@ use script_lines::{put_acts, read_event, read_header};
 use std::alloc::Global;
 
 const LINE_LIMIT: usize = 1_048_576;
+
 const INPUT_LIMIT: u64 = 67_108_864;
 
 /// What a run keeps between octets: the world once there is a header, the line that has begun and
@@ -55,11 +56,7 @@ fn write_all<K: Sink>(output: &mut K, piece: &[u8]) -> Result<(), Failed>
 }
 
 // The text of the block of a line after the header.
-fn take_event(
-    alloc: Global,
-    world: &mut World,
-    line: &[u8],
-) -> Result<Vec<u8>, OrMemory<LineFault>>
+fn take_event(alloc: Global, world: &mut World, line: &[u8]) -> Result<Vec<u8>, OrMemory<LineFault>>
     requires { world.old.taken < 2 ^ 63 }
     ensures ok { IfOk result (λ text. TakesLine (Some world.old) (Some world.new) line.now text.items) }
     ensures refused { IfErr result (RefusesLine (Some world.old) line.now) }

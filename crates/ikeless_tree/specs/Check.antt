@@ -54,12 +54,12 @@ is_named name e = bytes_eq e.name name
 -- the first fault of an entry after those before it
 unfoldable pub entry_fault : List SpdEntry → SpdEntry → Option TreeFault
 entry_fault before e =
-  if list_any (is_named e.name) before then Some faults.DuplicateName
-  else if not (is_spd_name e.name) then Some faults.BadName
-  else if not (is_window e.window) then Some faults.BadWindow
-  else if has_empty_range e.selector then Some faults.EmptyRange
-  else if has_many_ranges e.selector then Some (faults.Unsupported features.Ports)
-  else None
+    if list_any (is_named e.name) before then Some faults.DuplicateName
+    else if not (is_spd_name e.name) then Some faults.BadName
+    else if not (is_window e.window) then Some faults.BadWindow
+    else if has_empty_range e.selector then Some faults.EmptyRange
+    else if has_many_ranges e.selector then Some (faults.Unsupported features.Ports)
+    else None
 
 abbrev pub first_of : Option TreeFault → Option TreeFault → Option TreeFault
 first_of None rest = rest
@@ -87,11 +87,11 @@ is_key_length n = (n == 20) || (n == 36)
 -- the first fault of an association
 unfoldable pub sad_fault : SadEntry → Option TreeFault
 sad_fault e =
-  if not (is_sad_name e.name) then Some faults.BadName
-  else if nat_lt e.spi 256 then Some faults.BadSpi
-  else if not (is_key_length (length e.key)) then Some faults.BadKeyLength
-  else if not (is_window e.window) then Some faults.BadWindow
-  else if has_empty_range e.selector then Some faults.EmptyRange
-  else if has_many_ranges e.selector then Some (faults.Unsupported features.Ports)
-  else if not (is_one_family e.local e.remote) then Some (faults.Unsupported features.Tunnel)
-  else None
+    if not (is_sad_name e.name) then Some faults.BadName
+    else if nat_lt e.spi 256 then Some faults.BadSpi
+    else if not (is_key_length (length e.key)) then Some faults.BadKeyLength
+    else if not (is_window e.window) then Some faults.BadWindow
+    else if has_empty_range e.selector then Some faults.EmptyRange
+    else if has_many_ranges e.selector then Some (faults.Unsupported features.Ports)
+    else if not (is_one_family e.local e.remote) then Some (faults.Unsupported features.Tunnel)
+    else None

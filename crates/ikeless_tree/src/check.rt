@@ -9,6 +9,7 @@ use crate::reply::{Feature, TreeFault};
 use ikl_base::Addr;
 
 const MOST_ENTRIES: usize = 256;
+
 const MOST_RANGES: usize = 8;
 
 fn is_word(octet: u8) -> bool

@@ -9,10 +9,21 @@ pub type Names = ListOf<Name>;
 /// What a gateway tells its controller without being asked.
 #[derive(Debug, Drop)]
 pub enum Notice {
-    Acquire { policy: Name, selector: Selector },
-    Expire { name: Name, soft: bool, current: Limits },
-    SeqOverflow { name: Name },
-    BadSpi { spi: u32 },
+    Acquire {
+        policy: Name,
+        selector: Selector,
+    },
+    Expire {
+        name: Name,
+        soft: bool,
+        current: Limits,
+    },
+    SeqOverflow {
+        name: Name,
+    },
+    BadSpi {
+        spi: u32,
+    },
 }
 
 impl Duplicate for Notice {

@@ -20,4 +20,3 @@ pub use octets::{Name, Octets};
 pub use outside::{Sink, Source};
 pub use standard::{FromReader, ToWriter};
 pub use status::{LineFault, Status};
-

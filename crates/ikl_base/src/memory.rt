@@ -1,6 +1,7 @@
 // A source and a sink in memory, each with a list of the calls that are to fail or with none.
-ghost use Rattle.std.specs.Prelude.{◌≡◌, ◌+◌, ◌<◌, ◌≤◌, ◌↔◌, List, ℕ, Some, [], ◌++◌, length, drop, IfOk, IsOk, OnErr, IsErr, IsTrue, false, vec_len, vec_capacity};
-ghost use Rattle.ikl_base.specs.Outside.{WriteTakes, HasCause, TellsOutcome};
+ghost use Rattle.std.specs.Prelude.{◌≡◌, ◌+◌, ◌<◌, ◌≤◌, ◌↔◌, List, ℕ, Some, [], ◌++◌, length, drop, IfOk, IsOk, OnErr, IsErr, IsTrue, false, vec_len, vec_capacity, min, is_err, ◌-◌, ◌^◌, ◌==◌};
+ghost use Rattle.std.specs.List.{list_any};
+ghost use Rattle.ikl_base.specs.Outside.{ReadGives, WriteTakes, HasCause, TellsOutcome};
 ghost use Rattle.ikl_base.specs.Room.{HasRoom};
 
 use crate::fault::{Failed, NoMemory};
@@ -83,7 +84,14 @@ impl Source for FaultySource<'_> {
 
     ghost last_failed = { λ s. Some s.failed };
 
-    fn read(&mut self, buf: &mut [u8]) -> Result<usize, Failed> {
+    fn read(&mut self, buf: &mut [u8]) -> Result<usize, Failed>
+        ensures gives { ReadGives (Some self.old.source.rest.now) (Some self.new.source.rest.now) result buf.new }
+        ensures cause { HasCause self.old.faults self.new.faults result }
+        ensures outcome { TellsOutcome (Some self.new.failed) result }
+        ensures calls { self.new.calls ≡ min (self.old.calls + 1) (2 ^ 64 - 1) }
+        ensures fails { self.new.fails ≡ self.old.fails }
+        ensures listed { is_err result ≡ list_any (λ k. k == self.new.calls) self.old.fails.now }
+    {
         self.calls = self.calls.saturating_add(1);
         self.failed = self.fails.contains(&self.calls);
         if self.failed {

@@ -37,10 +37,10 @@ direction_of w = if bytes_eq w (codes "in") then Ok directions.In else if bytes_
 
 abbrev pub action_of : List ℕ → Result Action LineFault
 action_of w =
-  if bytes_eq w (codes "protect") then Ok actions.Protect
-  else if bytes_eq w (codes "bypass") then Ok actions.Bypass
-  else if bytes_eq w (codes "discard") then Ok actions.Discard
-  else Err faults.Entry
+    if bytes_eq w (codes "protect") then Ok actions.Protect
+    else if bytes_eq w (codes "bypass") then Ok actions.Bypass
+    else if bytes_eq w (codes "discard") then Ok actions.Discard
+    else Err faults.Entry
 
 -- any protocol, or a number below 256
 unfoldable pub proto_of : List ℕ → Result (Option ℕ) LineFault
@@ -60,20 +60,20 @@ ranges_of words = each range_of words
 -- any port, or 1 to 8 ranges joined by a plus
 unfoldable pub ports_of : List ℕ → Result (List Range) LineFault
 ports_of w =
-  if bytes_eq w (codes "any") then Ok []
-  else if nat_le (length (slice_split is_plus w)) 8 then ranges_of (slice_split is_plus w)
-  else Err faults.Entry
+    if bytes_eq w (codes "any") then Ok []
+    else if nat_le (length (slice_split is_plus w)) 8 then ranges_of (slice_split is_plus w)
+    else Err faults.Entry
 
 -- the selector of two prefixes, a protocol and two lists of ports
 unfoldable pub selector_of : List ℕ → List ℕ → List ℕ → List ℕ → List ℕ → Result Selector LineFault
 selector_of local remote proto local_ports remote_ports =
-  entry_prefix local >>= (λ l. entry_prefix remote >>= (λ r. proto_of proto >>= (λ p. ports_of local_ports >>= (λ lp. ports_of remote_ports >>= (λ rp.
+    entry_prefix local >>= (λ l. entry_prefix remote >>= (λ r. proto_of proto >>= (λ p. ports_of local_ports >>= (λ lp. ports_of remote_ports >>= (λ rp.
     Ok (record { local = l; remote = r; proto = p; local_ports = lp; remote_ports = rp }))))))
 
 -- a direction, the number that names the policy's associations, and an action
 unfoldable pub use_of : List ℕ → List ℕ → List ℕ → Result Use LineFault
 use_of direction reqid action =
-  direction_of direction >>= (λ d. entry_number (2 ^ 64 - 1) reqid >>= (λ n. action_of action >>= (λ a. Ok (record { direction = d; reqid = n; action = a }))))
+    direction_of direction >>= (λ d. entry_number (2 ^ 64 - 1) reqid >>= (λ n. action_of action >>= (λ a. Ok (record { direction = d; reqid = n; action = a }))))
 
 -- the selector of five parts
 unfoldable pub selector_in : List (List ℕ) → Result Selector LineFault
@@ -83,7 +83,7 @@ selector_in _ = Err faults.Entry
 -- the entry of nine parts: a name, what it is used for, and a selector; its window is 64
 unfoldable pub entry_in : List (List ℕ) → Result SpdEntry LineFault
 entry_in (name ∷ direction ∷ reqid ∷ action ∷ selector) =
-  use_of direction reqid action >>= (λ u. selector_in selector >>= (λ s.
+    use_of direction reqid action >>= (λ u. selector_in selector >>= (λ s.
     Ok (record { name = name; direction = u.direction; reqid = u.reqid; window = 64; selector = s; action = u.action })))
 entry_in _ = Err faults.Entry
 

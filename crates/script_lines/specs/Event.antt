@@ -26,9 +26,9 @@ unless_fault (Some fault) list = Err faults.Entry
 unfoldable pub policy_in : List (List ℕ) → Result Event LineFault
 policy_in [] = Err faults.Count
 policy_in (gateway ∷ entries) =
-  if nat_le (length entries) 256
-  then gateway_of gateway >>= (λ g. entries_of entries >>= (λ list. unless_fault (spd_fault list) list >>= (λ good. Ok (events.Policy g good))))
-  else Err faults.Count
+    if nat_le (length entries) 256
+    then gateway_of gateway >>= (λ g. entries_of entries >>= (λ list. unless_fault (spd_fault list) list >>= (λ good. Ok (events.Policy g good))))
+    else Err faults.Count
 
 unfoldable pub let_in : List Peer → List (List ℕ) → Result Event LineFault
 let_in gateways (gateway ∷ octets ∷ []) = known_of gateways gateway >>= (λ g. octets_of octets >>= (λ o. Ok (events.Let g o)))
@@ -38,9 +38,9 @@ let_in gateways _ = Err faults.Count
 unfoldable pub event_in : List Peer → List (List ℕ) → Result Event LineFault
 event_in gateways [] = Err faults.Word
 event_in gateways (w ∷ ws) =
-  if bytes_eq w (codes "policy") then policy_in ws
-  else if bytes_eq w (codes "let") then let_in gateways ws
-  else Err faults.Word
+    if bytes_eq w (codes "policy") then policy_in ws
+    else if bytes_eq w (codes "let") then let_in gateways ws
+    else Err faults.Word
 
 -- the event that a line without its LF says under these gateways, or the first reason why it says none
 unfoldable pub event_of : List Peer → List ℕ → Result Event LineFault

@@ -24,7 +24,7 @@ seq_last_of w = or_fault faults.Header (number_of (2 ^ 32 - 1) w) >>= (λ n. if 
 -- a name, an equals sign and an address
 unfoldable pub gateway_in : List (List ℕ) → Result Peer LineFault
 gateway_in (name ∷ address ∷ []) =
-  if is_gateway name then or_fault faults.Header (address_of address) >>= (λ a. Ok (record { name = name; address = a })) else Err faults.Header
+    if is_gateway name then or_fault faults.Header (address_of address) >>= (λ a. Ok (record { name = name; address = a })) else Err faults.Header
 gateway_in _ = Err faults.Header
 
 abbrev pub peer_of : List ℕ → Result Peer LineFault
@@ -50,15 +50,15 @@ all_go_together (p ∷ ps) = list_all (go_together p) ps && all_go_together ps
 -- 1 to 16 gateways that go together
 unfoldable pub gateways_of : List (List ℕ) → Result (List Peer) LineFault
 gateways_of ws =
-  if nat_le 1 (length ws) && nat_le (length ws) 16
-  then peers_of ws >>= (λ ps. if all_go_together ps then Ok ps else Err faults.Header)
-  else Err faults.Header
+    if nat_le 1 (length ws) && nat_le (length ws) 16
+    then peers_of ws >>= (λ ps. if all_go_together ps then Ok ps else Err faults.Header)
+    else Err faults.Header
 
 unfoldable pub header_in : List (List ℕ) → Result Header LineFault
 header_in (world ∷ seq_last ∷ number ∷ gateways) =
-  if bytes_eq world (codes "world") && bytes_eq seq_last (codes "seq-last")
-  then seq_last_of number >>= (λ n. gateways_of gateways >>= (λ ps. Ok (record { seq_last = n; gateways = ps })))
-  else Err faults.Header
+    if bytes_eq world (codes "world") && bytes_eq seq_last (codes "seq-last")
+    then seq_last_of number >>= (λ n. gateways_of gateways >>= (λ ps. Ok (record { seq_last = n; gateways = ps })))
+    else Err faults.Header
 header_in _ = Err faults.Header
 
 -- the header that a line without its LF is, or the reason why it is none

@@ -12,6 +12,7 @@ use std::alloc::Global;
 use yang_values::{read_number, read_prefix};
 
 const WINDOW: u32 = 64;
+
 const MOST_RANGES: usize = 8;
 
 fn number(word: &[u8], most: u64) -> Result<u64, LineFault>

@@ -80,11 +80,7 @@ fn policy(alloc: Global, words: &[&[u8]]) -> Result<Event, OrMemory<LineFault>>
 }
 
 #[tactic(auto, unfolding(crate::specs::Event::let_in))]
-fn packet(
-    alloc: Global,
-    gateways: &Peers,
-    words: &[&[u8]],
-) -> Result<Event, OrMemory<LineFault>>
+fn packet(alloc: Global, gateways: &Peers, words: &[&[u8]]) -> Result<Event, OrMemory<LineFault>>
     ensures { Gives result (let_in gateways.now (texts words.now)) }
 {
     match words {
@@ -98,11 +94,7 @@ fn packet(
 }
 
 #[tactic(auto, unfolding(crate::specs::Event::event_in))]
-fn event(
-    alloc: Global,
-    gateways: &Peers,
-    words: &[&[u8]],
-) -> Result<Event, OrMemory<LineFault>>
+fn event(alloc: Global, gateways: &Peers, words: &[&[u8]]) -> Result<Event, OrMemory<LineFault>>
     ensures { Gives result (event_in gateways.now (texts words.now)) }
 {
     match words {

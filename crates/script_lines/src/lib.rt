@@ -8,6 +8,6 @@ mod parts;
 mod write;
 
 pub use event::read_event;
-pub use hist_acts::{Act, Acts, Event, Header};
 pub use header::read_header;
+pub use hist_acts::{Act, Acts, Event, Header};
 pub use write::put_acts;

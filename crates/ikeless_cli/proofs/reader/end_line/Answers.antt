@@ -7,9 +7,9 @@ returns-in-Err-NoMemory-clause-err g c = ends-no_memory _ _ _ 10 _
 
 pub returns-in-Err-Refused-clause-err : goal.returns-in-Err-Refused-clause-err
 returns-in-Err-Refused-clause-err g c = ends-line _ _ _ _ c.in-Err-Refused.reason _ c.next_line-line.ensures (omega arith)
-  (let refused = rw c.in-Err-Refused.field-0-is at c.in-Err-Refused.ensures.refused in rw c.as_slice.ensures.value at refused)
+    (let refused = rw c.in-Err-Refused.field-0-is at c.in-Err-Refused.ensures.refused in rw c.as_slice.ensures.value at refused)
 
 pub returns-clause-err : goal.returns-clause-err
 returns-clause-err g c =
-  let wrote = c.in-Err.ensures.err in
-  breaks c.args.reader.now.world _ c.args.reader.now.line.items _ wrote.0 wrote.1 _ _ _ (rw c.as_slice.ensures.value at c.in-Ok.ensures.ok) (omega arith) (wrote.2 ∙ c.as_slice-2.ensures.value) wrote.3
+    let wrote = c.in-Err.ensures.err in
+    breaks c.args.reader.now.world _ c.args.reader.now.line.items _ wrote.0 wrote.1 _ _ _ (rw c.as_slice.ensures.value at c.in-Ok.ensures.ok) (omega arith) (wrote.2 ∙ c.as_slice-2.ensures.value) wrote.3

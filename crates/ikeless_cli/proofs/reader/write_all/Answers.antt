@@ -13,17 +13,20 @@ front_and_more front rest n piece e = append_assoc front (take n rest) (drop n r
 
 pub loop-rest-preserved : goal.loop-rest-preserved
 loop-rest-preserved g c =
-  let old = c.loop-rest.invariant.so_far in
-  let cut : c.split_at.result.1.now ≡ drop c.in-Ok.n c.loop-rest.rest.now = cc in
-  record {
-    so_far = (old.0 ++ take c.in-Ok.n c.loop-rest.rest.now, front_and_rest old.0 c.loop-rest.rest.now c.in-Ok.n c.split_at.result.1.now c.args.piece.now cut old.1, gains_more _ _ _ _ _ old.2 c.in-Ok.ensures.takes.octets);
-    later = omega (arith, c.in-Ok.ensures.cause.later, c.loop-rest.invariant.later);
-    calm = λ before. c.in-Ok.ensures.outcome
-  }
+    let old = c.loop-rest.invariant.so_far in
+    let cut : c.split_at.result.1.now ≡ drop c.in-Ok.n c.loop-rest.rest.now = cc in
+    record {
+      so_far = (old.0 ++ take c.in-Ok.n c.loop-rest.rest.now, front_and_rest old.0 c.loop-rest.rest.now c.in-Ok.n c.split_at.result.1.now c.args.piece.now cut old.1, gains_more _ _ _ _ _ old.2 c.in-Ok.ensures.takes.octets);
+      later = omega (arith, c.in-Ok.ensures.cause.later, c.loop-rest.invariant.later);
+      calm = λ before. c.in-Ok.ensures.outcome;
+    }
 
 pub returns-in-Err-clause-err : goal.returns-in-Err-clause-err
 returns-in-Err-clause-err g c =
-  let old = c.loop-rest.invariant.so_far in
-  let last = c.in-Err.ensures.takes in
-  (old.0 ++ take last.0 c.loop-rest.rest.now, drop last.0 c.loop-rest.rest.now,
-    front_and_more old.0 c.loop-rest.rest.now last.0 c.args.piece.now old.1, gains_more _ _ _ _ _ old.2 last.2)
+    let old = c.loop-rest.invariant.so_far in
+    let last = c.in-Err.ensures.takes in (
+      old.0 ++ take last.0 c.loop-rest.rest.now,
+      drop last.0 c.loop-rest.rest.now,
+      front_and_more old.0 c.loop-rest.rest.now last.0 c.args.piece.now old.1,
+      gains_more _ _ _ _ _ old.2 last.2,
+    )

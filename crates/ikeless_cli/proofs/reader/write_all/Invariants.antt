@@ -6,7 +6,7 @@ abbrev pub invariant-loop-rest : goal.invariant-loop-rest
 invariant-loop-rest g l = record {
   so_far : (front : List ℕ) × (front ++ l.rest ≡ l.piece) × Gains (g.K.Sink.written l.initial.output) (g.K.Sink.written l.output) front;
   later : g.K.Sink.faults l.initial.output ≤ g.K.Sink.faults l.output;
-  calm : IsCalm (g.K.Sink.last_failed l.initial.output) → IsCalm (g.K.Sink.last_failed l.output)
+  calm : IsCalm (g.K.Sink.last_failed l.initial.output) → IsCalm (g.K.Sink.last_failed l.output);
 }
 
 abbrev pub decreases-loop-rest : goal.decreases-loop-rest

@@ -1,0 +1,51 @@
+-- The exit number and the printed name of each status, of this project.
+use Rattle.std.specs.Prelude.{ℕ, List, codes}
+use Rattle.ikl_base.specs.declared.status.Status.{Status}
+use Rattle.ikl_base.specs.declared.status.Status.TheVariants as statuses
+use Rattle.ikl_base.specs.declared.status.LineFault.{LineFault}
+use Rattle.ikl_base.specs.declared.status.LineFault.TheVariants as faults
+
+abbrev pub number_of : Status → ℕ
+number_of statuses.Done = 0
+number_of statuses.Words = 2
+number_of (statuses.Line line reason) = 3
+number_of statuses.ReadFault = 4
+number_of statuses.WriteFault = 5
+number_of statuses.NoMemory = 6
+number_of (statuses.Forged line octets) = 7
+number_of statuses.TooLong = 8
+number_of statuses.DeviceFault = 9
+number_of statuses.TurnsSpent = 10
+number_of statuses.LinkFault = 11
+number_of statuses.BadReply = 12
+number_of statuses.Denied = 13
+
+abbrev pub name_text : Status → List ℕ
+name_text statuses.Done = codes "Done"
+name_text statuses.Words = codes "Words"
+name_text (statuses.Line line reason) = codes "Line"
+name_text statuses.ReadFault = codes "ReadFault"
+name_text statuses.WriteFault = codes "WriteFault"
+name_text statuses.NoMemory = codes "NoMemory"
+name_text (statuses.Forged line octets) = codes "Forged"
+name_text statuses.TooLong = codes "TooLong"
+name_text statuses.DeviceFault = codes "DeviceFault"
+name_text statuses.TurnsSpent = codes "TurnsSpent"
+name_text statuses.LinkFault = codes "LinkFault"
+name_text statuses.BadReply = codes "BadReply"
+name_text statuses.Denied = codes "Denied"
+
+abbrev pub reason_text : LineFault → List ℕ
+reason_text faults.Long = codes "long"
+reason_text faults.End = codes "end"
+reason_text faults.Octet = codes "octet"
+reason_text faults.Header = codes "header"
+reason_text faults.Word = codes "word"
+reason_text faults.Count = codes "count"
+reason_text faults.Gateway = codes "gateway"
+reason_text faults.Number = codes "number"
+reason_text faults.Hex = codes "hex"
+reason_text faults.Prefix = codes "prefix"
+reason_text faults.Limits = codes "limits"
+reason_text faults.Entry = codes "entry"
+reason_text faults.Mode = codes "mode"
