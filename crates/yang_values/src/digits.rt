@@ -125,7 +125,8 @@ pub fn read_hex(alloc: Global, t: &[u8]) -> Result<Octets, OrMemory<BadValue>>
 
 // Adds each octet as a colon and two hex digits.
 fn put_pairs(out: &mut Vec<u8>, octets: &[u8]) -> Result<(), NoMemory>
-    ensures { OnOk result (out.new.items ≡ out.old.items ++ flat_map (λ octet. 58 ∷ pair_text octet) octets.now) }
+    ensures { OnOk result (out.new.items
+        ≡ out.old.items ++ flat_map (λ octet. 58 ∷ pair_text octet) octets.now) }
 {
     for octet in octets {
         out.push(b':')?;

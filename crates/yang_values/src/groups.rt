@@ -199,7 +199,8 @@ fn put_group(out: &mut Vec<u8>, group: u16) -> Result<(), NoMemory>
 
 // Adds each group behind a colon.
 fn put_behind(out: &mut Vec<u8>, groups: &[u16]) -> Result<(), NoMemory>
-    ensures { OnOk result (out.new.items ≡ out.old.items ++ flat_map (λ group. 58 ∷ group_text group) groups.now) }
+    ensures { OnOk result (out.new.items
+        ≡ out.old.items ++ flat_map (λ group. 58 ∷ group_text group) groups.now) }
 {
     for group in groups {
         out.push(b':')?;

@@ -16,7 +16,8 @@ pub fn u64_read_again()
 
 /// The digits of some octets are read as those octets.
 pub fn digits_read_again()
-    ensures { (first : ℕ) (rest : List ℕ) → All (λ o. o < 256) (first ∷ rest) → digits_of (digits_text (first ∷ rest)) ≡ Ok (first ∷ rest) }
+    ensures { (first : ℕ) (rest : List ℕ) → All (λ o. o < 256) (first ∷ rest)
+        → digits_of (digits_text (first ∷ rest)) ≡ Ok (first ∷ rest) }
 {}
 
 /// The canonical `hex-string` of octets is read as those octets.

@@ -24,7 +24,8 @@ pub(crate) fn cut(t: &[u8], mark: u8) -> Option<(&[u8], &[u8])>
 
 /// The text up to the first mark, and what stands behind it, where there is one.
 pub(crate) fn first_part(t: &[u8], mark: u8) -> (&[u8], Option<&[u8]>)
-    ensures value { slice_split (λ c. c == mark) t.now ≡ result.0.now ∷ parts_in (λ c. c == mark) (option_copied result.1) }
+    ensures value { slice_split (λ c. c == mark) t.now
+        ≡ result.0.now ∷ parts_in (λ c. c == mark) (option_copied result.1) }
     ensures shorter { IfSome result.1 (λ rest. length rest.now < length t.now) }
 {
     match cut(t, mark) {
