@@ -12,7 +12,7 @@ use borrow.Rule.Slice.PartMut.{put_mid}
 use lib.Lanes.{chunk, put_chunk, zip2, Each1}
 use Rattle.gf_poly.specs.Poly.{from_bits}
 use Rattle.gf_poly.proofs.Tables.{all_below, all_below_at}
-use Rattle.gcm_seal.specs.Gcm.{reversed}
+use Rattle.gcm_seal.specs.Gcm.{add_blocks, reversed}
 use Rattle.gcm_seal.specs.declared.lanes.TheConstants.{HIGH_REVERSED, LOW_REVERSED}
 
 abbrev pub AreOctets : List ℕ → Type 0
@@ -107,3 +107,11 @@ added xs ys at k le long above below =
     ∙ ap (λ (x : ℕ). bit_xor x (get_or ys j 0))
     (get_or-chunk 0 16 part j 0 (omega arith) ∙ ap (λ (m : ℕ). get_or part m 0) (zero-add j) ∙ get_or-take n (drop at xs) j 0 (omega arith) ∙ get_or-drop at xs j 0
     ∙ ap (λ (m : ℕ). get_or xs m 0) place)
+
+-- ---- a sum of two blocks
+pub sum_is : (xs ys : List ℕ) → length xs ≡ 16 → length ys ≡ 16 → zip2 bit_xor xs ys ≡ add_blocks xs ys
+sum_is xs ys p q =
+    let f : ℕ → ℕ = λ j. bit_xor (slice_index xs j) (slice_index ys j) in
+    let long : length (zip2 bit_xor xs ys) ≡ 16 = length-zip2 bit_xor xs ys (p ∙ sym q) ∙ p in
+    same_number_lists (zip2 bit_xor xs ys) (add_blocks xs ys) (long ∙ sym (length-map-range_with_len f 0 16)) (λ k lt.
+    get_or-zip2 bit_xor xs ys k 0 0 0 (omega arith) (omega arith) ∙ sym (get_or-map-range_with_len f 0 16 k k 0 (omega arith) (zero-add k)))

@@ -2,7 +2,7 @@
 
 ghost use Rattle.std.specs.Prelude.{◌≡◌, ℕ, ◌+◌, ◌-◌, ◌/◌, ◌<◌, ◌≤◌, ◌^◌, bit_and, bit_xor, length, map, slice_index};
 ghost use Rattle.std.specs.List.{range_with_len};
-ghost use Rattle.gcm_seal.specs.Gcm.{reversed};
+ghost use Rattle.gcm_seal.specs.Gcm.{add_blocks, reversed};
 
 use std::simd::prelude::*;
 
@@ -83,6 +83,13 @@ pub(crate) fn block_at(octets: &[u8], at: usize) -> u8x16
     } else {
         u8x16::from_array(filled_up(octets, at))
     }
+}
+
+/// The sum of two blocks.
+pub(crate) fn sum(a: &[u8; 16], b: &[u8; 16]) -> [u8; 16]
+    ensures { result ≡ add_blocks a.now b.now }
+{
+    (u8x16::from_array(*a) ^ u8x16::from_array(*b)).to_array()
 }
 
 /// Adds `stream` to the sixteen octets of `text` from `at` on.

@@ -6,6 +6,7 @@ ghost use Rattle.gcm_seal.specs.Gcm.{add_blocks, block_of, counter, hash_key, le
 
 use crate::counter::counter;
 use crate::field::{block_of, element_at};
+use crate::lanes::sum;
 use aes_block::KeySchedule;
 
 pub(crate) fn hash_key(k: &KeySchedule) -> u128
@@ -32,24 +33,6 @@ pub(crate) fn length_block(aad: &[u8], sealed: &[u8]) -> [u8; 16]
 pub(crate) fn masked(k: &KeySchedule, nonce: &[u8; 12], p: u128) -> [u8; 16]
     ensures { result ≡ add_blocks (cipher_of k.now (counter nonce.now 0)) (block_of p) }
 {
-    let g = block_of(p);
     let mask = k.encrypt(&counter(nonce, 0));
-    [
-        mask[0] ^ g[0],
-        mask[1] ^ g[1],
-        mask[2] ^ g[2],
-        mask[3] ^ g[3],
-        mask[4] ^ g[4],
-        mask[5] ^ g[5],
-        mask[6] ^ g[6],
-        mask[7] ^ g[7],
-        mask[8] ^ g[8],
-        mask[9] ^ g[9],
-        mask[10] ^ g[10],
-        mask[11] ^ g[11],
-        mask[12] ^ g[12],
-        mask[13] ^ g[13],
-        mask[14] ^ g[14],
-        mask[15] ^ g[15],
-    ]
+    sum(&mask, &block_of(p))
 }

@@ -6,4 +6,4 @@ use Rattle.gcm_seal.proofs.tag.masked.Goals as goal
 pub returns : goal.returns
 returns c =
     let mask = c.encrypt-mask.ensures ∙ ap (cipher_of c.args.k.now) c.counter.ensures in
-    (λ i. add_blocks (mask i) (c.block_of-g.ensures i))
+    c.sum.ensures ∙ (λ i. add_blocks (mask i) (c.block_of.ensures i))
