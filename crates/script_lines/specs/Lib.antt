@@ -5,3 +5,4 @@ pub mod Header
 pub mod Event
 pub mod Text
 pub mod Act
+pub mod Spelling
