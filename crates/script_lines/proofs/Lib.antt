@@ -1,1 +1,5 @@
 pub mod EachLemmas
+pub mod PartText
+pub mod EntryText
+pub mod ActText
+pub mod SpelledAct

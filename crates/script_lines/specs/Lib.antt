@@ -4,3 +4,5 @@ pub mod Entry
 pub mod Header
 pub mod Event
 pub mod Text
+pub mod Act
+pub mod Spelling

@@ -15,7 +15,8 @@ use ikl_base::{LineFault, Name, Octets, OrMemory};
 use std::alloc::Global;
 use yang_values::read_digits;
 
-const MOST_ENTRIES: usize = 256;
+/// The most entries of a list.
+pub const MOST_ENTRIES: usize = 256;
 
 fn gateway(alloc: Global, word: &[u8]) -> Result<Name, OrMemory<LineFault>>
     ensures { Gives result (gateway_of word.now) }
@@ -36,7 +37,8 @@ fn is_known(gateways: &Peers, word: &[u8]) -> bool
         .any(|peer| peer.name.as_slice() == word)
 }
 
-fn known(alloc: Global, gateways: &Peers, word: &[u8]) -> Result<Name, OrMemory<LineFault>>
+/// The name of one of the gateways.
+pub fn known(alloc: Global, gateways: &Peers, word: &[u8]) -> Result<Name, OrMemory<LineFault>>
     ensures { Gives result (known_of gateways.now word.now) }
 {
     if is_known(gateways, word) {
@@ -46,7 +48,8 @@ fn known(alloc: Global, gateways: &Peers, word: &[u8]) -> Result<Name, OrMemory<
     }
 }
 
-fn octets(alloc: Global, word: &[u8]) -> Result<Octets, OrMemory<LineFault>>
+/// The octets that hex digits or a dash stand for.
+pub fn octets(alloc: Global, word: &[u8]) -> Result<Octets, OrMemory<LineFault>>
     ensures { Gives result (octets_of word.now) }
 {
     if is_word(word, b"-") {

@@ -1,13 +1,17 @@
 //! The lines of scripts and transcripts: events and acts as text, each act in one spelling.
 #![tactic(auto)]
 
+mod act;
 mod entry;
 mod event;
 mod header;
+mod laws;
 mod parts;
 mod write;
 
+pub use act::read_act;
 pub use event::read_event;
 pub use header::read_header;
+pub use laws::{act_read_again, event_read_again, read_acts_are_spelled};
 pub use hist_acts::{Act, Acts, Event, Header};
-pub use write::put_acts;
+pub use write::{put_acts, write_act};

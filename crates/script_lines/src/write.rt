@@ -1,11 +1,12 @@
 // Writes the lines of a transcript.
-ghost use Rattle.std.specs.Prelude.{◌≡◌, ◌++◌, ◌∷◌, [], OnOk, List, ℕ, codes};
+ghost use Rattle.std.specs.Prelude.{◌≡◌, ◌++◌, ◌∷◌, [], IfOk, OnOk, List, ℕ, codes};
 ghost use Rattle.std.specs.List.{flat_map};
 ghost use Rattle.script_lines.specs.Text.{hex_text, why_text, direction_text, action_text, proto_text, range_text, more_ranges_text, ports_text, prefixes_text, both_ports_text, selector_text, name_text, use_text, entry_text, entries_text, act_text, line_of, text_of};
 
-use hist_acts::{Act, Acts};
+use hist_acts::{Act, Acts, Header};
 use ikeless_tree::{Action, Direction, DropWhy, Entries, Ports, Range, Selector, SpdEntry};
 use ikl_base::{Name, NoMemory, Octets};
+use std::alloc::Global;
 use yang_values::{put_digits, put_number, put_prefix};
 
 fn put(out: &mut Vec<u8>, text: &[u8]) -> Result<(), NoMemory>
@@ -202,8 +203,9 @@ fn put_drop(out: &mut Vec<u8>, g: &Name, why: DropWhy) -> Result<(), NoMemory>
     put_why(out, why)
 }
 
+/// Adds the line of an act, without its LF.
 #[tactic(auto, unfolding(crate::specs::Text::act_text))]
-fn put_act(out: &mut Vec<u8>, act: &Act) -> Result<(), NoMemory>
+pub fn put_act(out: &mut Vec<u8>, act: &Act) -> Result<(), NoMemory>
     ensures { OnOk result (out.new.items ≡ out.old.items ++ act_text act.now) }
 {
     match act {
@@ -227,4 +229,13 @@ pub fn put_acts(out: &mut Vec<u8>, acts: &Acts) -> Result<(), NoMemory>
         put_octet(out, b'\n')?;
     }
     Ok(())
+}
+
+/// The line of an act, without its LF: the one spelling that it has.
+pub fn write_act(alloc: Global, _h: &Header, a: &Act) -> Result<Octets, NoMemory>
+    ensures { IfOk result (λ text. text ≡ act_text a.now) }
+{
+    let mut out = Vec::new(alloc);
+    put_act(&mut out, a)?;
+    Ok(Octets::from_items(out))
 }
