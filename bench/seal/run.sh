@@ -12,7 +12,7 @@ for crate in gf_poly aes_block gcm_seal; do
         cp -r "$root/crates/$crate/$part" "$scratch/crates/$crate/"
     done
 done
-cp "$here/main.rt" "$scratch/crates/seal_bench/src/main.rt"
+cp "$here/main.rt.txt" "$scratch/crates/seal_bench/src/main.rt"
 printf '%s\n' 'gf_poly:' 'aes_block: gf_poly' 'gcm_seal: aes_block gf_poly' \
     'seal_bench: gcm_seal aes_block' > "$scratch/crates.txt"
 cd "$scratch/crates/seal_bench"
