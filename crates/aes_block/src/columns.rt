@@ -1,6 +1,6 @@
 //! Rounds on columns of 32 bits. The octet in row 0 of a column is the highest of its number.
 
-ghost use Rattle.std.specs.Prelude.{◌≡◌, ◌+◌, ◌*◌, ◌<◌, ◌≤◌, [], ◌∷◌, map, slice_index};
+ghost use Rattle.std.specs.Prelude.{◌≡◌, ◌<◌, [], ◌∷◌, map, slice_index};
 ghost use Rattle.std.specs.Int.{w32, to_be_bytes};
 ghost use Rattle.aes_block.specs.Aes.{add_key, add_words, contribution, mix_columns, mix_word, shift_rows, square, sub_octets, sub_word};
 

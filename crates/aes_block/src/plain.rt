@@ -2,7 +2,7 @@
 //! key, octet by octet. It is slow, and equal to `KeySchedule::encrypt` for every key and block, since
 //! both have the same contract.
 
-ghost use Rattle.std.specs.Prelude.{◌≡◌, ◌+◌, ◌-◌, ◌*◌, ◌<◌, ◌≤◌, [], ◌∷◌, map};
+ghost use Rattle.std.specs.Prelude.{◌≡◌, ◌<◌, map};
 ghost use Rattle.std.specs.Int.{w32, to_be_bytes};
 ghost use Rattle.aes_block.specs.Aes.{add_key, mix_columns, mix_word, shift_rows, sub_octets, times};
 ghost use Rattle.aes_block.specs.Schedule.{cipher_of};

@@ -1,6 +1,6 @@
 //! The key schedule (FIPS 197, section 5.2) and the cipher (section 5.1).
 
-ghost use Rattle.std.specs.Prelude.{◌≡◌, ℕ, ◌+◌, ◌-◌, ◌*◌, ◌<◌, ◌≤◌, ◌⊎◌, List, [], ◌∷◌, slice_index_or, length, map, take};
+ghost use Rattle.std.specs.Prelude.{◌≡◌, ◌+◌, ◌%◌, ◌*◌, ◌<◌, ◌≤◌, length, map, take};
 ghost use Rattle.std.specs.Int.{w32, to_be_bytes};
 ghost use Rattle.aes_block.specs.Aes.{aes, cipher, first_words, key_word, next_word, round_constant, words};
 
@@ -14,8 +14,9 @@ pub struct KeySchedule {
     // Words 0, .., 4 rounds + 3, then zeros.
     pub(crate) words: [u32; 60],
     pub(crate) rounds: usize,
-    ghost some: { 1 ≤ rounds },
+    ghost some: { 2 ≤ rounds },
     ghost few: { rounds < 15 },
+    ghost even: { rounds % 2 ≡ 0 },
 }
 
 fn round_constant(i: usize) -> u8
@@ -113,9 +114,10 @@ impl KeySchedule {
     pub fn encrypt(&self, b: &[u8; 16]) -> [u8; 16]
         ensures { result ≡ cipher_of self.now b.now }
     {
-        let mut state = first(&self.words, b);
-        'rounds: for i in 0..self.rounds - 1 {
-            state = round(&self.words, i + 1, &state);
+        let mut state = round(&self.words, 1, &first(&self.words, b));
+        'pairs: for i in 0..(self.rounds - 2) / 2 {
+            let middle = round(&self.words, 2 * i + 2, &state);
+            state = round(&self.words, 2 * i + 3, &middle);
         }
         last(&self.words, self.rounds, &state)
     }

@@ -1,11 +1,11 @@
 //! Fields, `seal` and `open`.
 
-ghost use Rattle.std.specs.Prelude.{◌≡◌, ℕ, ◌+◌, ◌-◌, ◌^◌, ◌<◌, ◌≤◌, List, ◌++◌, MatchResult, ◌≢◌, drop, length, slice_index, slice_range, take};
+ghost use Rattle.std.specs.Prelude.{◌≡◌, ◌≢◌, ◌+◌, ◌^◌, ◌<◌, ◌≤◌, ◌++◌, MatchResult, drop, length, slice_range, take};
 ghost use Rattle.std.specs.Bool.{OnFalse, OnTrue};
 ghost use Rattle.std.specs.Int.{w32, w64, to_be_bytes};
 ghost use Rattle.aes_block.specs.Schedule.{cipher_of};
 ghost use Rattle.gcm_seal.specs.Gcm.{Opens, tag_of};
-ghost use Rattle.esp_frame.specs.Esp.{EspOpens, Inner, NoInner, aad_of, esp, esp_len, icv_of, iv_of, seq_of, spi_of, text_of, with_text};
+ghost use Rattle.esp_frame.specs.Esp.{EspOpens, Inner, esp, esp_len, icv_of, iv_of, seq_of, spi_of, text_of, with_text};
 ghost use Rattle.esp_frame.specs.Key.{keying_of};
 ghost use Rattle.esp_frame.specs.Open.{Refused, open_leaves, open_result};
 

@@ -1,6 +1,6 @@
 //! Padding, pad length and next header (RFC 4303, sections 2.4 to 2.6).
 
-ghost use Rattle.std.specs.Prelude.{◌≡◌, ℕ, ◌+◌, ◌-◌, ◌%◌, ◌<◌, ◌≤◌, [], ◌∷◌, ◌++◌, MatchOption, length, slice_index, take};
+ghost use Rattle.std.specs.Prelude.{◌≡◌, ◌+◌, ◌-◌, ◌≤◌, [], ◌∷◌, ◌++◌, MatchOption, length, slice_index, take};
 ghost use Rattle.esp_frame.specs.Esp.{Inner, NoInner, pad_len, padded, padding};
 
 // The least number of octets of padding after `len` octets.

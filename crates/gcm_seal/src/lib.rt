@@ -3,7 +3,7 @@
 //! `specs/Gcm.antt` has the definition, over any block cipher: `sealed`, `tag_of` and `Opens`.
 #![tactic(auto)]
 
-ghost use Rattle.std.specs.Prelude.{◌≡◌, ◌≢◌, ℕ, ◌+◌, ◌-◌, ◌*◌, ◌<◌, ◌≤◌, List, MatchResult, length};
+ghost use Rattle.std.specs.Prelude.{◌≡◌, ◌≢◌, ◌≤◌, MatchResult, length};
 ghost use Rattle.aes_block.specs.Schedule.{cipher_of};
 ghost use Rattle.gcm_seal.specs.Gcm.{Opens, sealed, tag_of};
 ghost use Rattle.gcm_seal.specs.Laws.{OpensOnce, SealsOpen, TagsOpen};

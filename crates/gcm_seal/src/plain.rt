@@ -2,7 +2,7 @@
 //! product of the field, one coefficient at a time. These are slow, and equal to the calls at the
 //! crate's root for every key, nonce, additional data and text, since both have the same contract.
 
-ghost use Rattle.std.specs.Prelude.{◌≡◌, ◌≢◌, ℕ, ◌+◌, ◌*◌, ◌<◌, ◌≤◌, ◌^◌, ◌++◌, List, MatchResult, length};
+ghost use Rattle.std.specs.Prelude.{◌≡◌, ◌≢◌, ℕ, ◌+◌, ◌<◌, ◌≤◌, ◌^◌, ◌++◌, List, MatchResult, length};
 ghost use Rattle.std.specs.Simd.Lanes.{Each1};
 ghost use Rattle.aes_block.specs.Schedule.{cipher_of};
 ghost use Rattle.gf_poly.specs.Poly.{multiply, power_sum};

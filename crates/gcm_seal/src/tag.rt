@@ -1,6 +1,6 @@
 //! The parts of a tag.
 
-ghost use Rattle.std.specs.Prelude.{◌≡◌, ℕ, ◌+◌, ◌*◌, ◌<◌, ◌≤◌, length};
+ghost use Rattle.std.specs.Prelude.{◌≡◌, ◌≤◌, length};
 ghost use Rattle.aes_block.specs.Schedule.{cipher_of};
 ghost use Rattle.gcm_seal.specs.Gcm.{add_blocks, block_of, counter, hash_key, lengths};
 
