@@ -176,7 +176,7 @@ good_entry before e none =
   where
     by_tests : (twice named window empty many : Bool)
         → cond twice (Some tree_faults.DuplicateName) (cond (not named) (Some tree_faults.BadName) (cond (not window) (Some tree_faults.BadWindow)
-          (cond empty (Some tree_faults.EmptyRange) (cond many (Some (tree_faults.Unsupported features.Ports)) None)))) ≡ None
+        (cond empty (Some tree_faults.EmptyRange) (cond many (Some (tree_faults.Unsupported features.Ports)) None)))) ≡ None
         → (named ≡ true) × (many ≡ false)
     by_tests false true true false false h = (refl, refl)
     by_tests false true true false true h = cc

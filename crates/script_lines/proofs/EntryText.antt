@@ -214,16 +214,31 @@ are_parts : (e : SpdEntry) → IsEntry e → is_spd_name e.name ≡ true → All
 unfolding entry_rest selector_parts
 are_parts e is name =
     let s = is.selector in
-    let octets : list_all is_path_octet e.name ≡ true = (and_parts _ _ name).1 in
-    (also is_path_octet is_part path_part e.name octets,
-    (direction_is_part e.direction,
-    (number_is_part e.reqid is.reqid,
-    (action_is_part e.action,
-    (prefix_is_part e.selector.local s.local,
-    (prefix_is_part e.selector.remote s.remote,
-    (proto_is_part e.selector.proto s.proto,
-    (ports_are_part e.selector.local_ports (recursion_from_All ArePorts e.selector.local_ports s.local_ports),
-    (ports_are_part e.selector.remote_ports (recursion_from_All ArePorts e.selector.remote_ports s.remote_ports), tt)))))))))
+    let octets : list_all is_path_octet e.name ≡ true = (and_parts _ _ name).1 in (
+      also is_path_octet is_part path_part e.name octets,
+      (
+        direction_is_part e.direction,
+        (
+          number_is_part e.reqid is.reqid,
+          (
+            action_is_part e.action,
+            (
+              prefix_is_part e.selector.local s.local,
+              (
+                prefix_is_part e.selector.remote s.remote,
+                (
+                  proto_is_part e.selector.proto s.proto,
+                  (
+                    ports_are_part e.selector.local_ports (recursion_from_All ArePorts e.selector.local_ports s.local_ports),
+                    (ports_are_part e.selector.remote_ports (recursion_from_All ArePorts e.selector.remote_ports s.remote_ports), tt),
+                  ),
+                ),
+              ),
+            ),
+          ),
+        ),
+      ),
+    )
 
 no_comma : (t : List ℕ) → list_all is_part t ≡ true → All (λ c. is_comma c ≡ false) t
 no_comma t all = lacks_mark is_part is_comma (λ c. apart is_part c 44 refl) t all
