@@ -1,6 +1,7 @@
-#!/bin/sh
+#!/bin/bash
 # Times the sealing of this repository beside openssl without AES-NI and PCLMULQDQ (README.md).
 set -eu
+TIMEFORMAT=%U
 here=$(cd "$(dirname "$0")" && pwd)
 root=$(cd "$here/../.." && pwd)
 scratch=${1:-$(mktemp -d)}
@@ -18,10 +19,11 @@ printf '%s\n' 'gf_poly:' 'aes_block: gf_poly' 'gcm_seal: aes_block gf_poly' \
 cd "$scratch/crates/seal_bench"
 rt run > run.log 2>&1 || { tail -20 run.log; exit 1; }
 for turn in 1 2 3 4 5 6 7 8; do
-    ours=$(./out/seal_bench)
-    theirs=$(OPENSSL_ia32cap="~0x200000200000000" openssl speed -evp aes-128-gcm -bytes 1400 -seconds 1 2>/dev/null |
+    ours=$({ time ./out/seal_bench > /dev/null; } 2>&1)
+    theirs=$(OPENSSL_ia32cap="~0x200000200000000" openssl speed -evp aes-128-gcm -bytes 1400 -seconds 2 2>/dev/null |
         awk '/^AES-128-GCM/ { sub("k", "", $2); printf "%d", $2 / 1000 }')
     echo "$ours $theirs"
 done | awk '
-    { printf "seal_in_place %d, openssl masked %d\n", $1, $2; if ($1 > a) a = $1; if ($2 > b) b = $2 }
-    END { printf "best: %d and %d, ratio %.2f\n", a, b, a / b }'
+    { a[NR] = 240000 * 1400 / $1 / 1000000; b[NR] = $2
+      printf "seal_in_place %d, openssl masked %d, ratio %.2f\n", a[NR], b[NR], a[NR] / b[NR]; s += a[NR]; t += b[NR] }
+    END { printf "mean of %d turns: %d and %d, ratio %.2f\n", NR, s / NR, t / NR, s / t }'
