@@ -186,15 +186,15 @@ entry_rest e = direction_text e.direction ∷ decimal e.reqid ∷ action_text e.
 abbrev at_window : SpdEntry → ℕ → SpdEntry
 at_window e w = record { name = e.name; direction = e.direction; reqid = e.reqid; window = w; selector = e.selector; action = e.action }
 
-in_parts : (e : SpdEntry) → IsEntry e → has_many_ranges e.selector ≡ false → entry_in (e.name ∷ entry_rest e) ≡ Ok e
+in_parts : (e : SpdEntry) → IsEntry e → e.window ≡ 64 → has_many_ranges e.selector ≡ false → entry_in (e.name ∷ entry_rest e) ≡ Ok e
 unfolding entry_in use_of entry_rest
-in_parts e is few =
+in_parts e is window few =
     let d = direction_read e.direction in
     let small = is.reqid in
     let n = number_read e.reqid (2 ^ 64 - 1) small (omega arith) in
     let a = action_read e.action in
     let s = selector_read e.selector is.selector few in
-    rw (d, n, a, s) (windowed e.window is.window)
+    rw (d, n, a, s) (windowed e.window window)
   where
     windowed : (w : ℕ) → w ≡ 64 → ◌≡◌ {A = Result SpdEntry LineFault} (Ok (at_window e 64)) (Ok (at_window e w))
     windowed w is = rw is refl
@@ -214,26 +214,41 @@ are_parts : (e : SpdEntry) → IsEntry e → is_spd_name e.name ≡ true → All
 unfolding entry_rest selector_parts
 are_parts e is name =
     let s = is.selector in
-    let octets : list_all is_path_octet e.name ≡ true = (and_parts _ _ name).1 in
-    (also is_path_octet is_part path_part e.name octets,
-    (direction_is_part e.direction,
-    (number_is_part e.reqid is.reqid,
-    (action_is_part e.action,
-    (prefix_is_part e.selector.local s.local,
-    (prefix_is_part e.selector.remote s.remote,
-    (proto_is_part e.selector.proto s.proto,
-    (ports_are_part e.selector.local_ports (recursion_from_All ArePorts e.selector.local_ports s.local_ports),
-    (ports_are_part e.selector.remote_ports (recursion_from_All ArePorts e.selector.remote_ports s.remote_ports), tt)))))))))
+    let octets : list_all is_path_octet e.name ≡ true = (and_parts _ _ name).1 in (
+      also is_path_octet is_part path_part e.name octets,
+      (
+        direction_is_part e.direction,
+        (
+          number_is_part e.reqid is.reqid,
+          (
+            action_is_part e.action,
+            (
+              prefix_is_part e.selector.local s.local,
+              (
+                prefix_is_part e.selector.remote s.remote,
+                (
+                  proto_is_part e.selector.proto s.proto,
+                  (
+                    ports_are_part e.selector.local_ports (recursion_from_All ArePorts e.selector.local_ports s.local_ports),
+                    (ports_are_part e.selector.remote_ports (recursion_from_All ArePorts e.selector.remote_ports s.remote_ports), tt),
+                  ),
+                ),
+              ),
+            ),
+          ),
+        ),
+      ),
+    )
 
 no_comma : (t : List ℕ) → list_all is_part t ≡ true → All (λ c. is_comma c ≡ false) t
 no_comma t all = lacks_mark is_part is_comma (λ c. apart is_part c 44 refl) t all
 
-pub entry_read : (e : SpdEntry) → IsEntry e → is_spd_name e.name ≡ true → has_many_ranges e.selector ≡ false → entry_of (entry_text e) ≡ Ok e
-entry_read e is name few =
+pub entry_read : (e : SpdEntry) → IsEntry e → e.window ≡ 64 → is_spd_name e.name ≡ true → has_many_ranges e.selector ≡ false → entry_of (entry_text e) ≡ Ok e
+entry_read e is window name few =
     ap entry_of (entry_from e)
     ∙ ap entry_in (split_behind is_comma 44 refl e.name (entry_rest e)
     (each_holds (λ t. list_all is_part t ≡ true) (λ t. All (λ c. is_comma c ≡ false) t) no_comma (e.name ∷ entry_rest e) (are_parts e is name)))
-    ∙ in_parts e is few
+    ∙ in_parts e is window few
 
 -- a word has no space
 pub entry_graph : (e : SpdEntry) → IsEntry e → is_spd_name e.name ≡ true → list_all is_graph (entry_text e) ≡ true

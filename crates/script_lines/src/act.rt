@@ -101,7 +101,11 @@ pub struct Packet {
 }
 
 #[tactic(auto, unfolding(crate::specs::Act::packet_in))]
-fn packet_from(alloc: Global, gateways: &Peers, words: &[&[u8]]) -> Result<Packet, OrMemory<LineFault>>
+fn packet_from(
+    alloc: Global,
+    gateways: &Peers,
+    words: &[&[u8]],
+) -> Result<Packet, OrMemory<LineFault>>
     ensures { Gives result (packet_in gateways.now (texts words.now)) }
 {
     match words {

@@ -7,11 +7,16 @@ mod event;
 mod header;
 mod laws;
 mod parts;
+#[cfg(test)]
+mod tests;
 mod write;
 
 pub use act::read_act;
 pub use event::read_event;
 pub use header::read_header;
-pub use laws::{act_read_again, event_read_again, read_acts_are_spelled};
 pub use hist_acts::{Act, Acts, Event, Header};
+pub use laws::{
+    act_read_again, event_read_again, headers_name_gateways, read_acts_are_spelled,
+    read_events_are_spelled, texts_differ,
+};
 pub use write::{put_acts, write_act};
