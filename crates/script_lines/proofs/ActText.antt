@@ -1,11 +1,11 @@
 -- The line of an act is read as that act.
-use Rattle.std.proofs.Common.{◌≡◌, ℕ, ◌+◌, ◌-◌, ◌^◌, ◌<◌, ◌≤◌, ◌==◌, ◌&&◌, not, nat_lt, nat_le, Bool, true, false, List, [], ◌∷◌, ◌++◌, length, map, Option, Some, None, Result, Ok, Err, cond, refl, sym, ap, ◌∙◌, arith, append-nil}
+use Rattle.std.proofs.Common.{◌≡◌, ℕ, ◌+◌, ◌-◌, ◌^◌, ◌<◌, ◌≤◌, ◌==◌, ◌&&◌, not, nat_lt, nat_le, Bool, true, false, List, [], ◌∷◌, ◌++◌, length, map, Option, Some, None, Result, Ok, Err, cond, inl, inr, refl, sym, ap, ◌∙◌, arith, append-nil}
 use Rattle.std.specs.Prelude.{codes}
 use Rattle.std.specs.List.{All, AllByRecursion, list_all, list_any, slice_split, flat_map}
 use Rattle.std.specs.Str.{bytes_eq}
 use Rattle.std.specs.Char.{is_ascii_hexdigit}
 use Rattle.std.specs.Fmt.{decimal}
-use Rattle.std.proofs.lemmas.Bool.{and_parts, and_from, ltb-false, le-leb}
+use Rattle.std.proofs.lemmas.Bool.{and_parts, and_from, or_cases, ltb-false, le-leb}
 use Rattle.std.proofs.lemmas.List.{length-map}
 use Rattle.std.proofs.lemmas.List.Elements.{recursion_from_All}
 use Rattle.std.proofs.lemmas.List.Folds.{list_all-append}
@@ -24,6 +24,7 @@ use Rattle.hist_acts.specs.declared.act.Act.{Act}
 use Rattle.hist_acts.specs.declared.act.Act.TheVariants as acts
 use Rattle.hist_acts.specs.declared.event.Event.{Event}
 use Rattle.hist_acts.specs.declared.event.Event.TheVariants as events
+use Rattle.hist_acts.specs.Gateways.{is_named as is_gateway_of}
 use Rattle.hex.specs.Hex.{encode_with, lower_digits}
 use Rattle.yang_values.specs.HexText.{digits_of, digits_text, pair_text}
 use Rattle.yang_values.specs.Prefixes.{is_value_octet}
@@ -36,7 +37,7 @@ use Rattle.script_lines.specs.Entry.{entry_of, entries_of}
 use Rattle.script_lines.specs.Event.{known_of, unless_fault, policy_in, let_in, event_in, event_of}
 use Rattle.script_lines.specs.Text.{hex_text, why_text, entry_text, entries_text, act_text}
 use Rattle.script_lines.specs.Act.{why_of, took_in, force_in, packet_in, drop_in, act_in, as_spelled, act_of}
-use Rattle.script_lines.specs.Spelling.{AreOctets, IsEntry, IsForce, IsOneOf, IsSpellable, told_as}
+use Rattle.script_lines.specs.Spelling.{are_spelled, HasWindow, IsListed, IsActUnder, IsEventUnder, AreOctets, IsEntry, IsAct, told_as}
 use Rattle.script_lines.proofs.PartText.{is_graph, graph_printable, also, value_graph, hexdigits_graph, name_graph, all_behind, not_word, each_holds, each_mapped, behind_mapped, split_behind}
 use Rattle.script_lines.proofs.EntryText.{each_of, entry_read, entry_graph}
 
@@ -84,11 +85,18 @@ event_line gateways e line w ws is are read =
 
 -- ---- gateways and octets
 
-known_read : (gateways : List Peer) (g : List ℕ) → IsOneOf gateways g → known_of gateways g ≡ Ok g
-known_read gateways g is = rw is.named refl
+-- the name of a gateway can be spelled
+pub named_spelled : (gateways : List Peer) (g : List ℕ) → are_spelled gateways ≡ true → is_gateway_of gateways g ≡ true → is_gateway g ≡ true
+named_spelled [] g all named = cc
+named_spelled (p ∷ ps) g all named =
+    let both = and_parts (is_gateway p.name) (are_spelled ps) all in
+    elim (or_cases (bytes_eq p.name g) (is_gateway_of ps g) named) [
+      | inl same ↦ ap is_gateway (sym ((bytes_eq-Decides p.name g).0 same)) ∙ both.0
+      | inr rest ↦ named_spelled ps g both.1 rest
+    ]
 
-name_word : (gateways : List Peer) (g : List ℕ) → IsOneOf gateways g → list_all is_graph g ≡ true
-name_word gateways g is = name_graph g (and_parts _ _ is.spelled).1
+name_word : (g : List ℕ) → is_gateway g ≡ true → list_all is_graph g ≡ true
+name_word g is = name_graph g (and_parts _ _ is).1
 
 digit_pairs : (octets : List ℕ) → AllByRecursion (λ o. o < 256) octets → list_all is_ascii_hexdigit (digits_text octets) ≡ true
 unfolding encode_with
@@ -112,10 +120,10 @@ hex_read digits (o ∷ os) are =
     let read = digits o os are in
     rw (dash, read) refl
 
-packet_read : ReadsDigits → (gateways : List Peer) (g octets : List ℕ) → IsOneOf gateways g → AreOctets octets
+packet_read : ReadsDigits → (gateways : List Peer) (g octets : List ℕ) → is_gateway_of gateways g ≡ true → AreOctets octets
     → packet_in gateways (g ∷ hex_text octets ∷ []) ≡ Ok (record { gateway = g; octets = octets })
 unfolding packet_in
-packet_read digits gateways g octets is are = rw (is.named, hex_read digits octets are) refl
+packet_read digits gateways g octets named are = rw (named, hex_read digits octets are) refl
 
 two_words : (front g w : List ℕ) → front ++ (g ++ 32 ∷ w) ≡ front ++ (g ++ flat_map (λ u. 32 ∷ u) (w ∷ []))
 two_words front g w = ap (λ t. front ++ (g ++ 32 ∷ t)) (sym (append-nil w))
@@ -204,34 +212,40 @@ spd_parts list none = by_length (nat_lt 256 (length list)) refl none
     by_length false few h = (ltb-false 256 (length list) few, good_entries [] list h)
     by_length true many h = cc
 
-all_read : (list : List SpdEntry) → AllByRecursion IsEntry list → AllByRecursion GoodEntry list → AllByRecursion (λ e. entry_of (entry_text e) ≡ Ok e) list
+all_read : (list : List SpdEntry) → AllByRecursion IsEntry list → AllByRecursion HasWindow list → AllByRecursion GoodEntry list
+    → AllByRecursion (λ e. entry_of (entry_text e) ≡ Ok e) list
 unfolding GoodEntry
-all_read [] are good = tt
-all_read (e ∷ es) are good = (entry_read e are.0 good.0.0 good.0.1, all_read es are.1 good.1)
+all_read [] are windows good = tt
+all_read (e ∷ es) are windows good = (entry_read e are.0 windows.0 good.0.0 good.0.1, all_read es are.1 windows.1 good.1)
 
 all_words : (list : List SpdEntry) → AllByRecursion IsEntry list → AllByRecursion GoodEntry list → AllByRecursion (λ e. list_all is_graph (entry_text e) ≡ true) list
 unfolding GoodEntry
 all_words [] are good = tt
 all_words (e ∷ es) are good = (entry_graph e are.0 good.0.0, all_words es are.1 good.1)
 
-list_read : (list : List SpdEntry) → IsForce list → entries_of (map entry_text list) ≡ Ok list
-list_read list is =
-    each_of entry_of entry_text list (all_read list (recursion_from_All IsEntry list is.entries) (spd_parts list is.fits).1)
+list_read : (list : List SpdEntry) → IsListed list → All IsEntry list → entries_of (map entry_text list) ≡ Ok list
+list_read list is are =
+    each_of entry_of entry_text list
+    (all_read list (recursion_from_All IsEntry list are) (recursion_from_All HasWindow list is.windows) (spd_parts list is.fits).1)
 
-list_words : (list : List SpdEntry) → IsForce list → AreWords (map entry_text list)
+list_words : (list : List SpdEntry) → IsListed list → All IsEntry list → AreWords (map entry_text list)
 unfolding AreWords
-list_words list is =
-    each_mapped (λ t. list_all is_graph t ≡ true) entry_text list (all_words list (recursion_from_All IsEntry list is.entries) (spd_parts list is.fits).1)
+list_words list is are =
+    each_mapped (λ t. list_all is_graph t ≡ true) entry_text list (all_words list (recursion_from_All IsEntry list are) (spd_parts list is.fits).1)
 
-few_words : (list : List SpdEntry) → IsForce list → nat_le (length (map entry_text list)) 256 ≡ true
+few_words : (list : List SpdEntry) → IsListed list → nat_le (length (map entry_text list)) 256 ≡ true
 few_words list is =
     let few = (spd_parts list is.fits).0 in
     le-leb _ 256 (let e = length-map list entry_text in omega (arith, e, few))
 
-force_read : (gateways : List Peer) (g : List ℕ) (list : List SpdEntry) → IsOneOf gateways g → IsForce list
+force_read : (gateways : List Peer) (g : List ℕ) (list : List SpdEntry) → is_gateway_of gateways g ≡ true → IsListed list → All IsEntry list
     → force_in gateways (g ∷ map entry_text list) ≡ Ok (acts.Policy g list)
 unfolding force_in
-force_read gateways g list is fits = rw (few_words list fits, is.named, list_read list fits, fits.fits) refl
+force_read gateways g list named is are =
+    let few = few_words list is in
+    let read = list_read list is are in
+    let fits = is.fits in
+    rw (few, named, read, fits) refl
 
 policy_words : (g : List ℕ) (list : List SpdEntry)
     → codes "policy " ++ (g ++ entries_text list) ≡ codes "policy" ++ flat_map (λ u. 32 ∷ u) (g ∷ map entry_text list)
@@ -246,58 +260,64 @@ took_line gateways k small =
     let n = number_of-decimal k (2 ^ 64 - 1) small (omega arith) in
     act_line gateways (acts.Took k) (codes "@") (decimal k ∷ []) e (refl, (value_graph (decimal k) (decimal_octets k small), tt)) (rw n refl)
 
-policy_line : (gateways : List Peer) (g : List ℕ) (list : List SpdEntry) → IsOneOf gateways g → IsForce list
+policy_line : (gateways : List Peer) (g : List ℕ) (list : List SpdEntry) → is_gateway g ≡ true → is_gateway_of gateways g ≡ true → IsListed list → All IsEntry list
     → act_of gateways (act_text (acts.Policy g list)) ≡ Ok (acts.Policy g list)
 unfolding act_text act_in AreWords
-policy_line gateways g list is fits =
+policy_line gateways g list spelled named is are =
     act_line gateways (acts.Policy g list) (codes "policy") (g ∷ map entry_text list) (policy_words g list)
-    (refl, (name_word gateways g is, list_words list fits)) (force_read gateways g list is fits)
+    (refl, (name_word g spelled, list_words list is are)) (force_read gateways g list named is are)
 
-let_line : ReadsDigits → (gateways : List Peer) (g octets : List ℕ) → IsOneOf gateways g → AreOctets octets
+let_line : ReadsDigits → (gateways : List Peer) (g octets : List ℕ) → is_gateway g ≡ true → is_gateway_of gateways g ≡ true → AreOctets octets
     → act_of gateways (act_text (acts.Let g octets)) ≡ Ok (acts.Let g octets)
 unfolding act_text act_in AreWords
-let_line digits gateways g octets is are =
+let_line digits gateways g octets spelled named are =
     act_line gateways (acts.Let g octets) (codes "let") (g ∷ hex_text octets ∷ []) (two_words (codes "let ") g (hex_text octets))
-    (refl, (name_word gateways g is, (hex_word octets are, tt))) (rw (packet_read digits gateways g octets is are) refl)
+    (refl, (name_word g spelled, (hex_word octets are, tt))) (rw (packet_read digits gateways g octets named are) refl)
 
-clear_line : ReadsDigits → (gateways : List Peer) (g octets : List ℕ) → IsOneOf gateways g → AreOctets octets
+clear_line : ReadsDigits → (gateways : List Peer) (g octets : List ℕ) → is_gateway g ≡ true → is_gateway_of gateways g ≡ true → AreOctets octets
     → act_of gateways (act_text (acts.Clear g octets)) ≡ Ok (acts.Clear g octets)
 unfolding act_text act_in AreWords
-clear_line digits gateways g octets is are =
+clear_line digits gateways g octets spelled named are =
     act_line gateways (acts.Clear g octets) (codes "clear") (g ∷ hex_text octets ∷ []) (two_words (codes "clear ") g (hex_text octets))
-    (refl, (name_word gateways g is, (hex_word octets are, tt))) (rw (packet_read digits gateways g octets is are) refl)
+    (refl, (name_word g spelled, (hex_word octets are, tt))) (rw (packet_read digits gateways g octets named are) refl)
 
-drop_line : (gateways : List Peer) (g : List ℕ) (w : DropWhy) → IsOneOf gateways g
+drop_line : (gateways : List Peer) (g : List ℕ) (w : DropWhy) → is_gateway g ≡ true → is_gateway_of gateways g ≡ true
     → act_of gateways (act_text (acts.Drop g w)) ≡ Ok (acts.Drop g w)
 unfolding act_text act_in drop_in AreWords
-drop_line gateways g w is =
+drop_line gateways g w spelled named =
+    let read = why_read w in
     act_line gateways (acts.Drop g w) (codes "drop") (g ∷ why_text w ∷ []) (two_words (codes "drop ") g (why_text w))
-    (refl, (name_word gateways g is, (why_word w, tt))) (rw (is.named, why_read w) refl)
+    (refl, (name_word g spelled, (why_word w, tt))) (rw (named, read) refl)
 
-pub act_again : ReadsDigits → (gateways : List Peer) (a : Act) → IsSpellable gateways a → act_of gateways (act_text a) ≡ Ok a
-act_again digits gateways (acts.Took k) is = took_line gateways k is
-act_again digits gateways (acts.Policy g list) is = policy_line gateways g list is.0 is.1
-act_again digits gateways (acts.Let g o) is = let_line digits gateways g o is.0 is.1
-act_again digits gateways (acts.Clear g o) is = clear_line digits gateways g o is.0 is.1
-act_again digits gateways (acts.Drop g w) is = drop_line gateways g w is
+pub act_again : ReadsDigits → (gateways : List Peer) (a : Act) → are_spelled gateways ≡ true → IsActUnder gateways a → IsAct a
+    → act_of gateways (act_text a) ≡ Ok a
+act_again digits gateways (acts.Took k) all under is = took_line gateways k is
+act_again digits gateways (acts.Policy g list) all under is = policy_line gateways g list (named_spelled gateways g all under.0) under.0 under.1 is
+act_again digits gateways (acts.Let g o) all under is = let_line digits gateways g o (named_spelled gateways g all under) under is
+act_again digits gateways (acts.Clear g o) all under is = clear_line digits gateways g o (named_spelled gateways g all under) under is
+act_again digits gateways (acts.Drop g w) all under is = drop_line gateways g w (named_spelled gateways g all under) under
 
 -- ---- events
 
-policy_event : (gateways : List Peer) (g : List ℕ) (list : List SpdEntry) → IsOneOf gateways g → IsForce list
+policy_event : (gateways : List Peer) (g : List ℕ) (list : List SpdEntry) → is_gateway g ≡ true → IsListed list → All IsEntry list
     → event_of gateways (act_text (acts.Policy g list)) ≡ Ok (events.Policy g list)
 unfolding act_text event_in policy_in AreWords
-policy_event gateways g list is fits =
+policy_event gateways g list spelled is are =
+    let few = few_words list is in
+    let read = list_read list is are in
+    let fits = is.fits in
     event_line gateways (events.Policy g list) (act_text (acts.Policy g list)) (codes "policy") (g ∷ map entry_text list) (policy_words g list)
-    (refl, (name_word gateways g is, list_words list fits))
-    (rw (few_words list fits, is.spelled, list_read list fits, fits.fits) refl)
+    (refl, (name_word g spelled, list_words list is are)) (rw (few, spelled, read, fits) refl)
 
-let_event : ReadsDigits → (gateways : List Peer) (g octets : List ℕ) → IsOneOf gateways g → AreOctets octets
+let_event : ReadsDigits → (gateways : List Peer) (g octets : List ℕ) → is_gateway g ≡ true → is_gateway_of gateways g ≡ true → AreOctets octets
     → event_of gateways (act_text (acts.Let g octets)) ≡ Ok (events.Let g octets)
 unfolding act_text event_in let_in AreWords
-let_event digits gateways g octets is are =
+let_event digits gateways g octets spelled named are =
+    let read = hex_read digits octets are in
     event_line gateways (events.Let g octets) (act_text (acts.Let g octets)) (codes "let") (g ∷ hex_text octets ∷ []) (two_words (codes "let ") g (hex_text octets))
-    (refl, (name_word gateways g is, (hex_word octets are, tt))) (rw (is.named, hex_read digits octets are) refl)
+    (refl, (name_word g spelled, (hex_word octets are, tt))) (rw (named, read) refl)
 
-pub event_again : ReadsDigits → (gateways : List Peer) (e : Event) → IsSpellable gateways (told_as e) → event_of gateways (act_text (told_as e)) ≡ Ok e
-event_again digits gateways (events.Policy g list) is = policy_event gateways g list is.0 is.1
-event_again digits gateways (events.Let g o) is = let_event digits gateways g o is.0 is.1
+pub event_again : ReadsDigits → (gateways : List Peer) (e : Event) → are_spelled gateways ≡ true → IsEventUnder gateways e → IsAct (told_as e)
+    → event_of gateways (act_text (told_as e)) ≡ Ok e
+event_again digits gateways (events.Policy g list) all under is = policy_event gateways g list under.0 under.1 is
+event_again digits gateways (events.Let g o) all under is = let_event digits gateways g o (named_spelled gateways g all under) under is

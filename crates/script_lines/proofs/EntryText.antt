@@ -186,15 +186,15 @@ entry_rest e = direction_text e.direction ∷ decimal e.reqid ∷ action_text e.
 abbrev at_window : SpdEntry → ℕ → SpdEntry
 at_window e w = record { name = e.name; direction = e.direction; reqid = e.reqid; window = w; selector = e.selector; action = e.action }
 
-in_parts : (e : SpdEntry) → IsEntry e → has_many_ranges e.selector ≡ false → entry_in (e.name ∷ entry_rest e) ≡ Ok e
+in_parts : (e : SpdEntry) → IsEntry e → e.window ≡ 64 → has_many_ranges e.selector ≡ false → entry_in (e.name ∷ entry_rest e) ≡ Ok e
 unfolding entry_in use_of entry_rest
-in_parts e is few =
+in_parts e is window few =
     let d = direction_read e.direction in
     let small = is.reqid in
     let n = number_read e.reqid (2 ^ 64 - 1) small (omega arith) in
     let a = action_read e.action in
     let s = selector_read e.selector is.selector few in
-    rw (d, n, a, s) (windowed e.window is.window)
+    rw (d, n, a, s) (windowed e.window window)
   where
     windowed : (w : ℕ) → w ≡ 64 → ◌≡◌ {A = Result SpdEntry LineFault} (Ok (at_window e 64)) (Ok (at_window e w))
     windowed w is = rw is refl
@@ -243,12 +243,12 @@ are_parts e is name =
 no_comma : (t : List ℕ) → list_all is_part t ≡ true → All (λ c. is_comma c ≡ false) t
 no_comma t all = lacks_mark is_part is_comma (λ c. apart is_part c 44 refl) t all
 
-pub entry_read : (e : SpdEntry) → IsEntry e → is_spd_name e.name ≡ true → has_many_ranges e.selector ≡ false → entry_of (entry_text e) ≡ Ok e
-entry_read e is name few =
+pub entry_read : (e : SpdEntry) → IsEntry e → e.window ≡ 64 → is_spd_name e.name ≡ true → has_many_ranges e.selector ≡ false → entry_of (entry_text e) ≡ Ok e
+entry_read e is window name few =
     ap entry_of (entry_from e)
     ∙ ap entry_in (split_behind is_comma 44 refl e.name (entry_rest e)
     (each_holds (λ t. list_all is_part t ≡ true) (λ t. All (λ c. is_comma c ≡ false) t) no_comma (e.name ∷ entry_rest e) (are_parts e is name)))
-    ∙ in_parts e is few
+    ∙ in_parts e is window few
 
 -- a word has no space
 pub entry_graph : (e : SpdEntry) → IsEntry e → is_spd_name e.name ≡ true → list_all is_graph (entry_text e) ≡ true

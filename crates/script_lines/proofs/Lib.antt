@@ -3,3 +3,5 @@ pub mod PartText
 pub mod EntryText
 pub mod ActText
 pub mod SpelledAct
+pub mod SpelledText
+pub mod TextLines

@@ -1,6 +1,6 @@
--- Which acts and events a line can spell: their gateways are those of the header, a list can be in force, and each
--- number, octet and address is one of its type.
-use Rattle.std.specs.Prelude.{◌≡◌, ℕ, ◌^◌, ◌<◌, IsTrue, List, Option, Some, None, All}
+-- Which acts and events a line can spell under the gateways of a header.
+use Rattle.std.specs.Prelude.{◌≡◌, ℕ, ◌^◌, ◌<◌, Bool, IsTrue, List, Option, Some, None, All}
+use Rattle.std.specs.List.{list_all}
 use Rattle.ikeless_tree.specs.Check.{spd_fault}
 use Rattle.ikeless_tree.specs.declared.command.Peer.{Peer}
 use Rattle.ikeless_tree.specs.declared.entry.Range.{Range}
@@ -13,6 +13,33 @@ use Rattle.hist_acts.specs.declared.event.Event.TheVariants as events
 use Rattle.hist_acts.specs.Gateways.{is_named}
 use Rattle.yang_values.specs.Addresses.{IsAddress}
 use Rattle.script_lines.specs.Words.{is_gateway}
+
+-- the gateways have names that a line can spell
+abbrev pub are_spelled : List Peer → Bool
+are_spelled gateways = list_all (λ p. is_gateway p.name) gateways
+
+abbrev pub HasWindow : SpdEntry → Type 0
+HasWindow e = e.window ≡ 64
+
+-- a list can be in force, and an entry's word has no window, which is 64
+pub record IsListed (list : List SpdEntry) : Type 0 where
+  pub fits : spd_fault list ≡ None
+  pub windows : All HasWindow list
+
+-- an act's gateway is one of the header
+abbrev pub IsActUnder : List Peer → Act → Type 0
+IsActUnder gateways (acts.Took k) = Unit {0}
+IsActUnder gateways (acts.Policy g list) = IsTrue (is_named gateways g) × IsListed list
+IsActUnder gateways (acts.Let g o) = IsTrue (is_named gateways g)
+IsActUnder gateways (acts.Clear g o) = IsTrue (is_named gateways g)
+IsActUnder gateways (acts.Drop g w) = IsTrue (is_named gateways g)
+
+-- a policy may be commanded for any name
+abbrev pub IsEventUnder : List Peer → Event → Type 0
+IsEventUnder gateways (events.Policy g list) = IsTrue (is_gateway g) × IsListed list
+IsEventUnder gateways (events.Let g o) = IsTrue (is_named gateways g)
+
+-- ---- what the types say of their values
 
 abbrev pub AreOctets : List ℕ → Type 0
 AreOctets octets = All (λ octet. octet < 256) octets
@@ -31,29 +58,18 @@ pub record IsSelector (s : Selector) : Type 0 where
   pub local_ports : All ArePorts s.local_ports
   pub remote_ports : All ArePorts s.remote_ports
 
--- an entry's word has no window, which is 64
 pub record IsEntry (e : SpdEntry) : Type 0 where
   pub reqid : e.reqid < 2 ^ 64
-  pub window : e.window ≡ 64
   pub selector : IsSelector e.selector
 
-pub record IsForce (list : List SpdEntry) : Type 0 where
-  pub fits : spd_fault list ≡ None
-  pub entries : All IsEntry list
+abbrev pub IsAct : Act → Type 0
+IsAct (acts.Took k) = k < 2 ^ 64
+IsAct (acts.Policy g list) = All IsEntry list
+IsAct (acts.Let g o) = AreOctets o
+IsAct (acts.Clear g o) = AreOctets o
+IsAct (acts.Drop g w) = Unit {0}
 
--- the name of one of the gateways
-pub record IsOneOf (gateways : List Peer) (g : List ℕ) : Type 0 where
-  pub spelled : IsTrue (is_gateway g)
-  pub named : IsTrue (is_named gateways g)
-
-abbrev pub IsSpellable : List Peer → Act → Type 0
-IsSpellable gateways (acts.Took k) = k < 2 ^ 64
-IsSpellable gateways (acts.Policy g list) = IsOneOf gateways g × IsForce list
-IsSpellable gateways (acts.Let g o) = IsOneOf gateways g × AreOctets o
-IsSpellable gateways (acts.Clear g o) = IsOneOf gateways g × AreOctets o
-IsSpellable gateways (acts.Drop g w) = IsOneOf gateways g
-
--- the line of an event in its canonical spelling
+-- an event's line in its canonical spelling is the line of an act
 abbrev pub told_as : Event → Act
 told_as (events.Policy g list) = acts.Policy g list
 told_as (events.Let g o) = acts.Let g o

@@ -1,28 +1,52 @@
-// What is written is read again.
-ghost use Rattle.std.specs.Prelude.{◌≡◌, ℕ, List, Ok};
+// What is written is read again, and what is read was written so.
+ghost use Rattle.std.specs.Prelude.{◌≡◌, ℕ, List, Ok, All, IsTrue};
 ghost use Rattle.ikeless_tree.specs.declared.command.Peer.{Peer};
 ghost use Rattle.hist_acts.specs.declared.act.Act.{Act};
 ghost use Rattle.hist_acts.specs.declared.event.Event.{Event};
+ghost use Rattle.hist_acts.specs.declared.event.Header.{Header};
 ghost use Rattle.script_lines.specs.Act.{act_of};
 ghost use Rattle.script_lines.specs.Event.{event_of};
-ghost use Rattle.script_lines.specs.Spelling.{IsSpellable, told_as};
-ghost use Rattle.script_lines.specs.Text.{act_text};
+ghost use Rattle.script_lines.specs.Header.{header_of};
+ghost use Rattle.script_lines.specs.Spelling.{are_spelled, IsActUnder, IsEventUnder, IsAct, told_as};
+ghost use Rattle.script_lines.specs.Text.{act_text, text_of};
 
-/// A line that is read as an act is the text of that act.
+/// The gateways of a header have names that a line can spell.
+pub fn headers_name_gateways()
+    ensures { (line : List ℕ) (h : Header) → header_of line ≡ Ok h → IsTrue (are_spelled h.gateways) }
+{}
+
+/// A line that is read as an act is the text of that act, and the act is one that a line can spell.
 pub fn read_acts_are_spelled()
-    ensures { (gateways : List Peer) (line : List ℕ) (a : Act) → act_of gateways line ≡ Ok a → act_text a ≡ line }
+    ensures text { (gateways : List Peer) (line : List ℕ) (a : Act) → act_of gateways line ≡ Ok a → act_text a ≡ line }
+    ensures act { (gateways : List Peer) (line : List ℕ) (a : Act) → act_of gateways line ≡ Ok a → IsActUnder gateways a }
+{}
+
+/// A line that is read as an event is one of an event that a line can spell.
+pub fn read_events_are_spelled()
+    ensures { (gateways : List Peer) (line : List ℕ) (e : Event) → event_of gateways line ≡ Ok e → IsEventUnder gateways e }
 {}
 
 /// The text of an act is read as that act.
 pub fn act_read_again()
-    ensures { (gateways : List Peer) (a : Act) → IsSpellable gateways a → act_of gateways (act_text a) ≡ Ok a }
+    ensures { (gateways : List Peer) (a : Act) → IsTrue (are_spelled gateways) → IsActUnder gateways a → IsAct a
+        → act_of gateways (act_text a) ≡ Ok a }
 {
     yang_values::digits_read_again();
 }
 
 /// The line of an event in its canonical spelling is read as that event.
 pub fn event_read_again()
-    ensures { (gateways : List Peer) (e : Event) → IsSpellable gateways (told_as e) → event_of gateways (act_text (told_as e)) ≡ Ok e }
+    ensures { (gateways : List Peer) (e : Event) → IsTrue (are_spelled gateways) → IsEventUnder gateways e → IsAct (told_as e)
+        → event_of gateways (act_text (told_as e)) ≡ Ok e }
+{
+    yang_values::digits_read_again();
+}
+
+/// No two lists of acts have one text.
+pub fn texts_differ()
+    ensures { (gateways : List Peer) (xs ys : List Act) → IsTrue (are_spelled gateways)
+        → All (λ a. IsActUnder gateways a × IsAct a) xs → All (λ a. IsActUnder gateways a × IsAct a) ys
+        → text_of xs ≡ text_of ys → xs ≡ ys }
 {
     yang_values::digits_read_again();
 }

@@ -15,5 +15,8 @@ pub use act::read_act;
 pub use event::read_event;
 pub use header::read_header;
 pub use hist_acts::{Act, Acts, Event, Header};
-pub use laws::{act_read_again, event_read_again, read_acts_are_spelled};
+pub use laws::{
+    act_read_again, event_read_again, headers_name_gateways, read_acts_are_spelled,
+    read_events_are_spelled, texts_differ,
+};
 pub use write::{put_acts, write_act};

@@ -1,0 +1,5 @@
+use Rattle.script_lines.proofs.SpelledText.{header_spelled}
+use Rattle.script_lines.proofs.laws.headers_name_gateways.Goals as goal
+
+pub returns : goal.returns
+returns c = header_spelled

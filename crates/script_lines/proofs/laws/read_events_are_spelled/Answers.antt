@@ -1,0 +1,5 @@
+use Rattle.script_lines.proofs.SpelledText.{event_under}
+use Rattle.script_lines.proofs.laws.read_events_are_spelled.Goals as goal
+
+pub returns : goal.returns
+returns c = event_under
