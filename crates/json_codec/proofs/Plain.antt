@@ -1,0 +1,37 @@
+-- The texts that are written are ASCII.
+use Rattle.std.proofs.Common.{◌≡◌, ◌<◌, ◌^◌, ℕ, zero, suc, Bool, true, List, [], ◌∷◌, IsUtf8, arith}
+use Rattle.std.specs.List.{list_all}
+use Rattle.std.specs.Fmt.{decimal}
+use Rattle.std.specs.Str.{IsAscii}
+use Rattle.std.proofs.lemmas.Bool.{and_parts}
+use Rattle.std.proofs.lemmas.Bool.Decides.{nat_tests}
+use Rattle.std.proofs.lemmas.Fmt.{IsAscii-decimal}
+use Rattle.std.proofs.lemmas.Str.{IsUtf8-from_ascii}
+use Rattle.std.proofs.lemmas.Str.Ascii.{IsAscii-nil}
+use Rattle.ikeless_tree.specs.Check.{is_path_octet, is_word_octet}
+use Rattle.yang_values.specs.Prefixes.{is_value_octet}
+
+ascii_more : (c : ℕ) (cs : List ℕ) → c < 128 → IsAscii cs → IsAscii (c ∷ cs)
+ascii_more c cs here there zero = here
+ascii_more c cs here there (suc i) = there i
+
+plain : (q : ℕ → Bool) → ((c : ℕ) → q c ≡ true → c < 128) → (t : List ℕ) → list_all q t ≡ true → IsAscii t
+plain q f [] all = IsAscii-nil
+plain q f (c ∷ cs) all =
+    let parts = and_parts (q c) (list_all q cs) all in
+    ascii_more c cs (f c parts.0) (plain q f cs parts.1)
+
+value_small : (c : ℕ) → is_value_octet c ≡ true → c < 128
+value_small c h = grind (arith, nat_tests, h)
+
+path_small : (c : ℕ) → is_path_octet c ≡ true → c < 128
+path_small c h = grind (arith, nat_tests, h)
+
+pub utf8_number : (n : ℕ) → n < 2 ^ 64 → IsUtf8 (decimal n)
+utf8_number n small = IsUtf8-from_ascii (decimal n) (IsAscii-decimal n small)
+
+pub utf8_value : (t : List ℕ) → list_all is_value_octet t ≡ true → IsUtf8 t
+utf8_value t all = IsUtf8-from_ascii t (plain is_value_octet value_small t all)
+
+pub utf8_name : (t : List ℕ) → list_all is_path_octet t ≡ true → IsUtf8 t
+utf8_name t all = IsUtf8-from_ascii t (plain is_path_octet path_small t all)
