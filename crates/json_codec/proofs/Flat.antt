@@ -42,7 +42,7 @@ member_flat n k d ms h =
     let there : members_depth ms ≤ n = omega arith in
     (record { plain = parts.0; shallow = here }, record { plain = parts.1; shallow = there })
 
-flat_order : (n : ℕ) (o : Ordering) (a b c : Members) → AreFlat n a → AreFlat n b → AreFlat n c → AreFlat n (match_ordering o a b c)
+pub flat_order : (n : ℕ) (o : Ordering) (a b c : Members) → AreFlat n a → AreFlat n b → AreFlat n c → AreFlat n (match_ordering o a b c)
 flat_order n Less a b c x y z = x
 flat_order n Equal a b c x y z = y
 flat_order n Greater a b c x y z = z

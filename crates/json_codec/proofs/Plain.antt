@@ -9,6 +9,15 @@ use Rattle.std.proofs.lemmas.Fmt.{IsAscii-decimal}
 use Rattle.std.proofs.lemmas.Str.{IsUtf8-from_ascii}
 use Rattle.std.proofs.lemmas.Str.Ascii.{IsAscii-nil}
 use Rattle.ikeless_tree.specs.Check.{is_path_octet, is_word_octet}
+use Rattle.std.specs.List.{All}
+use Rattle.std.specs.Char.{is_ascii_hexdigit}
+use Rattle.std.proofs.Common.{refl}
+use Rattle.std.proofs.lemmas.Bool.{or_left}
+use Rattle.std.proofs.lemmas.List.Elements.{recursion_from_All}
+use Rattle.yang_values.specs.HexText.{hex_colons, pair_text}
+use Rattle.yang_values.proofs.JoinedText.{all_joined, each_also}
+use Rattle.yang_values.proofs.QuadText.{also}
+use Rattle.yang_values.proofs.ValueText.{pair_digits}
 use Rattle.yang_values.specs.Prefixes.{is_value_octet}
 
 ascii_more : (c : ℕ) (cs : List ℕ) → c < 128 → IsAscii cs → IsAscii (c ∷ cs)
@@ -35,3 +44,12 @@ utf8_value t all = IsUtf8-from_ascii t (plain is_value_octet value_small t all)
 
 pub utf8_name : (t : List ℕ) → list_all is_path_octet t ≡ true → IsUtf8 t
 utf8_name t all = IsUtf8-from_ascii t (plain is_path_octet path_small t all)
+
+hex_plain : (octets : List ℕ) → All (λ o. o < 256) octets → list_all is_value_octet (hex_colons octets) ≡ true
+hex_plain octets small = all_joined is_value_octet 58 pair_text refl octets
+    (each_also (λ o. o < 256) (λ o. list_all is_value_octet (pair_text o) ≡ true)
+    (λ o h. also is_ascii_hexdigit is_value_octet (λ c d. or_left _ _ (or_left _ _ (or_left _ _ d))) (pair_text o) (pair_digits o h))
+    octets (recursion_from_All (λ o. o < 256) octets small))
+
+pub utf8_hex : (octets : List ℕ) → All (λ o. o < 256) octets → IsUtf8 (hex_colons octets)
+utf8_hex octets small = utf8_value (hex_colons octets) (hex_plain octets small)

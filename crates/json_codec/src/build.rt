@@ -115,7 +115,8 @@ pub(crate) fn written(alloc: Global, value: &Value) -> Result<Octets, NoMemory>
     Ok(Octets::from_items(value.to_vec(alloc)?))
 }
 
-fn are_octets(octets: &[u8])
+/// Each octet is below 256.
+pub(crate) fn are_octets(octets: &[u8])
     ensures { All (λ octet. octet < 256) octets.now }
 {
     let _count = octets.len();

@@ -1,8 +1,10 @@
 //! Policies, associations and commands as JSON (RFC 7951) of the YANG module ietf-i2nsf-ikeless (RFC 9061).
 #![tactic(auto)]
 
+mod associations;
 mod build;
 mod policies;
 mod words;
 
+pub use associations::{write_sad, write_sad_entry};
 pub use policies::{write_spd, write_spd_entry};
