@@ -19,6 +19,8 @@ use Rattle.yang_values.proofs.JoinedText.{all_joined, each_also}
 use Rattle.yang_values.proofs.QuadText.{also}
 use Rattle.yang_values.proofs.ValueText.{pair_digits}
 use Rattle.yang_values.specs.Prefixes.{is_value_octet}
+use Rattle.std.proofs.Common.{nat_le, length, ◌&&◌}
+use Rattle.json_codec.specs.Commands.{is_gateway, is_gateway_octet}
 
 ascii_more : (c : ℕ) (cs : List ℕ) → c < 128 → IsAscii cs → IsAscii (c ∷ cs)
 ascii_more c cs here there zero = here
@@ -53,3 +55,11 @@ hex_plain octets small = all_joined is_value_octet 58 pair_text refl octets
 
 pub utf8_hex : (octets : List ℕ) → All (λ o. o < 256) octets → IsUtf8 (hex_colons octets)
 utf8_hex octets small = utf8_value (hex_colons octets) (hex_plain octets small)
+
+gateway_small : (c : ℕ) → is_gateway_octet c ≡ true → c < 128
+gateway_small c h = grind (arith, nat_tests, h)
+
+pub utf8_gateway : (name : List ℕ) → is_gateway name ≡ true → IsUtf8 name
+utf8_gateway name h =
+    let octets = (and_parts (nat_le 1 (length name) && nat_le (length name) 32) (list_all is_gateway_octet name) h).1 in
+    IsUtf8-from_ascii name (plain is_gateway_octet gateway_small name octets)

@@ -3,8 +3,10 @@
 
 mod associations;
 mod build;
+mod commands;
 mod policies;
 mod words;
 
 pub use associations::{write_sad, write_sad_entry};
+pub use commands::write_command;
 pub use policies::{write_spd, write_spd_entry};

@@ -53,7 +53,8 @@ fn put_ports(
     put(members, alloc, name, Value::Array(values))
 }
 
-fn put_prefix(
+/// Puts a prefix into an object.
+pub(crate) fn put_prefix(
     members: &mut Members,
     alloc: Global,
     name: &str,
@@ -133,6 +134,15 @@ fn entry_values(alloc: Global, list: &[SpdEntry]) -> Result<Vec<Value>, NoMemory
     Ok(values)
 }
 
+/// The list of all policies.
+pub(crate) fn list_value(alloc: Global, list: &Entries) -> Result<Value, NoMemory>
+    requires { spd_fault list.now ≡ None }
+    ensures { IfOk result (λ v. view v ≡ spd_entries_data list.now) }
+{
+    let values = entry_values(alloc, list.as_slice())?;
+    Ok(Value::Array(values))
+}
+
 fn one_value(alloc: Global, e: &SpdEntry) -> Result<Value, NoMemory>
     requires { IsTrue (is_spd_name e.now.name) }
     ensures { IfOk result (λ v. view v ≡ one_policy e.now) }
@@ -142,13 +152,13 @@ fn one_value(alloc: Global, e: &SpdEntry) -> Result<Value, NoMemory>
     single(alloc, "ietf-i2nsf-ikeless:spd-entry", Value::Array(values))
 }
 
-fn all_value(alloc: Global, list: &[SpdEntry]) -> Result<Value, NoMemory>
-    requires { IsTrue (list_all is_named_well list.now) }
+fn all_value(alloc: Global, list: &Entries) -> Result<Value, NoMemory>
+    requires { spd_fault list.now ≡ None }
     ensures { IfOk result (λ v. view v ≡ all_policies list.now) }
 {
-    let values = entry_values(alloc, list)?;
-    let list = single(alloc, "spd-entry", Value::Array(values))?;
-    single(alloc, "ietf-i2nsf-ikeless:spd", list)
+    let list = list_value(alloc, list)?;
+    let inner = single(alloc, "spd-entry", list)?;
+    single(alloc, "ietf-i2nsf-ikeless:spd", inner)
 }
 
 /// The body that has one policy, a list of one.
@@ -169,6 +179,6 @@ pub fn write_spd(alloc: Global, list: &Entries) -> Result<Octets, NoMemory>
     ensures reads { IfOk result (λ text. read text ≡ Some (all_policies list.now)) }
     ensures utf8 { IfOk result (λ text. IsUtf8 text) }
 {
-    let value = all_value(alloc, list.as_slice())?;
+    let value = all_value(alloc, list)?;
     written(alloc, &value)
 }
