@@ -25,12 +25,7 @@ use yang_values::{plain_texts, write_address, write_hex};
 const AES_GCM: u32 = 20;
 
 // Puts a number into an object, unless it is 0.
-fn put_count_if(
-    members: &mut Members,
-    alloc: Global,
-    name: &str,
-    n: u32,
-) -> Result<(), NoMemory>
+fn put_count_if(members: &mut Members, alloc: Global, name: &str, n: u32) -> Result<(), NoMemory>
     ensures { OnOk result (members_view members.new.entries
         ≡ with_count name.now n (members_view members.old.entries)) }
 {
@@ -41,12 +36,7 @@ fn put_count_if(
 }
 
 // Puts a number of 64 bits into an object, unless it is 0.
-fn put_wide_if(
-    members: &mut Members,
-    alloc: Global,
-    name: &str,
-    n: u64,
-) -> Result<(), NoMemory>
+fn put_wide_if(members: &mut Members, alloc: Global, name: &str, n: u64) -> Result<(), NoMemory>
     ensures { OnOk result (members_view members.new.entries
         ≡ with_wide name.now n (members_view members.old.entries)) }
 {
@@ -144,11 +134,7 @@ pub(crate) fn put_hex(
     put_text(members, alloc, name, text.as_slice())
 }
 
-fn put_key(
-    members: &mut Members,
-    alloc: Global,
-    key: Option<&[u8]>,
-) -> Result<(), NoMemory>
+fn put_key(members: &mut Members, alloc: Global, key: Option<&[u8]>) -> Result<(), NoMemory>
     ensures { OnOk result (members_view members.new.entries
         ≡ with_key (option_map (λ k. k.now) key.entry) (members_view members.old.entries)) }
 {
@@ -210,11 +196,7 @@ fn put_fixed(members: &mut Members, alloc: Global) -> Result<(), NoMemory>
 }
 
 #[tactic(auto, unfolding(crate::specs::Associations::config_data))]
-fn config_value(
-    alloc: Global,
-    entry: &SadEntry,
-    key: Option<&[u8]>,
-) -> Result<Value, NoMemory>
+fn config_value(alloc: Global, entry: &SadEntry, key: Option<&[u8]>) -> Result<Value, NoMemory>
     ensures { IfOk result (λ v. view v ≡ config_data entry.now (option_map (λ k. k.now) key.entry)) }
 {
     let mut members = Map::new(alloc);

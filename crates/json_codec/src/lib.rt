@@ -5,6 +5,8 @@ mod associations;
 mod build;
 mod commands;
 mod policies;
+#[cfg(test)]
+mod tests;
 mod words;
 
 pub use associations::{write_sad, write_sad_entry};

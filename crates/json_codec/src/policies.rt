@@ -10,7 +10,9 @@ ghost use Rattle.json_codec.specs.Written.{range_data, range_items, with_ports, 
 ghost use Rattle.json_codec.specs.Words.{action_word};
 ghost use Rattle.yang_values.specs.Prefixes.{prefix_text};
 
-use crate::build::{Members, has_octets, put, put_count, put_text, put_wide, put_word, single, written};
+use crate::build::{
+    Members, has_octets, put, put_count, put_text, put_wide, put_word, single, written,
+};
 use crate::words::{action_text, direction_text};
 use ikeless_tree::{Action, Entries, Range, Selector, SpdEntry};
 use ikl_base::{NoMemory, Octets, Prefix};
@@ -84,17 +86,36 @@ pub(crate) fn selector_value(alloc: Global, selector: &Selector) -> Result<Value
 {
     let mut members = Map::new(alloc);
     put_prefix(&mut members, alloc, "remote-prefix", &selector.remote)?;
-    put_ports(&mut members, alloc, "remote-ports", selector.remote_ports.as_slice())?;
+    put_ports(
+        &mut members,
+        alloc,
+        "remote-ports",
+        selector.remote_ports.as_slice(),
+    )?;
     put_prefix(&mut members, alloc, "local-prefix", &selector.local)?;
-    put_ports(&mut members, alloc, "local-ports", selector.local_ports.as_slice())?;
-    put(&mut members, alloc, "inner-protocol", proto_value(alloc, selector.proto)?)?;
+    put_ports(
+        &mut members,
+        alloc,
+        "local-ports",
+        selector.local_ports.as_slice(),
+    )?;
+    put(
+        &mut members,
+        alloc,
+        "inner-protocol",
+        proto_value(alloc, selector.proto)?,
+    )?;
     Ok(Value::Object(members))
 }
 
 fn action_value(alloc: Global, action: Action) -> Result<Value, NoMemory>
     ensures { IfOk result (λ v. view v ≡ only (codes "action") (string (action_word action))) }
 {
-    single(alloc, "action", Value::try_from_str(alloc, action_text(action))?)
+    single(
+        alloc,
+        "action",
+        Value::try_from_str(alloc, action_text(action))?,
+    )
 }
 
 #[tactic(auto, unfolding(crate::specs::Written::policy_data))]
@@ -118,8 +139,18 @@ fn entry_value(alloc: Global, entry: &SpdEntry) -> Result<Value, NoMemory>
     let mut members = Map::new(alloc);
     put_wide(&mut members, alloc, "reqid", entry.reqid)?;
     put_text(&mut members, alloc, "name", entry.name.as_slice())?;
-    put(&mut members, alloc, "ipsec-policy-config", policy_value(alloc, entry)?)?;
-    put_word(&mut members, alloc, "direction", direction_text(entry.direction))?;
+    put(
+        &mut members,
+        alloc,
+        "ipsec-policy-config",
+        policy_value(alloc, entry)?,
+    )?;
+    put_word(
+        &mut members,
+        alloc,
+        "direction",
+        direction_text(entry.direction),
+    )?;
     Ok(Value::Object(members))
 }
 

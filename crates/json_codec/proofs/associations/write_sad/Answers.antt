@@ -8,7 +8,7 @@ use Rattle.json_codec.proofs.Passed.{passed_rows}
 use Rattle.json_codec.proofs.associations.write_sad.Goals as goal
 
 pub all_value-requires : goal.all_value-requires
-all_value-requires c = 
+all_value-requires c =
     let e : c.as_slice.result.now ≡ c.args.rows.now = c.as_slice.ensures in
     rw e (passed_rows _ c.requires)
 
