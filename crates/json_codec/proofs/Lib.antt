@@ -1,0 +1,6 @@
+pub mod Plain
+pub mod Flat
+pub mod Lists
+pub mod Passed
+pub mod FlatRows
+pub mod Keyless
