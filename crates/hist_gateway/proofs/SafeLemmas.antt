@@ -1,5 +1,5 @@
 -- Every history is safe.
-use Rattle.std.proofs.Common.{◌≡◌, ℕ, ◌+◌, List, [], ◌∷◌, ◌++◌, length, refl, sym, ◌∙◌, subst, Bool, true, false, Option, Some, None, Result, Ok, Err, if◌then◌else◌, nat_lt, inl, inr, ◌⊎◌, ap, add-zero, arith}
+use Rattle.std.proofs.Common.{◌≡◌, ℕ, ◌+◌, List, [], ◌∷◌, length, refl, sym, subst, Bool, true, false, Option, Some, None, Result, Ok, Err, if◌then◌else◌, nat_lt, inl, inr, ◌⊎◌, ap, add-zero, arith}
 use Rattle.ikeless_tree.specs.declared.command.Peer.{Peer}
 use Rattle.ikeless_tree.specs.declared.reply.DropWhy.{DropWhy}
 use Rattle.ikeless_tree.specs.declared.reply.DropWhy.TheVariants as why
@@ -17,9 +17,9 @@ use Rattle.hist_acts.specs.declared.event.Event.{Event}
 use Rattle.hist_acts.specs.declared.event.Event.TheVariants as events
 use Rattle.hist_acts.specs.Past.{after, events_taken, force}
 use Rattle.hist_gateway.specs.Answer.{answer, by_view, by_fault, by_entry, by_action}
-use Rattle.hist_gateway.specs.History.{block, own_acts, history}
+use Rattle.hist_gateway.specs.History.{block, history}
 use Rattle.hist_acts.specs.Gateways.{is_named}
-use Rattle.hist_gateway.specs.Safe.{Safe, IsSafeAct, ClearIsLet, Bypasses}
+use Rattle.hist_gateway.specs.Safe.{Safe, IsSafeAct}
 use Rattle.hist_gateway.proofs.HistoryLemmas.{after-append}
 
 -- the answer's own past: the Let, and before it the number of the event
@@ -63,6 +63,7 @@ pub block_safe : (gateways : List Peer) (h : List Act) (e : Event) → Safe h �
 unfolding block
 block_safe gateways h (events.Policy g list) safe = policy_safe (acts.Took (events_taken h + 1) ∷ h) g list (is_named gateways g) (tt, safe)
 block_safe gateways h (events.Let g o) safe = (answer_safe g o (acts.Took (events_taken h + 1) ∷ h), (tt, (tt, safe)))
+block_safe gateways h e safe = (tt, safe)
 
 pub history_safe : (gateways : List Peer) (h : List Act) (es : List Event) → Safe h → Safe (after h (history gateways h es))
 history_safe gateways h [] safe = safe
@@ -115,6 +116,7 @@ unfolding block
 events_taken-block gateways h (events.Policy name list) = events_taken-policy h name list (is_named gateways name)
 events_taken-block gateways h (events.Let name o) =
     events_taken-answer name o (answer name (force name h) o) (acts.Let name o ∷ acts.Took (events_taken h + 1) ∷ h) (answer_is name (force name h) o)
+events_taken-block gateways h e = refl
 
 pub events_taken-history : (gateways : List Peer) (h : List Act) (es : List Event) → events_taken (after h (history gateways h es)) ≡ events_taken h + length es
 events_taken-history gateways h [] = sym (add-zero (events_taken h))

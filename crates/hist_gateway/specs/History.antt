@@ -13,6 +13,7 @@ use Rattle.hist_gateway.specs.Answer.{answer}
 abbrev pub own_acts : List Peer → List Act → Event → List Act
 own_acts gateways h (events.Policy g list) = if is_named gateways g then acts.Policy g list ∷ [] else []
 own_acts gateways h (events.Let g o) = acts.Let g o ∷ answer g (force g h) o ∷ []
+own_acts gateways h _ = []
 
 -- the block of an event: its number, and its acts
 unfoldable pub block : List Peer → List Act → Event → List Act

@@ -2,8 +2,7 @@
 use Rattle.std.specs.Prelude.{ℕ, ◌==◌, ◌&&◌, ◌||◌, not, nat_lt, nat_le, length, take, drop, Bool, true, false, List, [], ◌∷◌, ◌++◌, Option, Some, None, codes, if◌then◌else◌}
 use Rattle.std.specs.List.{list_any, list_all}
 use Rattle.std.specs.Str.{bytes_eq}
-use Rattle.ikl_base.specs.declared.address.Addr.{Addr}
-use Rattle.ikl_base.specs.declared.address.Addr.TheVariants.{V4, V6}
+use Rattle.ikl_base.specs.Address.{is_one_family}
 use Rattle.ikeless_tree.specs.declared.entry.Range.{Range}
 use Rattle.ikeless_tree.specs.declared.entry.Selector.{Selector}
 use Rattle.ikeless_tree.specs.declared.entry.SpdEntry.{SpdEntry}
@@ -74,11 +73,12 @@ entries_fault before (e ∷ es) = first_of (entry_fault before e) (entries_fault
 unfoldable pub spd_fault : List SpdEntry → Option TreeFault
 spd_fault list = if nat_lt 256 (length list) then Some faults.TooMany else entries_fault [] list
 
-abbrev pub is_one_family : Addr → Addr → Bool
-is_one_family (V4 a) (V4 b) = true
-is_one_family (V4 a) (V6 b) = false
-is_one_family (V6 a) (V4 b) = false
-is_one_family (V6 a) (V6 b) = true
+abbrev pub is_gateway_octet : ℕ → Bool
+is_gateway_octet b = (nat_le 97 b && nat_le b 122) || (nat_le 48 b && nat_le b 57)
+
+-- the name of a gateway: 1 to 32 lower case letters and digits
+abbrev pub is_gateway : List ℕ → Bool
+is_gateway name = nat_le 1 (length name) && nat_le (length name) 32 && list_all is_gateway_octet name
 
 -- keying material of an AES key of 16 or 32 octets and a salt of 4 (RFC 4106 section 8.1)
 abbrev pub is_key_length : ℕ → Bool

@@ -1,12 +1,11 @@
 // The faults of what is to be put into the databases.
 ghost use Rattle.std.specs.Prelude.{◌≡◌, MatchResult, None, Some, []};
 ghost use Rattle.std.specs.List.{list_any, list_all};
-ghost use Rattle.ikeless_tree.specs.Check.{is_word_octet, is_path_octet, is_spd_name, is_serial, has_front, is_sad_name, is_window, is_empty_range, has_empty_range, has_many_ranges, is_named, entry_fault, entries_fault, spd_fault, is_one_family, is_key_length, sad_fault};
+ghost use Rattle.ikeless_tree.specs.Check.{is_word_octet, is_path_octet, is_spd_name, is_serial, has_front, is_sad_name, is_window, is_empty_range, has_empty_range, has_many_ranges, is_named, entry_fault, entries_fault, spd_fault, is_gateway_octet, is_gateway, is_key_length, sad_fault};
 
 use crate::association::SadEntry;
 use crate::entry::{Entries, Range, Selector, SpdEntry};
 use crate::reply::{Feature, TreeFault};
-use ikl_base::Addr;
 
 const MOST_ENTRIES: usize = 256;
 
@@ -69,6 +68,25 @@ pub fn names_half(name: &[u8]) -> bool
     ensures { result ≡ is_sad_name name.now }
 {
     begins_with(b"in/", name) || begins_with(b"out/", name)
+}
+
+fn is_gateway_letter(octet: u8) -> bool
+    ensures { result ≡ is_gateway_octet octet }
+{
+    octet.is_ascii_lowercase() || octet.is_ascii_digit()
+}
+
+fn are_gateway_letters(text: &[u8]) -> bool
+    ensures { result ≡ list_all is_gateway_octet text.now }
+{
+    text.iter().all(|octet| is_gateway_letter(*octet))
+}
+
+/// Whether this is the name of a gateway: 1 to 32 lower case letters and digits.
+pub fn names_gateway(name: &[u8]) -> bool
+    ensures { result ≡ is_gateway name.now }
+{
+    1 <= name.len() && name.len() <= 32 && are_gateway_letters(name)
 }
 
 fn fits_window(size: u32) -> bool
@@ -149,15 +167,6 @@ pub fn check_spd(list: &Entries) -> Result<(), TreeFault>
     }
 }
 
-fn is_same_family(a: &Addr, b: &Addr) -> bool
-    ensures { result ≡ is_one_family a.now b.now }
-{
-    match a {
-        Addr::V4(_) => matches!(b, Addr::V4(_)),
-        Addr::V6(_) => matches!(b, Addr::V6(_)),
-    }
-}
-
 /// The first fault of an association, in the order of the variants.
 #[tactic(auto, unfolding(crate::specs::Check::sad_fault))]
 pub fn check_sad(e: &SadEntry) -> Result<(), TreeFault>
@@ -176,7 +185,7 @@ pub fn check_sad(e: &SadEntry) -> Result<(), TreeFault>
         Err(TreeFault::EmptyRange)
     } else if has_many(&e.selector) {
         Err(TreeFault::Unsupported(Feature::Ports))
-    } else if !is_same_family(&e.local, &e.remote) {
+    } else if !e.local.is_same_family(&e.remote) {
         Err(TreeFault::Unsupported(Feature::Tunnel))
     } else {
         Ok(())

@@ -75,3 +75,11 @@ pub struct Answer {
     pub tag: Option<Tag>,
     pub names: Names,
 }
+
+/// A way of octets between a gateway and its controller: requests down, answers up, and notices up beside them.
+#[derive(Clone, Copy, Debug, PartialEq, Eq)]
+pub enum Lane {
+    Down,
+    Up,
+    Note,
+}

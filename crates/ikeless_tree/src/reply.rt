@@ -106,6 +106,13 @@ pub enum DropWhy {
     Selector,
 }
 
+/// Why a half is gone: its removal was ordered, or it reached a hard limit.
+#[derive(Clone, Copy, Debug, PartialEq, Eq)]
+pub enum GoneWhy {
+    Removed,
+    Hard,
+}
+
 /// A part of the tree that isn't supported as it was written.
 #[derive(Clone, Copy, Debug, PartialEq, Eq)]
 pub enum Feature {

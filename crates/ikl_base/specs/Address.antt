@@ -1,5 +1,5 @@
 -- Addresses as octets, and the bits of a prefix (RFC 4291 section 2.3, RFC 4632 section 3.1).
-use Rattle.std.specs.Prelude.{ℕ, ◌-◌, ◌^◌, ◌%◌, ◌==◌, ◌&&◌, List, [], ◌∷◌, Bool, true}
+use Rattle.std.specs.Prelude.{ℕ, ◌-◌, ◌^◌, ◌%◌, ◌==◌, ◌&&◌, List, [], ◌∷◌, Bool, true, false}
 use Rattle.ikl_base.specs.declared.address.Addr.{Addr}
 use Rattle.ikl_base.specs.declared.address.Addr.TheVariants.{V4, V6}
 
@@ -25,3 +25,10 @@ is_clear_from bits (V6 octets) = are_zero_from bits octets
 abbrev pub address_cleared : ℕ → Addr → Addr
 address_cleared bits (V4 octets) = V4 (cleared_from bits octets)
 address_cleared bits (V6 octets) = V6 (cleared_from bits octets)
+
+-- two addresses of one family
+abbrev pub is_one_family : Addr → Addr → Bool
+is_one_family (V4 a) (V4 b) = true
+is_one_family (V4 a) (V6 b) = false
+is_one_family (V6 a) (V4 b) = false
+is_one_family (V6 a) (V6 b) = true

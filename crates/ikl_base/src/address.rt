@@ -1,11 +1,23 @@
 ghost use Rattle.std.specs.Prelude.{◌≡◌, ◌-◌, ◌%◌, ◌^◌, ◌<◌, ◌≤◌, IsTrue, length};
-ghost use Rattle.ikl_base.specs.Address.{bits_of, is_clear_from, cleared_from, address_cleared};
+ghost use Rattle.ikl_base.specs.Address.{bits_of, is_clear_from, cleared_from, address_cleared, is_one_family};
 
 /// An address of one of the two families, its octets in network order.
 #[derive(Clone, Copy, Debug, PartialEq, Eq)]
 pub enum Addr {
     V4([u8; 4]),
     V6([u8; 16]),
+}
+
+impl Addr {
+    /// Whether both addresses are of one family.
+    pub fn is_same_family(&self, other: &Addr) -> bool
+        ensures { result ≡ is_one_family self.now other.now }
+    {
+        match self {
+            Addr::V4(_) => matches!(other, Addr::V4(_)),
+            Addr::V6(_) => matches!(other, Addr::V6(_)),
+        }
+    }
 }
 
 /// A prefix: the first `len` bits of an address, whose other bits are zero.

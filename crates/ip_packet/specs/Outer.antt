@@ -12,12 +12,6 @@ abbrev pub header_size : Addr → ℕ
 header_size (V4 octets) = 20
 header_size (V6 octets) = 40
 
-abbrev pub is_one_family : Addr → Addr → Bool
-is_one_family (V4 a) (V4 b) = true
-is_one_family (V4 a) (V6 b) = false
-is_one_family (V6 a) (V4 b) = false
-is_one_family (V6 a) (V6 b) = true
-
 -- two whole addresses of one family
 abbrev pub AreOneFamily : Addr → Addr → Type 0
 AreOneFamily (V4 a) (V4 b) = (length a ≡ 4) × (length b ≡ 4)

@@ -1,8 +1,9 @@
 ghost use Rattle.std.specs.Prelude.{◌≡◌, ◌+◌, ◌^◌, ◌<◌, ◌≤◌, ◌++◌, ℕ, List, length, drop, IsTrue, Ok, if◌then◌else◌};
 ghost use Rattle.ip_packet.specs.View.{view_of};
 ghost use Rattle.ip_packet.specs.Field.{number_at};
-ghost use Rattle.ip_packet.specs.Outer.{AreOneFamily, header_size, is_one_family, told_length, header_between, outer_header, outer_view};
+ghost use Rattle.ip_packet.specs.Outer.{AreOneFamily, header_size, told_length, header_between, outer_header, outer_view};
 ghost use Rattle.ikl_base.specs.declared.address.Addr.TheVariants.{V4, V6};
+ghost use Rattle.ikl_base.specs.Address.{is_one_family};
 
 use crate::field::{put, set_number};
 use crate::ipv4::checksum;

@@ -32,7 +32,8 @@ use Rattle.yang_values.proofs.JoinedText.{lacks_mark}
 use Rattle.yang_values.proofs.ValueText.{apart, number_of-decimal, pair_digits}
 use Rattle.yang_values.proofs.PrefixText.{decimal_octets}
 use Rattle.script_lines.specs.declared.act.Packet.{Packet}
-use Rattle.script_lines.specs.Words.{◌>>=◌, or_fault, each, is_space, words, is_printable, is_gateway_octet, is_gateway, gateway_of, octets_of}
+use Rattle.script_lines.specs.Words.{◌>>=◌, or_fault, each, is_space, words, is_printable, gateway_of, octets_of}
+use Rattle.ikeless_tree.specs.Check.{is_gateway_octet, is_gateway}
 use Rattle.script_lines.specs.Entry.{entry_of, entries_of}
 use Rattle.script_lines.specs.Event.{known_of, unless_fault, policy_in, let_in, event_in, event_of}
 use Rattle.script_lines.specs.Text.{hex_text, why_text, entry_text, entries_text, act_text}

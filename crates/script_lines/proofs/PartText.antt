@@ -11,7 +11,8 @@ use Rattle.ikeless_tree.specs.Check.{is_path_octet, is_word_octet}
 use Rattle.yang_values.specs.HexText.{is_colon}
 use Rattle.yang_values.specs.Addresses.{is_dot}
 use Rattle.yang_values.specs.Prefixes.{is_slash, is_value_octet}
-use Rattle.script_lines.specs.Words.{is_printable, is_gateway_octet}
+use Rattle.script_lines.specs.Words.{is_printable}
+use Rattle.ikeless_tree.specs.Check.{is_gateway_octet}
 
 -- what stands in a part of an entry: neither a space nor a comma
 abbrev pub is_part : ℕ → Bool

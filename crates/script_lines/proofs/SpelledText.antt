@@ -21,7 +21,8 @@ use Rattle.hist_acts.specs.Gateways.{is_named}
 use Rattle.yang_values.specs.Numbers.{number_of}
 use Rattle.yang_values.specs.Addresses.{address_of}
 use Rattle.script_lines.specs.declared.act.Packet.{Packet}
-use Rattle.script_lines.specs.Words.{◌>>=◌, or_fault, each, words, is_printable, is_gateway, gateway_of, octets_of}
+use Rattle.script_lines.specs.Words.{◌>>=◌, or_fault, each, words, is_printable, gateway_of, octets_of}
+use Rattle.ikeless_tree.specs.Check.{is_gateway}
 use Rattle.script_lines.specs.Entry.{is_comma, use_of, selector_in, entry_in, entry_of, entries_of}
 use Rattle.script_lines.specs.Header.{is_equals, seq_last_of, gateway_in, peer_of, peers_of, all_go_together, gateways_of, header_in, header_of}
 use Rattle.script_lines.specs.Event.{known_of, unless_fault, policy_in, let_in, event_in, event_of}

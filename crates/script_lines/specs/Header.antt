@@ -6,13 +6,14 @@ use Rattle.ikl_base.specs.declared.status.LineFault.{LineFault}
 use Rattle.ikl_base.specs.declared.status.LineFault.TheVariants as faults
 use Rattle.ikl_base.specs.declared.address.Addr.{Addr}
 use Rattle.ikl_base.specs.declared.address.Addr.TheVariants.{V4, V6}
-use Rattle.ikeless_tree.specs.Check.{is_one_family}
+use Rattle.ikl_base.specs.Address.{is_one_family}
+use Rattle.ikeless_tree.specs.Check.{is_gateway}
 use Rattle.ikeless_tree.specs.declared.command.Peer.{Peer}
 use Rattle.hist_acts.specs.declared.event.Header.{Header}
 use Rattle.hist_acts.specs.Gateways.{is_named}
 use Rattle.yang_values.specs.Numbers.{number_of}
 use Rattle.yang_values.specs.Addresses.{address_of}
-use Rattle.script_lines.specs.Words.{◌>>=◌, or_fault, each, words, is_printable, is_gateway}
+use Rattle.script_lines.specs.Words.{◌>>=◌, or_fault, each, words, is_printable}
 
 abbrev pub is_equals : ℕ → Bool
 is_equals c = c == 61

@@ -1,7 +1,7 @@
 -- Which acts and events a line can spell under the gateways of a header.
 use Rattle.std.specs.Prelude.{◌≡◌, ℕ, ◌^◌, ◌<◌, Bool, IsTrue, List, Option, Some, None, All}
 use Rattle.std.specs.List.{list_all}
-use Rattle.ikeless_tree.specs.Check.{spd_fault}
+use Rattle.ikeless_tree.specs.Check.{spd_fault, is_gateway}
 use Rattle.ikeless_tree.specs.declared.command.Peer.{Peer}
 use Rattle.ikeless_tree.specs.declared.entry.Range.{Range}
 use Rattle.ikeless_tree.specs.declared.entry.Selector.{Selector}
@@ -12,7 +12,6 @@ use Rattle.hist_acts.specs.declared.event.Event.{Event}
 use Rattle.hist_acts.specs.declared.event.Event.TheVariants as events
 use Rattle.hist_acts.specs.Gateways.{is_named}
 use Rattle.yang_values.specs.Addresses.{IsAddress}
-use Rattle.script_lines.specs.Words.{is_gateway}
 
 -- the gateways have names that a line can spell
 abbrev pub are_spelled : List Peer → Bool

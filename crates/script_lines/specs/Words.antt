@@ -1,10 +1,11 @@
 -- The words of a line (the format of scripts is of this project: docs/FORMATS.md).
-use Rattle.std.specs.Prelude.{ℕ, ◌-◌, ◌^◌, ◌==◌, ◌&&◌, ◌||◌, nat_le, Bool, List, [], ◌∷◌, ◌++◌, length, codes, if◌then◌else◌, Option, Some, None, Result, Ok, Err}
+use Rattle.std.specs.Prelude.{ℕ, ◌-◌, ◌^◌, ◌==◌, ◌&&◌, nat_le, Bool, List, [], ◌∷◌, ◌++◌, length, codes, if◌then◌else◌, Option, Some, None, Result, Ok, Err}
 use Rattle.std.specs.List.{list_all, slice_split}
 use Rattle.std.specs.Str.{bytes_eq}
 use Rattle.ikl_base.specs.declared.status.LineFault.{LineFault}
 use Rattle.ikl_base.specs.declared.status.LineFault.TheVariants as faults
 use Rattle.ikl_base.specs.declared.address.Prefix.{Prefix}
+use Rattle.ikeless_tree.specs.Check.{is_gateway}
 use Rattle.yang_values.specs.declared.value.BadValue.{BadValue}
 use Rattle.yang_values.specs.Numbers.{number_of}
 use Rattle.yang_values.specs.Prefixes.{prefix_of}
@@ -30,13 +31,6 @@ words line = slice_split is_space line
 -- the octets that a line may have
 abbrev pub is_printable : ℕ → Bool
 is_printable c = nat_le 32 c && nat_le c 126
-
-abbrev pub is_gateway_octet : ℕ → Bool
-is_gateway_octet c = (nat_le 97 c && nat_le c 122) || (nat_le 48 c && nat_le c 57)
-
--- the name of a gateway: 1 to 32 lower case letters and digits
-abbrev pub is_gateway : List ℕ → Bool
-is_gateway w = nat_le 1 (length w) && nat_le (length w) 32 && list_all is_gateway_octet w
 
 abbrev pub gateway_of : List ℕ → Result (List ℕ) LineFault
 gateway_of w = if is_gateway w then Ok w else Err faults.Gateway

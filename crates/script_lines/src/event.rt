@@ -7,10 +7,10 @@ ghost use Rattle.script_lines.specs.Words.{gateway_of, octets_of};
 ghost use Rattle.script_lines.specs.Event.{known_of, policy_in, let_in, event_in, event_of};
 
 use crate::entry::entries;
-use crate::header::{are_text, names_gateway};
+use crate::header::are_text;
 use crate::parts::{is_word, parts};
 use hist_acts::{Event, Header};
-use ikeless_tree::{Peers, check_spd};
+use ikeless_tree::{Peers, check_spd, names_gateway};
 use ikl_base::{LineFault, Name, Octets, OrMemory};
 use std::alloc::Global;
 use yang_values::read_digits;

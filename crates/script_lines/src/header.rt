@@ -2,38 +2,18 @@
 ghost use Rattle.std.specs.Prelude.{◌≡◌, ◌-◌, ◌^◌, List, ℕ};
 ghost use Rattle.std.specs.List.{list_all};
 ghost use Rattle.ikl_base.specs.Answers.{Gives};
-ghost use Rattle.ikeless_tree.specs.Check.{is_one_family};
 ghost use Rattle.script_lines.specs.Parts.{texts};
-ghost use Rattle.script_lines.specs.Words.{is_printable, is_gateway_octet, is_gateway};
+ghost use Rattle.script_lines.specs.Words.{is_printable};
 ghost use Rattle.script_lines.specs.Header.{seq_last_of, gateway_in, peer_of, peers_of, is_same_address, go_together, all_go_together, gateways_of, header_in, header_of};
 
 use crate::parts::{is_word, parts};
 use hist_acts::Header;
-use ikeless_tree::{Peer, Peers};
+use ikeless_tree::{Peer, Peers, names_gateway};
 use ikl_base::{Addr, LineFault, ListOf, Name, OrMemory};
 use std::alloc::Global;
 use yang_values::{read_address, read_number};
 
 const MOST_GATEWAYS: usize = 16;
-
-fn is_name_octet(octet: u8) -> bool
-    ensures { result ≡ is_gateway_octet octet }
-{
-    octet.is_ascii_lowercase() || octet.is_ascii_digit()
-}
-
-fn are_name_octets(text: &[u8]) -> bool
-    ensures { result ≡ list_all is_gateway_octet text.now }
-{
-    text.iter().all(|octet| is_name_octet(*octet))
-}
-
-/// Whether a word is the name of a gateway: 1 to 32 lower case letters and digits.
-pub fn names_gateway(word: &[u8]) -> bool
-    ensures { result ≡ is_gateway word.now }
-{
-    1 <= word.len() && word.len() <= 32 && are_name_octets(word)
-}
 
 fn is_text(octet: u8) -> bool
     ensures { result ≡ is_printable octet }
@@ -107,21 +87,12 @@ fn is_same(a: &Addr, b: &Addr) -> bool
     }
 }
 
-fn is_family(a: &Addr, b: &Addr) -> bool
-    ensures { result ≡ is_one_family a.now b.now }
-{
-    match a {
-        Addr::V4(_) => matches!(b, Addr::V4(_)),
-        Addr::V6(_) => matches!(b, Addr::V6(_)),
-    }
-}
-
 fn fit(p: &Peer, q: &Peer) -> bool
     ensures { result ≡ go_together p.now q.now }
 {
     p.name.as_slice() != q.name.as_slice()
         && !is_same(&p.address, &q.address)
-        && is_family(&p.address, &q.address)
+        && p.address.is_same_family(&q.address)
 }
 
 fn fits_all(p: &Peer, others: &[Peer]) -> bool

@@ -1,0 +1,103 @@
+-- The sessions of a gateway with its controller, of this project: a request stream with answers in the order of the
+-- requests, and notices beside it. Each word looks back over what happened; a past has its newest act first. In each
+-- test the name in the act stands first and the name asked for second.
+use Rattle.std.specs.Prelude.{ℕ, ◌+◌, ◌==◌, ◌&&◌, ◌||◌, not, nat_le, nat_lt, Bool, true, false, List, [], ◌∷◌, ◌++◌, Option, Some, None, slice_get, if◌then◌else◌}
+use Rattle.std.specs.Str.{bytes_eq}
+use Rattle.ikeless_tree.specs.declared.order.Order.{Order}
+use Rattle.ikeless_tree.specs.declared.order.Answer.{Answer}
+use Rattle.ikeless_tree.specs.declared.order.Notice.{Notice}
+use Rattle.hist_acts.specs.declared.act.Act.{Act}
+use Rattle.hist_acts.specs.declared.act.Act.TheVariants as acts
+
+-- how many sessions of the gateway were opened; the last one has this number
+abbrev pub openings : List ℕ → List Act → ℕ
+openings g [] = 0
+openings g (acts.Opened f s ∷ h) = if bytes_eq f g then openings g h + 1 else openings g h
+openings g (_ ∷ h) = openings g h
+
+-- the controller sees the session that was opened last as open
+abbrev pub is_open : List ℕ → List Act → Bool
+is_open g [] = false
+is_open g (acts.Opened f s ∷ h) = bytes_eq f g || is_open g h
+is_open g (acts.Cut f s ∷ h) = not (bytes_eq f g) && is_open g h
+is_open g (_ ∷ h) = is_open g h
+
+-- the session taken at the gateway, or 0: the last one opened, if the gateway has not restarted since
+abbrev pub taken : List ℕ → List Act → ℕ
+taken g [] = 0
+taken g (acts.Opened f s ∷ h) = if bytes_eq f g then s else taken g h
+taken g (acts.Boot f ∷ h) = if bytes_eq f g then 0 else taken g h
+taken g (_ ∷ h) = taken g h
+
+-- this session of this gateway
+abbrev pub is_session : List ℕ → ℕ → List ℕ → ℕ → Bool
+is_session f t g s = bytes_eq f g && (t == s)
+
+abbrev pub was_cut : List ℕ → ℕ → List Act → Bool
+was_cut g s [] = false
+was_cut g s (acts.Cut f t ∷ h) = is_session f t g s || was_cut g s h
+was_cut g s (_ ∷ h) = was_cut g s h
+
+-- how many orders of the session were given, handled, answered
+abbrev pub orders : List ℕ → ℕ → List Act → ℕ
+orders g s [] = 0
+orders g s (acts.Order f t k o ∷ h) = if is_session f t g s then orders g s h + 1 else orders g s h
+orders g s (_ ∷ h) = orders g s h
+
+abbrev pub handled : List ℕ → ℕ → List Act → ℕ
+handled g s [] = 0
+handled g s (acts.Handled f t k a ∷ h) = if is_session f t g s then handled g s h + 1 else handled g s h
+handled g s (_ ∷ h) = handled g s h
+
+abbrev pub answered : List ℕ → ℕ → List Act → ℕ
+answered g s [] = 0
+answered g s (acts.Answered f t k a ∷ h) = if is_session f t g s then answered g s h + 1 else answered g s h
+answered g s (_ ∷ h) = answered g s h
+
+-- the order with this number in the session, and the answer with which it was handled
+abbrev pub order_at : List ℕ → ℕ → ℕ → List Act → Option Order
+order_at g s k [] = None
+order_at g s k (acts.Order f t j o ∷ h) = if is_session f t g s && (j == k) then Some o else order_at g s k h
+order_at g s k (_ ∷ h) = order_at g s k h
+
+abbrev pub answer_at : List ℕ → ℕ → ℕ → List Act → Option Answer
+answer_at g s k [] = None
+answer_at g s k (acts.Handled f t j a ∷ h) = if is_session f t g s && (j == k) then Some a else answer_at g s k h
+answer_at g s k (_ ∷ h) = answer_at g s k h
+
+-- the request that the gateway handles next: of the session taken, the first that isn't handled
+abbrev pub next_request : List ℕ → List Act → Option Order
+next_request g h = if taken g h == 0 then None else order_at g (taken g h) (handled g (taken g h) h + 1) h
+
+-- the answer that the controller hears next: of the open session, the first handled that it has not heard
+abbrev pub next_answer : List ℕ → List Act → Option Answer
+next_answer g h = if is_open g h then answer_at g (openings g h) (answered g (openings g h) h + 1) h else None
+
+-- an order is lost where its session was cut before it was answered, and waits where it is neither answered nor lost
+abbrev pub is_answered : List ℕ → ℕ → ℕ → List Act → Bool
+is_answered g s k h = nat_le k (answered g s h)
+
+abbrev pub is_lost : List ℕ → ℕ → ℕ → List Act → Bool
+is_lost g s k h = was_cut g s h && not (is_answered g s k h)
+
+abbrev pub is_waiting : List ℕ → ℕ → ℕ → List Act → Bool
+is_waiting g s k h = nat_le k (orders g s h) && not (is_answered g s k h) && not (was_cut g s h)
+
+-- the first order of the open session, which reads the database of associations, is answered
+abbrev pub is_read : List ℕ → List Act → Bool
+is_read g h = is_open g h && nat_lt 0 (answered g (openings g h) h)
+
+-- the notices given in the session, oldest first, and how many of them were heard
+abbrev pub notices : List ℕ → ℕ → List Act → List Notice
+notices g s [] = []
+notices g s (acts.Notice f t n ∷ h) = if is_session f t g s then notices g s h ++ n ∷ [] else notices g s h
+notices g s (_ ∷ h) = notices g s h
+
+abbrev pub heard : List ℕ → ℕ → List Act → ℕ
+heard g s [] = 0
+heard g s (acts.Heard f t n ∷ h) = if is_session f t g s then heard g s h + 1 else heard g s h
+heard g s (_ ∷ h) = heard g s h
+
+-- the notice that the controller hears next
+abbrev pub next_notice : List ℕ → List Act → Option Notice
+next_notice g h = if is_open g h then slice_get (notices g (openings g h) h) (heard g (openings g h) h) else None
