@@ -137,6 +137,14 @@ fn lists_have_at_most_256_entries(rt: HostRuntime) -> Result<(), Fail> {
 }
 
 #[test]
+fn gateways_have_names(rt: HostRuntime) {
+    assert!(rt; names_gateway(b"a1"));
+    assert!(rt; names_gateway(&[b'z'; 32]));
+    assert!(rt; !names_gateway(&[b'z'; 33]));
+    assert!(rt; !names_gateway(b"a-1"));
+}
+
+#[test]
 fn entries_have_names(rt: HostRuntime) -> Result<(), Fail> {
     let alloc = rt.alloc();
     for name in ["", "a b", "a,b", "a%2Fb"] {
