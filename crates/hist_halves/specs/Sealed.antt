@@ -1,6 +1,5 @@
 -- The names of halves, of this project, and the ESP octets of datagrams (RFC 4303).
 use Rattle.std.specs.Prelude.{ℕ, ◌==◌, ◌&&◌, Bool, true, false, List, [], ◌++◌, codes, drop, find, Option, Result, Ok, Err, if◌then◌else◌}
-use Rattle.std.specs.Str.{bytes_eq}
 use Rattle.ip_packet.specs.declared.packet.NotPacket.{NotPacket}
 use Rattle.ip_packet.specs.View.{Packet, view_of}
 pub use Rattle.ikeless_tree.specs.Half.{is_inbound}
