@@ -1,0 +1,9 @@
+pub mod Uses
+pub mod Stands
+pub mod Rows
+pub mod Datagram
+pub mod Look
+pub mod Let
+pub mod Arrive
+pub mod Handle
+pub mod Block

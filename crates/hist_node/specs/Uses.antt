@@ -1,0 +1,83 @@
+-- The uses of a half and its counts (the lifetimes of RFC 4301 section 4.4.2.1). A past has its newest act first. In each test
+-- the name in the act stands first and the name asked for second.
+use Rattle.std.specs.Prelude.{ℕ, ◌+◌, ◌-◌, ◌&&◌, nat_le, Bool, false, List, [], ◌∷◌, length, Option, Some, None, if◌then◌else◌}
+use Rattle.std.specs.Str.{bytes_eq}
+use Rattle.ikeless_tree.specs.declared.association.Limits.{Limits}
+use Rattle.ikeless_tree.specs.declared.association.SadEntry.{SadEntry}
+use Rattle.hist_acts.specs.declared.act.Act.{Act}
+use Rattle.hist_acts.specs.declared.act.Act.TheVariants as acts
+use Rattle.hist_acts.specs.Past.{clock}
+use Rattle.esp_frame.specs.Esp.{spi_of}
+use Rattle.hist_halves.specs.Sealed.{esp_of, by_spi, is_opened}
+use Rattle.hist_halves.specs.Halves.{is_half, live}
+
+-- the octets of the arrival that is the newest act
+abbrev pub arrived : List Act → List ℕ
+arrived (acts.Arrived f o ∷ h) = o
+arrived _ = []
+
+abbrev pub names_half : List ℕ → Option SadEntry → Bool
+names_half x None = false
+names_half x (Some e) = bytes_eq e.name x
+
+-- the newest act is an arrival for this half
+abbrev pub is_arrival_for : List ℕ → List ℕ → List Act → Bool
+is_arrival_for g x (acts.Arrived f o ∷ h) = bytes_eq f g && names_half x (by_spi (spi_of (esp_of o)) (live g h))
+is_arrival_for g x _ = false
+
+-- The act is a use of the half, after its past: a datagram is sealed under it, or one arrived for it whose tag was right.
+abbrev pub is_use : List ℕ → List ℕ → Act → List Act → Bool
+is_use g x (acts.Sent f y n o) h = is_half f y g x
+is_use g x (acts.Gave f y n o) h = is_half f y g x
+is_use g x (acts.Drop f w) h = (bytes_eq f g && is_opened w) && is_arrival_for g x h
+is_use g x _ h = false
+
+-- the number of ESP octets of a use: those sent, or those that arrived just before
+abbrev pub use_octets : Act → List Act → ℕ
+use_octets (acts.Sent f y n o) h = length (esp_of o)
+use_octets _ h = length (esp_of (arrived h))
+
+-- the octets of the uses since the installation, how many uses there were, and the clock at the last one or else at the installation
+abbrev pub octets_used : List ℕ → List ℕ → List Act → ℕ
+octets_used g x [] = 0
+octets_used g x (acts.Put f e ∷ h) = if is_half f e.name g x then 0 else octets_used g x h
+octets_used g x (a ∷ h) = if is_use g x a h then octets_used g x h + use_octets a h else octets_used g x h
+
+abbrev pub times_used : List ℕ → List ℕ → List Act → ℕ
+times_used g x [] = 0
+times_used g x (acts.Put f e ∷ h) = if is_half f e.name g x then 0 else times_used g x h
+times_used g x (a ∷ h) = if is_use g x a h then times_used g x h + 1 else times_used g x h
+
+abbrev pub last_used : List ℕ → List ℕ → List Act → ℕ
+last_used g x [] = 0
+last_used g x (acts.Put f e ∷ h) = if is_half f e.name g x then clock h else last_used g x h
+last_used g x (a ∷ h) = if is_use g x a h then clock h else last_used g x h
+
+-- the clock at the installation
+abbrev pub installed_at : List ℕ → List ℕ → List Act → ℕ
+installed_at g x [] = 0
+installed_at g x (acts.Put f e ∷ h) = if is_half f e.name g x then clock h else installed_at g x h
+installed_at g x (_ ∷ h) = installed_at g x h
+
+-- a count stops at the greatest value of its type, of 32 or 64 bits
+abbrev pub cut : ℕ → ℕ → ℕ
+cut most n = if nat_le n most then n else most
+
+abbrev pub cut_32 : ℕ → ℕ
+cut_32 n = cut 4294967295 n
+
+abbrev pub cut_64 : ℕ → ℕ
+cut_64 n = cut 18446744073709551615 n
+
+-- the counts at this clock of a half that was installed and last used at these times
+abbrev pub counts_at : ℕ → ℕ → ℕ → ℕ → ℕ → Limits
+counts_at now installed used octets times = record {
+  time = cut_32 (now - installed);
+  bytes = cut_64 octets;
+  packets = cut_32 times;
+  idle = cut_32 (now - used);
+}
+
+-- the counts of a half since its installation
+abbrev pub counts : List ℕ → List ℕ → List Act → Limits
+counts g x h = counts_at (clock h) (installed_at g x h) (last_used g x h) (octets_used g x h) (times_used g x h)

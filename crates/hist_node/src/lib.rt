@@ -1,0 +1,2 @@
+//! The law of a gateway over what happened: for each event the one block of acts that may follow a past.
+#![tactic(auto)]
