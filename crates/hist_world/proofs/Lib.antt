@@ -1,2 +1,4 @@
 pub mod Basics
 pub mod Sessions
+pub mod Orders
+pub mod Once
