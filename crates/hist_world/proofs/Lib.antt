@@ -2,3 +2,5 @@ pub mod Basics
 pub mod Sessions
 pub mod Orders
 pub mod Once
+pub mod Finality
+pub mod Removal
