@@ -4,3 +4,5 @@ pub mod Orders
 pub mod Once
 pub mod Finality
 pub mod Removal
+pub mod Pairs
+pub mod Halves
