@@ -6,3 +6,5 @@ pub mod Finality
 pub mod Removal
 pub mod Pairs
 pub mod Halves
+pub mod Frames
+pub mod Keys
