@@ -1,0 +1,4 @@
+pub mod Orders
+pub mod Carried
+pub mod Law
+pub mod Safe

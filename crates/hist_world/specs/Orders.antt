@@ -1,0 +1,106 @@
+-- The two halves of an association, and the orders for each, of this project. An association has a serial number, written
+-- in decimal at the end of both names. Each word looks back over what happened; a past has its newest act first. In each
+-- test the name in the act stands first and the name asked for second.
+use Rattle.std.specs.Prelude.{ℕ, ◌+◌, ◌-◌, ◌==◌, ◌&&◌, ◌||◌, Bool, true, false, List, [], ◌∷◌, ◌++◌, codes, length, take, Option, Some, None, if◌then◌else◌}
+use Rattle.std.specs.Str.{bytes_eq}
+use Rattle.ikeless_tree.specs.declared.association.SadEntry.{SadEntry}
+use Rattle.ikeless_tree.specs.declared.entry.Selector.{Selector}
+use Rattle.ikeless_tree.specs.declared.order.Order.{Order}
+use Rattle.ikeless_tree.specs.declared.order.Order.TheVariants as asks
+use Rattle.hist_acts.specs.declared.act.Act.{Act}
+use Rattle.hist_acts.specs.declared.act.Act.TheVariants as acts
+use Rattle.hist_acts.specs.Sessions.{order_at}
+use Rattle.hist_halves.specs.Sealed.{is_inbound}
+
+-- the halves of the association whose serial number is written so
+abbrev pub in_half : List ℕ → List ℕ
+in_half serial = codes "in/" ++ serial
+
+abbrev pub out_half : List ℕ → List ℕ
+out_half serial = codes "out/" ++ serial
+
+-- the selector as the other end has it
+abbrev pub mirrored : Selector → Selector
+mirrored s = record {
+  local = s.remote;
+  remote = s.local;
+  proto = s.proto;
+  local_ports = s.remote_ports;
+  remote_ports = s.local_ports;
+}
+
+-- the AES part of a key: all but the salt of 4 octets at its end (RFC 4106 section 8.1)
+abbrev pub aes_part : List ℕ → List ℕ
+aes_part key = take (length key - 4) key
+
+-- a put of the half was ordered
+abbrev pub ordered : List ℕ → List Act → Bool
+ordered x [] = false
+ordered x (acts.Order f s k (asks.Put e) ∷ h) = bytes_eq e.name x || ordered x h
+ordered x (_ ∷ h) = ordered x h
+
+-- what was ordered to be put, and where: the gateway, the session, and the number in it
+abbrev pub order_of : List ℕ → List Act → Option SadEntry
+order_of x [] = None
+order_of x (acts.Order f s k (asks.Put e) ∷ h) = if bytes_eq e.name x then Some e else order_of x h
+order_of x (_ ∷ h) = order_of x h
+
+abbrev pub site : List ℕ → List Act → List ℕ
+site x [] = []
+site x (acts.Order f s k (asks.Put e) ∷ h) = if bytes_eq e.name x then f else site x h
+site x (_ ∷ h) = site x h
+
+abbrev pub session_of : List ℕ → List Act → ℕ
+session_of x [] = 0
+session_of x (acts.Order f s k (asks.Put e) ∷ h) = if bytes_eq e.name x then s else session_of x h
+session_of x (_ ∷ h) = session_of x h
+
+abbrev pub place_of : List ℕ → List Act → ℕ
+place_of x [] = 0
+place_of x (acts.Order f s k (asks.Put e) ∷ h) = if bytes_eq e.name x then k else place_of x h
+place_of x (_ ∷ h) = place_of x h
+
+-- how many puts of inbound halves were ordered
+abbrev pub inbounds : List Act → ℕ
+inbounds [] = 0
+inbounds (acts.Order f s k (asks.Put e) ∷ h) = if is_inbound e.name then inbounds h + 1 else inbounds h
+inbounds (_ ∷ h) = inbounds h
+
+-- a put with this AES part was ordered
+abbrev pub is_key_used : List ℕ → List Act → Bool
+is_key_used part [] = false
+is_key_used part (acts.Order f s k (asks.Put e) ∷ h) = bytes_eq (aes_part e.key) part || is_key_used part h
+is_key_used part (_ ∷ h) = is_key_used part h
+
+-- a removal of the half was ordered
+abbrev pub is_doomed : List ℕ → List Act → Bool
+is_doomed x [] = false
+is_doomed x (acts.Order f s k (asks.Remove y) ∷ h) = bytes_eq y x || is_doomed x h
+is_doomed x (_ ∷ h) = is_doomed x h
+
+-- the order is the put, or a removal, of this half
+abbrev pub is_put : List ℕ → Option Order → Bool
+is_put x (Some (asks.Put e)) = bytes_eq e.name x
+is_put x _ = false
+
+abbrev pub is_removal : List ℕ → Option Order → Bool
+is_removal x (Some (asks.Remove y)) = bytes_eq y x
+is_removal x _ = false
+
+-- the put of the half was answered with 201
+abbrev pub is_made : List ℕ → List Act → Bool
+is_made x [] = false
+is_made x (acts.Answered f s k a ∷ h) = (is_put x (order_at f s k h) && (a.status == 201)) || is_made x h
+is_made x (_ ∷ h) = is_made x h
+
+-- a removal of the half was answered
+abbrev pub is_left : List ℕ → List Act → Bool
+is_left x [] = false
+is_left x (acts.Answered f s k a ∷ h) = is_removal x (order_at f s k h) || is_left x h
+is_left x (_ ∷ h) = is_left x h
+
+-- a removal of the half was handled
+abbrev pub is_off : List ℕ → List Act → Bool
+is_off x [] = false
+is_off x (acts.Handled f s k a ∷ h) = is_removal x (order_at f s k h) || is_off x h
+is_off x (_ ∷ h) = is_off x h
