@@ -1,0 +1,4 @@
+pub mod Acts
+pub mod Past
+pub mod Law
+pub mod Told
