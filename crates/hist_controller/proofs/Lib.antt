@@ -1,1 +1,5 @@
 pub mod Shown
+pub mod Keeps
+pub mod Gives
+pub mod Blocks
+pub mod Clauses

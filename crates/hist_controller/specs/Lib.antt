@@ -2,3 +2,11 @@ pub mod Acts
 pub mod Past
 pub mod Law
 pub mod Told
+pub mod State
+pub mod Machine
+pub mod May
+pub mod Counts
+pub mod Plain
+pub mod World
+pub mod Whole
+pub mod Table
