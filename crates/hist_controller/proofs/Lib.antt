@@ -3,3 +3,13 @@ pub mod Keeps
 pub mod Gives
 pub mod Blocks
 pub mod Clauses
+pub mod Serials
+pub mod Turns
+pub mod Often
+pub mod Caused
+pub mod Removed
+pub mod Everything
+pub mod Readings
+pub mod Befores
+pub mod Tables
+pub mod Fitting
