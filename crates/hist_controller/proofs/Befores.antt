@@ -6,9 +6,9 @@ use Rattle.ikeless_tree.specs.declared.command.Peer.{Peer}
 use Rattle.hist_controller.specs.Acts.{Way, Association, Order, Read, Policy, PutIn, PutOut, RemoveIn, RemoveOut, Act, Opened, Cut, Answered, Heard, Ordered, Accepted, Refused, Event}
 use Rattle.hist_controller.specs.Past.{after, oldest, rest, queue, ready, serials, is_first, directions, Kind, PuttingIn, PuttingOut, RemovingIn, RemovingOut, is, is_own, answers_to, sends, heard, spoils, ended, in_progress, put_in, left}
 use Rattle.hist_controller.specs.Law.{history}
-use Rattle.hist_controller.specs.May.{Has, MayOrder, IsPast, MayInPut, MayOutPut, MayInRemove, MayOutRemove}
+use Rattle.hist_controller.specs.Clauses.{Has, MayOrder, IsPast, MayInPut, MayOutPut, MayInRemove, MayOutRemove}
 use Rattle.hist_controller.specs.Counts.{times}
-use Rattle.hist_controller.specs.World.{given, not_shown, missed, Before, AllBefore}
+use Rattle.hist_controller.specs.Orders.{given, not_shown, missed, Before, AllBefore}
 use Rattle.hist_controller.proofs.Serials.{has-more, has-filter, has-if, put-one, of-way, low, one, one-way}
 use Rattle.hist_controller.proofs.Turns.{has-left}
 use Rattle.hist_controller.proofs.Often.{once, not-sent}
@@ -298,7 +298,7 @@ before p h g (RemoveIn n) l m =
       | inr e ↦ inr (rw m.name e)
     ]
 
-all-before : (p : ℕ) (h : List Act) → IsPast p h → AllBefore h
+pub all-before : (p : ℕ) (h : List Act) → IsPast p h → AllBefore h
 all-before p [] l = tt
 all-before p (Opened g s ∷ h) l = all-before p h l.1
 all-before p (Cut g s ∷ h) l = all-before p h l.1
@@ -307,6 +307,3 @@ all-before p (Heard g s t ∷ h) l = all-before p h l.1
 all-before p (Ordered g s n o ∷ h) l = (before p h g o l.1 l.0.3, all-before p h l.1)
 all-before p (Accepted c ∷ h) l = all-before p h l.1
 all-before p (Refused w ∷ h) l = all-before p h l.1
-
-pub befores : (p : List Peer) (es : List Event) → AllBefore (after [] (history p [] es))
-befores p es = all-before (length p) (after [] (history p [] es)) (past-history p es)

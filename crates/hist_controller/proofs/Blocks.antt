@@ -13,7 +13,7 @@ use Rattle.hist_controller.specs.Past.{after, is_open, session, answers, queue, 
 use Rattle.hist_controller.specs.Law.{order, may_out_remove, may_in_remove, may_out_put, first, key_put, out_put, in_remove, out_remove, give, pass, with_list, by_command, by_notice, read_put, asked, has_tunnel, is_none, counts, tunnels, placed, refusal, asked_then, going, by_refusal, by_answer, block, history}
 use Rattle.hist_controller.specs.State.{KeptAssociation, KeptWay, association_of, way_of, state_of, did_all}
 use Rattle.hist_controller.specs.Machine.{own_of, busy_of, out_removable, in_removable, out_puttable, first_of, key_put_of, out_put_of, in_remove_of, out_remove_of, give_of, place, give_at, pass_of, with_list_of, by_command_of, by_notice_of, read_put_of, asked_of, has_tunnel_of, none_kept, way_counts, tunnels_of, refusal_of, asked_then_of, going_of, by_refusal_of, by_answer_of, acts_of, next, run}
-use Rattle.hist_controller.proofs.Keeps.{any-via, keeps}
+use Rattle.hist_controller.proofs.KeptState.{any-via, keeps}
 use Rattle.hist_controller.proofs.Gives.{ways-give}
 
 pub keeps_all : (h os : List Act) → did_all (state_of h) os ≡ state_of (after h os)

@@ -5,11 +5,11 @@ use Rattle.ikeless_tree.specs.declared.command.Peer.{Peer}
 use Rattle.hist_controller.specs.Acts.{Way, Association, Order, Read, Policy, PutIn, PutOut, RemoveIn, RemoveOut, Act, Opened, Cut, Answered, Heard, Ordered, Accepted, Refused, Event}
 use Rattle.hist_controller.specs.Past.{after, oldest, queue, ready, serials, directions, born, made_by, over, starts, renews, PuttingIn, sends, heard, in_progress, put_in, left, RemovingIn, answers_to, causes, wanted}
 use Rattle.hist_controller.specs.Law.{history}
-use Rattle.hist_controller.specs.May.{Has, MayOrder, IsPast}
+use Rattle.hist_controller.specs.Clauses.{Has, MayOrder, IsPast}
 use Rattle.hist_controller.specs.Counts.{in_puts, out_puts, cause_count}
 use Rattle.hist_controller.proofs.Serials.{has-more, has-filter, has-if, put-one, of-way, low, one-way}
 use Rattle.hist_controller.proofs.Turns.{has-left}
-use Rattle.hist_controller.proofs.Keeps.{eq-own}
+use Rattle.hist_controller.proofs.KeptState.{eq-own}
 use Rattle.hist_controller.proofs.Often.{not-sent}
 use Rattle.hist_controller.proofs.Clauses.{past-history}
 
@@ -169,13 +169,10 @@ only : (d : Way) (h : List Act) → Has d (directions h) → Only d h
 only d h i e j q = one-way h e d j i (grind arith)
 
 -- the puts of a direction: its inbound ones are no more than its causes, and its outbound ones no more than these
-pub caused : (p : List Peer) (es : List Event) (d : Way) → Has d (directions (after [] (history p [] es))) → (in_puts d (after [] (history p [] es)) ≤ cause_count d (after [] (history p [] es))) × (out_puts d (after [] (history p [] es)) ≤ in_puts d (after [] (history p [] es)))
-caused p es d i =
-    let h : List Act = after [] (history p [] es) in
-    let l = past-history p es in
-    let f = few (length p) d (after [] (history p [] es)) l (only d (after [] (history p [] es)) i) in
-    let k = paired (length p) d (after [] (history p [] es)) l (only d (after [] (history p [] es)) i) in
-    let c = k.count in
+pub caused : (p : ℕ) (h : List Act) → IsPast p h → (d : Way) → Has d (directions h) → (in_puts d h ≤ cause_count d h) × (out_puts d h ≤ in_puts d h)
+caused p h l d i =
+    let f = few p d h l (only d h i) in
+    let c = (paired p d h l (only d h i)).count in
     (at-most _ _ _ f, part _ _ _ c)
   where
     at-most : (a b c : ℕ) → a + b ≤ c → a ≤ c

@@ -10,8 +10,8 @@ use Rattle.ikeless_tree.specs.declared.order.Notice.TheVariants as notices
 use Rattle.hist_controller.specs.Acts.{Way, Order, Read, Policy, Placed, SetPolicy, Tunnel, End, Rekey, Keys, Act, Opened, Cut, Answered, Heard, Accepted, Event, Told, Opens, Cuts, Answers, Notices}
 use Rattle.hist_controller.specs.Past.{after, is_open, is_read, session, answers, oldest, queue, ready, newest_list, directions, RemovingOut, PuttingIn, sends, heard, ended, in_progress, owed}
 use Rattle.hist_controller.specs.Law.{order, give, pass, with_list, is_reading, by_command, by_notice, read_put, placed, refusal, asked_then, going, by_refusal, by_answer, block, history}
-use Rattle.hist_controller.specs.May.{Has, MayAll, IsPast, next_key}
-use Rattle.hist_controller.proofs.Keeps.{eq-own}
+use Rattle.hist_controller.specs.Clauses.{Has, MayAll, IsPast, next_key}
+use Rattle.hist_controller.proofs.KeptState.{eq-own}
 use Rattle.hist_controller.proofs.Gives.{Given, nothing, out_removed, in_removed, out_was_put, in_was_put, given, ways-give}
 
 pub may-more : (p : ℕ) (h xs ys : List Act) → MayAll p h xs → MayAll p (after h xs) ys → MayAll p h (xs ++ ys)

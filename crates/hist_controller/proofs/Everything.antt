@@ -6,8 +6,8 @@ use Rattle.ikeless_tree.specs.declared.command.Peer.{Peer}
 use Rattle.hist_controller.specs.Acts.{Way, Association, Order, Read, Policy, PutIn, PutOut, RemoveIn, RemoveOut, Placed, Act, Opened, Cut, Answered, Heard, Ordered, Accepted, Refused, Event}
 use Rattle.hist_controller.specs.Past.{after, oldest, queue, ready, serials, is_first, directions, made_by, PuttingIn, PuttingOut, RemovingIn, RemovingOut, is, answers_to, sends, heard, ended, in_progress, put_in, left, lacks}
 use Rattle.hist_controller.specs.Law.{may_out_remove, may_in_remove, may_out_put, history}
-use Rattle.hist_controller.specs.May.{Has, MayOrder, IsPast, MayInRemove, Quiet}
-use Rattle.hist_controller.specs.Whole.{made, AllQuiet, AllNotIdle}
+use Rattle.hist_controller.specs.Clauses.{Has, MayOrder, IsPast, MayInRemove, Quiet, NotIdle}
+use Rattle.hist_controller.specs.Ever.{made, AllQuiet, AllNotIdle}
 use Rattle.hist_controller.proofs.Serials.{has-more, has-filter, has-if, put-one, put-serial, more-if}
 use Rattle.hist_controller.proofs.Turns.{has-left, any-has, not-idle}
 use Rattle.hist_controller.proofs.Befores.{or-or, has-queue, has-rest, has-none, is-not, not-ended}
@@ -259,8 +259,8 @@ all-quiet h d k q =
       no_in_put = q.no_in_put;
     }
 
-pub all-not-idle : (p : List Peer) (es : List Event) → AllNotIdle (after [] (history p [] es))
-all-not-idle p es d i f = all-quiet (after [] (history p [] es)) d (whole (length p) (after [] (history p [] es)) (past-history p es)) (not-idle p es d i f)
+pub all-not-idle : (p : ℕ) (h : List Act) → IsPast p h → NotIdle h → AllNotIdle h
+all-not-idle p h l q d i f = all-quiet h d (whole p h l) (q d i f)
 
 -- a test that no ended association passes is passed by one of all exactly where by one left
 any-all : (q : Association → Bool) (xs ys : List Association) → ((x : Association) → Has x ys → Has x xs) → ((x : Association) → Has x xs → q x ≡ true → Has x ys) → list_any q xs ≡ list_any q ys

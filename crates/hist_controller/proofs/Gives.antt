@@ -3,7 +3,7 @@ use Rattle.std.proofs.Common.{◌≡◌, ℕ, ◌+◌, Bool, true, false, List, 
 use Rattle.hist_controller.specs.Acts.{Way, Association, PutIn, PutOut, RemoveIn, RemoveOut, Act}
 use Rattle.hist_controller.specs.Past.{after, serials, spare, directions, left, busy}
 use Rattle.hist_controller.specs.Law.{order, may_out_remove, may_in_remove, may_out_put, may_in_put, first, key_put, out_put, in_remove, out_remove, give}
-use Rattle.hist_controller.specs.May.{Has, Quiet}
+use Rattle.hist_controller.specs.Clauses.{Has, Quiet}
 
 -- it waits, or nothing is allowed
 abbrev pub Idle : List Act → Way → Type 0

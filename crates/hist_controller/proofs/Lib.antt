@@ -1,5 +1,5 @@
 pub mod Shown
-pub mod Keeps
+pub mod KeptState
 pub mod Gives
 pub mod Blocks
 pub mod Clauses
@@ -13,3 +13,6 @@ pub mod Readings
 pub mod Befores
 pub mod Tables
 pub mod Fitting
+pub mod Homes
+pub mod Accepts
+pub mod Names

@@ -1,14 +1,11 @@
 -- Each half is ordered put once at most, each with its key, and each direction no more than its causes allow.
 use Rattle.std.proofs.Common.{◌≡◌, ℕ, ◌+◌, ◌-◌, ◌<◌, ◌≤◌, Bool, true, false, ◌==◌, not, ◌&&◌, List, [], ◌∷◌, ◌++◌, Some, inl, inr, length, refl, sym, subst, ◌∙◌, ap, arith, append_assoc}
-use Rattle.ikeless_tree.specs.declared.command.Peer.{Peer}
-use Rattle.hist_controller.specs.Acts.{Way, Association, Order, Read, Policy, PutIn, PutOut, RemoveIn, RemoveOut, Act, Opened, Cut, Answered, Heard, Ordered, Accepted, Refused, Event}
-use Rattle.hist_controller.specs.Past.{after, oldest, queue, ready, keys, key_of, serials, used, spare, PuttingIn, PuttingOut, RemovingIn, answers_to, sends, heard, in_progress, put_in, left}
-use Rattle.hist_controller.specs.Law.{history}
+use Rattle.hist_controller.specs.Acts.{Way, Association, Order, Read, Policy, PutIn, PutOut, RemoveIn, RemoveOut, Act, Opened, Cut, Answered, Heard, Ordered, Accepted, Refused}
+use Rattle.hist_controller.specs.Past.{oldest, queue, ready, keys, key_of, serials, used, spare, PuttingIn, PuttingOut, RemovingIn, answers_to, sends, heard, in_progress, put_in, left}
 use Rattle.hist_controller.specs.Machine.{place}
-use Rattle.hist_controller.specs.May.{Has, MayOrder, IsPast, MayInPut, next_key}
+use Rattle.hist_controller.specs.Clauses.{Has, MayOrder, IsPast, MayInPut, next_key}
 use Rattle.hist_controller.specs.Counts.{times, KeysRight}
 use Rattle.hist_controller.proofs.Serials.{has-more, has-filter, has-if, put-one, low}
-use Rattle.hist_controller.proofs.Clauses.{past-history}
 
 -- ## each half is put once at most
 
@@ -57,8 +54,8 @@ once p n (Ordered g s i o ∷ h) l = once-order p n h g s i o l.1 l.0.3 (once p 
 once p n (Accepted c ∷ h) l = let k = once p n h l.1 in record { few_in = k.few_in; new_in = k.new_in; few_out = k.few_out; new_out = k.new_out; sent_out = k.sent_out }
 once p n (Refused w ∷ h) l = let k = once p n h l.1 in record { few_in = k.few_in; new_in = k.new_in; few_out = k.few_out; new_out = k.new_out; sent_out = k.sent_out }
 
-pub put-once : (p : List Peer) (es : List Event) (n : ℕ) → (times PuttingIn n (after [] (history p [] es)) ≤ 1) × (times PuttingOut n (after [] (history p [] es)) ≤ 1)
-put-once p es n = let k = once (length p) n (after [] (history p [] es)) (past-history p es) in (k.few_in, k.few_out)
+pub put-once : (p : ℕ) (h : List Act) → IsPast p h → (n : ℕ) → (times PuttingIn n h ≤ 1) × (times PuttingOut n h ≤ 1)
+put-once p h l n = let k = once p n h l in (k.few_in, k.few_out)
 
 -- ## serial n has the n-th key
 
@@ -75,7 +72,7 @@ used-next : (x : Association) (ks : List (List ℕ)) → next_key ks ≡ Some x.
 used-next x [] e = cc
 used-next x (k ∷ ks) e = let q : k ≡ x.key = cc in ap (λ t. t ∷ ks) q
 
-record Keyed (h : List Act) : Type 0 where
+pub record Keyed (h : List Act) : Type 0 where
   pub gone : List (List ℕ)
   pub split : keys h ≡ gone ++ spare h
   pub many : length gone ≡ serials h
@@ -113,7 +110,7 @@ keyed-order h g s i (PutOut x) m k = record { gone = k.gone; split = k.split; ma
 keyed-order h g s i (RemoveIn n) m k = record { gone = k.gone; split = k.split; many = k.many; right = right-order h g s i (RemoveIn n) k m; all = (tt, k.all) }
 keyed-order h g s i (RemoveOut n) m k = record { gone = k.gone; split = k.split; many = k.many; right = right-order h g s i (RemoveOut n) k m; all = (tt, k.all) }
 
-keyed : (p : ℕ) (h : List Act) → IsPast p h → Keyed h
+pub keyed : (p : ℕ) (h : List Act) → IsPast p h → Keyed h
 keyed p [] l = record { gone = []; split = refl; many = refl; right = λ d x i. absurd i; all = tt }
 keyed p (Opened g s ∷ h) l = let k = keyed p h l.1 in record { gone = k.gone; split = k.split; many = k.many; right = k.right; all = k.all }
 keyed p (Cut g s ∷ h) l = let k = keyed p h l.1 in record { gone = k.gone; split = k.split; many = k.many; right = k.right; all = k.all }
@@ -131,5 +128,5 @@ keyed p (Accepted c ∷ h) l =
     }
 keyed p (Refused w ∷ h) l = let k = keyed p h l.1 in record { gone = k.gone; split = k.split; many = k.many; right = k.right; all = k.all }
 
-pub keys-right : (p : List Peer) (es : List Event) → KeysRight (after [] (history p [] es))
-keys-right p es = (keyed (length p) (after [] (history p [] es)) (past-history p es)).all
+pub keys-right : (p : ℕ) (h : List Act) → IsPast p h → KeysRight h
+keys-right p h l = (keyed p h l).all

@@ -4,8 +4,8 @@ use Rattle.ikeless_tree.specs.declared.order.Answer.{Answer}
 use Rattle.hist_controller.specs.Acts.{Order, Act, Opened, Cut, Answered, Heard, Ordered, Accepted, Refused}
 use Rattle.hist_controller.specs.Past.{is_open, session, orders, answers, oldest, rest, queue}
 use Rattle.hist_controller.specs.Machine.{place}
-use Rattle.hist_controller.specs.May.{IsPast}
-use Rattle.hist_controller.specs.Plain.{numbered}
+use Rattle.hist_controller.specs.Clauses.{IsPast}
+use Rattle.hist_controller.specs.Numbers.{numbered}
 
 record Queued (g : ℕ) (h : List Act) : Type 0 where
   pub find : (j : ℕ) (o : Order) → place j (queue g h) ≡ Some o → numbered g (session g h) (answers g h + 1 + j) h ≡ Some o

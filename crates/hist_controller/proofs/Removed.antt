@@ -6,9 +6,9 @@ use Rattle.ikeless_tree.specs.declared.command.Peer.{Peer}
 use Rattle.hist_controller.specs.Acts.{Way, Association, Order, Read, Policy, PutIn, PutOut, RemoveIn, RemoveOut, Act, Opened, Cut, Answered, Heard, Ordered, Accepted, Refused, Event}
 use Rattle.hist_controller.specs.Past.{after, is_open, session, oldest, rest, queue, ready, is_first, serials, Kind, PuttingIn, RemovingIn, RemovingOut, is, is_own, answers_to, sends, heard, ended, put_in, left}
 use Rattle.hist_controller.specs.Law.{history}
-use Rattle.hist_controller.specs.May.{Has, MayOrder, IsPast}
+use Rattle.hist_controller.specs.Clauses.{Has, MayOrder, IsPast}
 use Rattle.hist_controller.specs.Counts.{times_at, times_now}
-use Rattle.hist_controller.proofs.Keeps.{eq-own}
+use Rattle.hist_controller.proofs.KeptState.{eq-own}
 use Rattle.hist_controller.proofs.Serials.{has-more, has-filter, has-if, put-one, low}
 use Rattle.hist_controller.proofs.Turns.{any-has, any-last, any-if}
 use Rattle.hist_controller.proofs.Clauses.{past-history}
@@ -300,9 +300,8 @@ abbrev Spared : Kind → ℕ → ℕ → List Act → Type 0
 Spared k n g h = (times_now k n g h ≤ 1) × (times_at k n g h ≤ session g h)
 
 -- in each session a half is ordered removed once at most, and at a gateway not more often than sessions were opened
-pub removed-once : (p : List Peer) (es : List Event) (n g : ℕ) → Spared RemovingOut n g (after [] (history p [] es)) × Spared RemovingIn n g (after [] (history p [] es))
-removed-once p es n g =
-    let l = past-history p es in
-    let a = sparing RemovingOut (length p) n g (sparing-out (length p)) (after [] (history p [] es)) l in
-    let b = sparing RemovingIn (length p) n g (sparing-in (length p)) (after [] (history p [] es)) l in
+pub removed-once : (p : ℕ) (h : List Act) → IsPast p h → (n g : ℕ) → Spared RemovingOut n g h × Spared RemovingIn n g h
+removed-once p h l n g =
+    let a = sparing RemovingOut p n g (sparing-out p) h l in
+    let b = sparing RemovingIn p n g (sparing-in p) h l in
     ((a.now, a.all), (b.now, b.all))

@@ -3,8 +3,8 @@ use Rattle.std.proofs.Common.{◌≡◌, ℕ, ◌+◌, ◌≤◌, Bool, true, fa
 use Rattle.std.specs.List.{filter}
 use Rattle.hist_controller.specs.Acts.{Way, Association, Order, Read, Policy, PutIn, PutOut, RemoveIn, RemoveOut, Act, Opened, Cut, Answered, Heard, Ordered, Accepted, Refused}
 use Rattle.hist_controller.specs.Past.{oldest, queue, serials, is_first, directions, RemovingIn, answers_to, put_in, left}
-use Rattle.hist_controller.specs.May.{Has, MayOrder, IsPast, MayInPut}
-use Rattle.hist_controller.proofs.Keeps.{Rising, rising}
+use Rattle.hist_controller.specs.Clauses.{Has, MayOrder, IsPast, MayInPut}
+use Rattle.hist_controller.proofs.KeptState.{Rising, rising}
 
 pub has-more : {A : Type 0} (x : A) (xs ys : List A) → Has x (xs ++ ys) → Has x xs ⊎ Has x ys
 has-more x [] ys i = inr i

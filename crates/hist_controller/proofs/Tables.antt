@@ -3,7 +3,7 @@ use Rattle.std.proofs.Common.{◌≡◌, ℕ, ◌-◌, ◌<◌, Bool, true, fals
 use Rattle.hist_controller.specs.Acts.{Placed, SetPolicy, Tunnel, End, Rekey, Keys, Act, Opened, Cut, Answered, Heard, Ordered, Accepted, Refused}
 use Rattle.hist_controller.specs.State.{KeptGateway, opened, closed, answered, ordered, gateway_told, did}
 use Rattle.hist_controller.specs.Table.{Table, gateway_at, change, listed, told_gates, seen, did_table, fits_placed, Fits}
-use Rattle.hist_controller.proofs.Keeps.{same-at, same-state}
+use Rattle.hist_controller.proofs.KeptState.{same-at, same-state}
 
 at-change : (f g : ℕ) (k : KeptGateway → KeptGateway) (xs : List KeptGateway) → f < length xs → gateway_at g (change f k xs) ≡ (if g == f then k (gateway_at g xs) else gateway_at g xs)
 at-change f g k [] e = absurd (omega arith)

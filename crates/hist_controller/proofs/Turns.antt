@@ -7,8 +7,8 @@ use Rattle.ikeless_tree.specs.declared.command.Peer.{Peer}
 use Rattle.hist_controller.specs.Acts.{Way, Association, Order, Read, Policy, PutIn, PutOut, RemoveIn, RemoveOut, Placed, Act, Opened, Cut, Answered, Heard, Ordered, Accepted, Refused, Event, Told, Opens, Cuts, Answers, Notices}
 use Rattle.hist_controller.specs.Past.{after, is_open, session, orders, answers, queue, serials, spare, used, directions, PuttingIn, PuttingOut, is, is_own, puts_first, put_in, left, busy}
 use Rattle.hist_controller.specs.Law.{may_in_put, give, pass, by_command, read_put, by_notice, placed, refusal, asked_then, going, by_refusal, by_answer, block, history}
-use Rattle.hist_controller.specs.May.{Has, Quiet, NotIdle, MayAll, IsPast}
-use Rattle.hist_controller.proofs.Keeps.{eq-own}
+use Rattle.hist_controller.specs.Clauses.{Has, Quiet, NotIdle, MayAll, IsPast}
+use Rattle.hist_controller.proofs.KeptState.{eq-own}
 use Rattle.hist_controller.proofs.Gives.{Idle, Given, nothing, out_removed, in_removed, out_was_put, in_was_put, given, ways-give}
 use Rattle.hist_controller.proofs.Serials.{of-way, low, one, one-way}
 use Rattle.hist_controller.proofs.Clauses.{may-given, may-block, past-after, after-append, may-command, may-read-put, may-notice}

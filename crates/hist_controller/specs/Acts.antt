@@ -15,8 +15,8 @@ pub record Way : Type 0 where
   pub tunnel : TunnelSpec
   pub sender : ℕ
   pub receiver : ℕ
-  pub near : Prefix     -- behind the sender
-  pub far : Prefix      -- behind the receiver
+  pub near : Prefix  -- behind the sender
+  pub far : Prefix  -- behind the receiver
 
 -- an association as its two halves are put: `in/N` at the receiver and `out/N` at the sender, N its serial
 pub record Association : Type 0 where

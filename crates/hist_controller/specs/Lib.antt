@@ -4,9 +4,9 @@ pub mod Law
 pub mod Told
 pub mod State
 pub mod Machine
-pub mod May
+pub mod Clauses
 pub mod Counts
-pub mod Plain
-pub mod World
-pub mod Whole
+pub mod Numbers
+pub mod Orders
+pub mod Ever
 pub mod Table

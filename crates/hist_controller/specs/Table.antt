@@ -1,8 +1,10 @@
 -- What the code can keep: a list in place of a function of the gateway.
-use Rattle.std.specs.Prelude.{ℕ, ◌+◌, ◌-◌, ◌<◌, false, ◌==◌, List, [], ◌∷◌, ◌++◌, Some, None, map, length, if◌then◌else◌}
+use Rattle.std.specs.Prelude.{ℕ, zero, suc, ◌+◌, ◌-◌, ◌<◌, false, ◌==◌, List, [], ◌∷◌, ◌++◌, Some, None, map, length, if◌then◌else◌}
 use Rattle.ikeless_tree.specs.declared.entry.SpdEntry.{SpdEntry}
-use Rattle.hist_controller.specs.Acts.{Placed, SetPolicy, Act, Opened, Cut, Answered, Heard, Ordered, Accepted, Refused}
+use Rattle.ikeless_tree.specs.declared.command.Peer.{Peer}
+use Rattle.hist_controller.specs.Acts.{Placed, SetPolicy, Act, Opened, Cut, Answered, Heard, Ordered, Accepted, Refused, Event, Told, Opens, Cuts, Answers, Notices}
 use Rattle.hist_controller.specs.Past.{oldest, used, key_of, is_first, born}
+use Rattle.hist_controller.specs.Machine.{acts_of}
 use Rattle.hist_controller.specs.State.{KeptGateway, KeptWay, State, opened, closed, answered, ordered, way_told, fresh_way, way_cut, way_answered, way_heard, way_ordered}
 
 pub record Table : Type 0 where
@@ -60,8 +62,30 @@ abbrev pub AllFit : ℕ → List Act → Type 0
 AllFit p [] = Unit {0}
 AllFit p (a ∷ h) = Fits p a × AllFit p h
 
--- each session was opened at a known gateway
-abbrev pub AllOpened : ℕ → List Act → Type 0
-AllOpened p [] = Unit {0}
-AllOpened p (Opened g s ∷ h) = (g < p) × AllOpened p h
-AllOpened p (_ ∷ h) = AllOpened p h
+-- the event speaks of one of so many gateways
+abbrev pub EventFits : ℕ → Event → Type 0
+EventFits p (Told c) = Unit {0}
+EventFits p (Opens g) = g < p
+EventFits p (Cuts g) = g < p
+EventFits p (Answers g a) = g < p
+EventFits p (Notices g t) = g < p
+
+abbrev pub AllEventsFit : ℕ → List Event → Type 0
+AllEventsFit p [] = Unit {0}
+AllEventsFit p (e ∷ es) = EventFits p e × AllEventsFit p es
+
+-- so many shut gateways, and nothing else
+abbrev pub shut_gateways : ℕ → List KeptGateway
+shut_gateways zero = []
+shut_gateways (suc n) = shut ∷ shut_gateways n
+
+abbrev pub first_table : ℕ → Table
+first_table n = record { gateways = shut_gateways n; ways = []; keys = []; spare = []; serials = 0 }
+
+abbrev pub did_all_table : Table → List Act → Table
+did_all_table t [] = t
+did_all_table t (a ∷ more) = did_all_table (did_table t a) more
+
+-- the table after an event
+abbrev pub next_table : List Peer → Table → Event → Table
+next_table ps t e = did_all_table t (acts_of ps (seen t) e)

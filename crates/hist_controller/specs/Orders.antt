@@ -1,4 +1,4 @@
--- What the world's safety needs of the controller, in words of orders alone.
+-- What stood before each order, in words of orders and answers alone.
 use Rattle.std.specs.Prelude.{◌≡◌, ℕ, Bool, true, false, ◌==◌, not, ◌&&◌, ◌||◌, List, [], ◌∷◌, Option, Some, None, ◌⊎◌}
 use Rattle.std.specs.List.{list_any}
 use Rattle.ikeless_tree.specs.declared.order.Answer.{Answer}
@@ -40,3 +40,13 @@ abbrev pub AllBefore : List Act → Type 0
 AllBefore [] = Unit {0}
 AllBefore (Ordered g s n o ∷ h) = Before h o × AllBefore h
 AllBefore (_ ∷ h) = AllBefore h
+
+-- the order was given at this gateway
+abbrev pub Given : Order → ℕ → List Act → Type 0
+Given o g [] = ⊥
+Given o g (Ordered f s n z ∷ h) = ((o ≡ z) × (g ≡ f)) ⊎ Given o g h
+Given o g (_ ∷ h) = Given o g h
+
+-- the association of this serial was put so
+abbrev pub PutOf : (Association → Order) → ℕ → ℕ → List Act → Type 0
+PutOf put n g h = (x : Association) × (n ≡ x.serial) × Given (put x) g h

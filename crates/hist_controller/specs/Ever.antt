@@ -3,7 +3,7 @@ use Rattle.std.specs.Prelude.{◌≡◌, false, List, [], ◌∷◌, ◌++◌, l
 use Rattle.hist_controller.specs.Acts.{Way, Association, Act, Ordered, Accepted}
 use Rattle.hist_controller.specs.Past.{directions, made_by, RemovingIn, heard, put_in, spare, busy}
 use Rattle.hist_controller.specs.Law.{may_out_remove, may_in_remove, may_out_put, may_in_put}
-use Rattle.hist_controller.specs.May.{Has}
+use Rattle.hist_controller.specs.Clauses.{Has}
 
 -- the associations put in the direction
 abbrev pub made : Way → List Act → List Association
