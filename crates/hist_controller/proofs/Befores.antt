@@ -1,0 +1,309 @@
+-- Each order of a history stands after what the world's safety needs.
+use Rattle.std.proofs.Common.{◌≡◌, ℕ, ◌+◌, ◌<◌, ◌≤◌, Bool, true, false, ◌==◌, not, ◌&&◌, ◌||◌, List, [], ◌∷◌, ◌++◌, Option, Some, None, ◌⊎◌, inl, inr, refl, sym, subst, ◌∙◌, ap, arith, if◌then◌else◌, length, append-nil}
+use Rattle.std.specs.List.{list_any}
+use Rattle.ikeless_tree.specs.declared.order.Answer.{Answer}
+use Rattle.ikeless_tree.specs.declared.command.Peer.{Peer}
+use Rattle.hist_controller.specs.Acts.{Way, Association, Order, Read, Policy, PutIn, PutOut, RemoveIn, RemoveOut, Act, Opened, Cut, Answered, Heard, Ordered, Accepted, Refused, Event}
+use Rattle.hist_controller.specs.Past.{after, oldest, rest, queue, ready, serials, is_first, directions, Kind, PuttingIn, PuttingOut, RemovingIn, RemovingOut, is, is_own, answers_to, sends, heard, spoils, ended, in_progress, put_in, left}
+use Rattle.hist_controller.specs.Law.{history}
+use Rattle.hist_controller.specs.Clauses.{Has, MayOrder, IsPast, MayInPut, MayOutPut, MayInRemove, MayOutRemove}
+use Rattle.hist_controller.specs.Counts.{times}
+use Rattle.hist_controller.specs.Orders.{given, not_shown, missed, Before, AllBefore}
+use Rattle.hist_controller.proofs.Serials.{has-more, has-filter, has-if, put-one, of-way, low, one, one-way}
+use Rattle.hist_controller.proofs.Turns.{has-left}
+use Rattle.hist_controller.proofs.Often.{once, not-sent}
+use Rattle.hist_controller.proofs.Removed.{neither}
+use Rattle.hist_controller.proofs.Clauses.{past-history}
+
+none-given : (k : Kind) (n : ℕ) (h : List Act) → times k n h ≡ 0 → given k n h ≡ false
+none-given k n [] e = refl
+none-given k n (Opened g s ∷ h) e = none-given k n h e
+none-given k n (Cut g s ∷ h) e = none-given k n h e
+none-given k n (Answered g s i a ∷ h) e = none-given k n h e
+none-given k n (Heard g s t ∷ h) e = none-given k n h e
+none-given k n (Ordered g s i o ∷ h) e = let ih = none-given k n h in grind (arith, ih)
+none-given k n (Accepted c ∷ h) e = none-given k n h e
+none-given k n (Refused w ∷ h) e = none-given k n h e
+
+sent-given : (n : ℕ) (h : List Act) → sends n h ≡ true → given PuttingOut n h ≡ true
+sent-given n [] e = e
+sent-given n (Opened g s ∷ h) e = sent-given n h e
+sent-given n (Cut g s ∷ h) e = sent-given n h e
+sent-given n (Answered g s i a ∷ h) e = sent-given n h e
+sent-given n (Heard g s t ∷ h) e = sent-given n h e
+sent-given n (Ordered g s i o ∷ h) e = let ih = sent-given n h in grind (arith, ih)
+sent-given n (Accepted c ∷ h) e = sent-given n h e
+sent-given n (Refused w ∷ h) e = sent-given n h e
+
+-- ## what an inbound removal says for good
+
+record Marked (h : List Act) : Type 0 where
+  pub new : (n : ℕ) → serials h < n → given RemovingIn n h ≡ false
+  pub gone : (d : Way) (x : Association) → Has x (left d h) → given RemovingIn x.serial h ≡ true → ended x h ≡ true
+
+first-of-4 : (a b c : Bool) → (a && b && c) ≡ true → a ≡ true
+first-of-4 a b c e = grind arith
+
+pub or-or : (a b : Bool) → b ≡ true → (a || b) ≡ true
+or-or true b e = refl
+or-or false b e = e
+
+old-ended : (h : List Act) (o : Order) (x : Association) → is PuttingIn x.serial o ≡ false → ended x h ≡ true → (not (is PuttingIn x.serial o) && ended x h) ≡ true
+old-ended h o x r e = rw (r, e) refl
+
+pub old-left : (h : List Act) (d : Way) (x : Association) → Has x (left d h ++ []) → Has x (left d h)
+old-left h d x i = subst (Has x) (append-nil (left d h)) i
+
+gone-remove : (p : ℕ) (h : List Act) → IsPast p h → Marked h → (g q : ℕ) → MayInRemove h g q → (d : Way) (x : Association) → Has x (left d h) → (b : Bool) → (x.serial == q) ≡ b → (b || given RemovingIn x.serial h) ≡ true → ended x h ≡ true
+gone-remove p h l k g q m d x i true e w =
+    let s : x.serial ≡ q = grind arith in
+    let t = one p h l d m.way x m.association i m.left (s ∙ m.name) in
+    rw t (first-of-4 (ended m.association h) (not (sends m.association.serial h) || heard RemovingOut m.association.serial h) (ready m.way.receiver h) m.may)
+gone-remove p h l k g q m d x i false e w = k.gone d x i w
+
+gone-put : (p : ℕ) (h : List Act) → IsPast p h → Marked h → (z : Association) → z.serial ≡ serials h + 1 → (d : Way) (x : Association) → Has x (left d h) ⊎ Has x (put_in d (PutIn z)) → given RemovingIn x.serial h ≡ true → (not (x.serial == z.serial) && ended x h) ≡ true
+gone-put p h l k z e d x (inl i) w =
+    let b = low p h l d x i in
+    let r : (x.serial == z.serial) ≡ false = grind arith in
+    rw (r, k.gone d x i w) refl
+gone-put p h l k z e d x (inr i) w =
+    let q = put-one d x (PutIn z) i in
+    let s : z ≡ x = cc in
+    let t : serials h < x.serial = rw (← s) (omega arith) in
+    let n = k.new x.serial t in
+    cc
+
+pub not-either : (a b : Bool) → a ≡ false → b ≡ false → (a || b) ≡ false
+not-either a b e f = rw (e, f) refl
+
+marked-order : (p : ℕ) (h : List Act) (g s i : ℕ) (o : Order) → IsPast p h → MayOrder h g o → Marked h → Marked (Ordered g s i o ∷ h)
+marked-order p h g s i Read l m k = record { new = k.new; gone = λ d x j w. k.gone d x (old-left h d x j) w }
+marked-order p h g s i (Policy q) l m k = record { new = k.new; gone = λ d x j w. k.gone d x (old-left h d x j) w }
+marked-order p h g s i (PutIn z) l m k =
+    record {
+      new = λ n w. k.new n (omega arith);
+      gone = λ d x j w. gone-put p h l k z m.serial d x (has-more x (left d h) (put_in d (PutIn z)) j) w;
+    }
+marked-order p h g s i (PutOut z) l m k = record { new = k.new; gone = λ d x j w. k.gone d x (old-left h d x j) w }
+marked-order p h g s i (RemoveIn q) l m k =
+    let b = low p h l m.way m.association m.left in
+    let e = m.name in
+    record {
+      new = λ n w. not-either (n == q) (given RemovingIn n h) (grind arith) (k.new n w);
+      gone = λ d x j w. gone-remove p h l k g q m d x (old-left h d x j) (x.serial == q) refl w;
+    }
+marked-order p h g s i (RemoveOut q) l m k = record { new = k.new; gone = λ d x j w. k.gone d x (old-left h d x j) w }
+
+marked : (p : ℕ) (h : List Act) → IsPast p h → Marked h
+marked p [] l = record { new = λ n w. refl; gone = λ d x i. absurd i }
+marked p (Opened g s ∷ h) l = let k = marked p h l.1 in record { new = k.new; gone = k.gone }
+marked p (Cut g s ∷ h) l = let k = marked p h l.1 in record { new = k.new; gone = λ d x i w. or-or _ _ (k.gone d x i w) }
+marked p (Answered g s n a ∷ h) l =
+    let k = marked p h l.1 in
+    record { new = k.new; gone = λ d x i w. or-or _ _ (k.gone d x (has-filter (λ y. not (answers_to RemovingIn y.serial (oldest (queue g h)))) x (left d h) i) w) }
+marked p (Heard g s t ∷ h) l = let k = marked p h l.1 in record { new = k.new; gone = k.gone }
+marked p (Ordered g s n o ∷ h) l = marked-order p h g s n o l.1 l.0.3 (marked p h l.1)
+marked p (Accepted c ∷ h) l = let k = marked p h l.1 in record { new = k.new; gone = λ d x i w. or-or _ _ (k.gone d x (has-if x _ (left d h) i).1 w) }
+marked p (Refused w ∷ h) l = let k = marked p h l.1 in record { new = k.new; gone = k.gone }
+
+-- ## where an outbound put waits
+
+pub record Home (h : List Act) (g : ℕ) (y : Association) : Type 0 where
+  pub way : Way
+  pub of : Has way (directions h)
+  pub own : (way.id == y.way.id) ≡ true
+  pub at : g ≡ way.sender
+  pub low : y.serial ≤ serials h
+  pub alone : (d : Way) (x : Association) → Has x (left d h) → x.serial ≡ y.serial → x ≡ y
+
+abbrev Homes : List Act → Type 0
+Homes h = (g : ℕ) (y : Association) → Has (PutOut y) (queue g h) → Home h g y
+
+pub has-queue : (b : Bool) (q : List Order) (o z : Order) → Has z (if b then q ++ o ∷ [] else q) → Has z q ⊎ ((z ≡ o) × (b ≡ true))
+has-queue true q o z i = elim (has-more z q (o ∷ []) i) as (λ w. Has z q ⊎ ((z ≡ o) × (true ≡ true))) [ inl j ↦ inl j | inr j ↦ inr (last z o j, refl) ]
+  where
+    last : (z o : Order) → Has z (o ∷ []) → z ≡ o
+    last z o (inl e) = e
+    last z o (inr e) = absurd e
+has-queue false q o z i = inl i
+
+pub has-rest : (b : Bool) (q : List Order) (z : Order) → Has z (if b then rest q else q) → Has z q
+has-rest true [] z i = i
+has-rest true (o ∷ os) z i = inr i
+has-rest false q z i = i
+
+pub has-none : (b : Bool) (q : List Order) (z : Order) → Has z (if b then [] else q) → Has z q
+has-none true q z i = absurd i
+has-none false q z i = i
+
+grown : (b : Bool) (n : ℕ) → n ≤ (if b then n + 1 else n)
+grown true n = omega arith
+grown false n = omega arith
+
+pub home-order : (p : ℕ) (h : List Act) (f s i : ℕ) (o : Order) → IsPast p h → MayOrder h f o → (g : ℕ) (y : Association) → Home h g y → Home (Ordered f s i o ∷ h) g y
+home-order p h f s i o l m g y k =
+    let b = k.low in
+    let r = grown (is_first o) (serials h) in
+    record {
+      way = k.way;
+      of = k.of;
+      own = k.own;
+      at = k.at;
+      low = omega arith;
+      alone = λ d x j e. alone d x (has-more x (left d h) (put_in d o) j) e;
+    }
+  where
+    alone : (d : Way) (x : Association) → Has x (left d h) ⊎ Has x (put_in d o) → x.serial ≡ y.serial → x ≡ y
+    alone d x (inl j) e = k.alone d x j e
+    alone d x (inr j) e =
+        let m' : MayInPut h f x = subst (MayOrder h f) (put-one d x o j).0 m in
+        let q = m'.serial in
+        let b = k.low in
+        absurd (omega arith)
+
+pub new-home : (p : ℕ) (h : List Act) (f s i : ℕ) (g : ℕ) (y : Association) → IsPast p h → MayOutPut h f y → g ≡ f → Home (Ordered f s i (PutOut y) ∷ h) g y
+new-home p h f s i g y l m e =
+    record {
+      way = m.way;
+      of = m.of;
+      own = of-way h m.way y m.left;
+      at = e ∙ m.at;
+      low = low p h l m.way y m.left;
+      alone = λ d x j q. one p h l d m.way x y (old-left h d x j) m.left q;
+    }
+
+homes-order : (p : ℕ) (h : List Act) (f s i : ℕ) (o : Order) → IsPast p h → MayOrder h f o → Homes h → (g : ℕ) (y : Association) → Has (PutOut y) (queue g h) ⊎ ((PutOut y ≡ o) × ((g == f) ≡ true)) → Home (Ordered f s i o ∷ h) g y
+homes-order p h f s i o l m k g y (inl j) = home-order p h f s i o l m g y (k g y j)
+homes-order p h f s i o l m k g y (inr j) =
+    let e : g ≡ f = let t = j.1 in grind arith in
+    let m' : MayOutPut h f y = subst (MayOrder h f) (sym j.0) m in
+    subst (λ z. Home (Ordered f s i z ∷ h) g y) j.0 (new-home p h f s i g y l m' e)
+
+homes : (p : ℕ) (h : List Act) → IsPast p h → Homes h
+homes p [] l g y i = absurd i
+homes p (Opened f s ∷ h) l g y i = let k = homes p h l.1 g y (has-none (g == f) (queue g h) (PutOut y) i) in record { way = k.way; of = k.of; own = k.own; at = k.at; low = k.low; alone = k.alone }
+homes p (Cut f s ∷ h) l g y i = let k = homes p h l.1 g y (has-none (g == f) (queue g h) (PutOut y) i) in record { way = k.way; of = k.of; own = k.own; at = k.at; low = k.low; alone = k.alone }
+homes p (Answered f s n a ∷ h) l g y i =
+    let k = homes p h l.1 g y (has-rest (g == f) (queue g h) (PutOut y) i) in
+    record { way = k.way; of = k.of; own = k.own; at = k.at; low = k.low; alone = λ d x j e. k.alone d x (has-filter (λ z. not (answers_to RemovingIn z.serial (oldest (queue f h)))) x (left d h) j) e }
+homes p (Heard f s t ∷ h) l g y i = let k = homes p h l.1 g y i in record { way = k.way; of = k.of; own = k.own; at = k.at; low = k.low; alone = k.alone }
+homes p (Ordered f s n o ∷ h) l g y i = homes-order p h f s n o l.1 l.0.3 (homes p h l.1) g y (has-queue (g == f) (queue g h) o (PutOut y) i)
+homes p (Accepted c ∷ h) l g y i =
+    let k = homes p h l.1 g y i in
+    record { way = k.way; of = has-left k.way (directions h) _ k.of; own = k.own; at = k.at; low = k.low; alone = λ d x j e. k.alone d x (has-if x _ (left d h) j).1 e }
+homes p (Refused w ∷ h) l g y i = let k = homes p h l.1 g y i in record { way = k.way; of = k.of; own = k.own; at = k.at; low = k.low; alone = k.alone }
+
+-- no outbound put of the association waits anywhere, where its direction is free
+pub no-put-in : (q : List Order) (n : ℕ) → ((y : Association) → Has (PutOut y) q → (n == y.serial) ≡ false) → list_any (is PuttingOut n) q ≡ false
+no-put-in [] n f = refl
+no-put-in (o ∷ os) n f = not-either (is PuttingOut n o) (list_any (is PuttingOut n) os) (here o (λ y e. f y (inl e))) (no-put-in os n (λ y j. f y (inr j)))
+  where
+    here : (o : Order) → ((y : Association) → PutOut y ≡ o → (n == y.serial) ≡ false) → is PuttingOut n o ≡ false
+    here Read g = refl
+    here (Policy l) g = refl
+    here (PutIn x) g = refl
+    here (PutOut x) g = g x refl
+    here (RemoveIn m) g = refl
+    here (RemoveOut m) g = refl
+
+pub is-not : (b : Bool) → (b ≡ true → ⊥) → b ≡ false
+is-not true f = absurd (f refl)
+is-not false f = refl
+
+pub any-yes : {A : Type 0} (p : A → Bool) (xs : List A) (x : A) → Has x xs → p x ≡ true → list_any p xs ≡ false → ⊥
+any-yes p [] x i e f = absurd i
+any-yes p (y ∷ ys) x (inl q) e f = let w : p y ≡ true = ap p (sym q) ∙ e in let t = neither (p y) (list_any p ys) f in let u : true ≡ false = sym w ∙ t.0 in cc
+any-yes p (y ∷ ys) x (inr i) e f = any-yes p ys x i e (neither (p y) (list_any p ys) f).1
+
+no-put : (p : ℕ) (h : List Act) (f n : ℕ) → IsPast p h → MayOutRemove h f n → (g : ℕ) → list_any (is PuttingOut n) (queue g h) ≡ false
+no-put p h f n l m g = no-put-in (queue g h) n (λ y j. is-not (n == y.serial) (λ e.
+    let k = homes p h l g y j in
+    let s : m.association.serial ≡ y.serial = let q = m.name in grind arith in
+    let t = k.alone m.way m.association m.left s in
+    let a = of-way h m.way m.association m.left in
+    let a' : (m.way.id == y.way.id) ≡ true = rw t at a in
+    let b = k.own in
+    let c : k.way ≡ m.way = one-way h k.way m.way k.of m.of (grind arith) in
+    let v : g ≡ m.way.sender = k.at ∙ ap (λ (z : Way). z.sender) c in
+    let w = neither (list_any (is_own m.way (left m.way h)) (queue m.way.sender h)) (list_any (is_own m.way (left m.way h)) (queue m.way.receiver h)) m.free in
+    any-yes (is_own m.way (left m.way h)) (queue m.way.sender h) (PutOut y) (subst (λ z. Has (PutOut y) (queue z h)) v j) a' w.0))
+
+-- ## each order
+
+split-or : (a b : Bool) → (not a || b) ≡ true → (a ≡ false) ⊎ (b ≡ true)
+split-or true b e = inr e
+split-or false b e = inl refl
+
+second-of-3 : (a b c : Bool) → (a && b && c) ≡ true → b ≡ true
+second-of-3 a b c e = grind arith
+
+third-of-5 : (a b c d e : Bool) → (a && b && c && d && e) ≡ true → c ≡ true
+third-of-5 a b c d e q = grind arith
+
+second-of-4 : (a b c d : Bool) → (a && b && c && d) ≡ true → b ≡ true
+second-of-4 a b c d q = grind arith
+
+pub not-ended : (a b c d e f : Bool) → ((not a && b) && c && d && e && f) ≡ true → a ≡ false
+not-ended a b c d e f q = grind arith
+
+spoiled : (x : Association) (g : ℕ) (o : Option Order) (a : Answer) (done sent : Bool) → sent ≡ false → not_shown x g o a done ≡ true → spoils x g o a done sent ≡ true
+spoiled x g None a done sent e t = cc
+spoiled x g (Some Read) a done sent e t = grind arith
+spoiled x g (Some (Policy l)) a done sent e t = cc
+spoiled x g (Some (PutIn y)) a done sent e t = cc
+spoiled x g (Some (PutOut y)) a done sent e t = cc
+spoiled x g (Some (RemoveIn n)) a done sent e t = cc
+spoiled x g (Some (RemoveOut n)) a done sent e t = cc
+
+missed-put : (r q m s e : Bool) → (m ≡ true → s ≡ false → e ≡ true) → (not r && m) ≡ true → (not r && (q || s)) ≡ false → (not r && e) ≡ true
+missed-put true q m s e f t u = cc
+missed-put false true m s e f t u = cc
+missed-put false false m s e f t u = f t u
+
+missed-or : (a b c d : Bool) → (a ≡ true → c ≡ true) → (b ≡ true → d ≡ true) → (a || b) ≡ true → (c || d) ≡ true
+missed-or true b c d f g e = rw (f refl) refl
+missed-or false b c d f g e = or-or c d (g e)
+
+missed-ended : (x : Association) (h : List Act) → missed x h ≡ true → sends x.serial h ≡ false → ended x h ≡ true
+missed-ended x [] t e = cc
+missed-ended x (Opened g s ∷ h) t e = missed-ended x h t e
+missed-ended x (Cut g s ∷ h) t e = or-or _ _ (missed-ended x h t e)
+missed-ended x (Answered g s n a ∷ h) t e = missed-or _ _ _ _ (spoiled x g (oldest (queue g h)) a (heard PuttingIn x.serial h) (sends x.serial h) e) (λ u. missed-ended x h u e) t
+missed-ended x (Heard g s n ∷ h) t e = missed-ended x h t e
+missed-ended x (Ordered g s n o ∷ h) t e = missed-put (is PuttingIn x.serial o) (is PuttingOut x.serial o) (missed x h) (sends x.serial h) (ended x h) (missed-ended x h) t e
+missed-ended x (Accepted c ∷ h) t e = or-or _ _ (missed-ended x h t e)
+missed-ended x (Refused w ∷ h) t e = missed-ended x h t e
+
+pub before : (p : ℕ) (h : List Act) (g : ℕ) (o : Order) → IsPast p h → MayOrder h g o → Before h o
+before p h g Read l m = tt
+before p h g (Policy q) l m = tt
+before p h g (PutIn x) l m = let k = once p x.serial h l in let e = m.serial in none-given PuttingIn x.serial h (k.new_in (omega arith))
+before p h g (PutOut x) l m =
+    let k = once p x.serial h l in
+    let w = marked p h l in
+    let e = not-ended (ended x h) (not (heard PuttingOut x.serial h)) (not (sends x.serial h)) (heard PuttingIn x.serial h) (ready m.way.sender h) (ready m.way.receiver h) m.may in (
+      third-of-5 (in_progress h x) (not (sends x.serial h)) (heard PuttingIn x.serial h) (ready m.way.sender h) (ready m.way.receiver h) m.may,
+      none-given PuttingOut x.serial h (k.sent_out (not-sent (in_progress h x) (sends x.serial h) (heard PuttingIn x.serial h) (ready m.way.sender h) (ready m.way.receiver h) m.may)),
+      is-not (given RemovingIn x.serial h) (λ t. let u = w.gone m.way x m.left t in cc),
+      is-not (missed x h) (λ t. let u = missed-ended x h t (not-sent (in_progress h x) (sends x.serial h) (heard PuttingIn x.serial h) (ready m.way.sender h) (ready m.way.receiver h) m.may) in cc),
+    )
+before p h g (RemoveOut n) l m = (
+  rw m.name (sent-given m.association.serial h (second-of-4 (ended m.association h) (sends m.association.serial h) (not (heard RemovingOut m.association.serial h)) (ready m.way.sender h) m.may)),
+  no-put p h g n l m,
+)
+before p h g (RemoveIn n) l m =
+    let k = once p m.association.serial h l in
+    elim (split-or (sends m.association.serial h) (heard RemovingOut m.association.serial h) (second-of-3 (ended m.association h) (not (sends m.association.serial h) || heard RemovingOut m.association.serial h) (ready m.way.receiver h) m.may)) as (λ q. (given PuttingOut n h ≡ false) ⊎ (heard RemovingOut n h ≡ true)) [
+      | inl e ↦ inl (rw m.name (none-given PuttingOut m.association.serial h (k.sent_out e)))
+      | inr e ↦ inr (rw m.name e)
+    ]
+
+pub all-before : (p : ℕ) (h : List Act) → IsPast p h → AllBefore h
+all-before p [] l = tt
+all-before p (Opened g s ∷ h) l = all-before p h l.1
+all-before p (Cut g s ∷ h) l = all-before p h l.1
+all-before p (Answered g s n a ∷ h) l = all-before p h l.1
+all-before p (Heard g s t ∷ h) l = all-before p h l.1
+all-before p (Ordered g s n o ∷ h) l = (before p h g o l.1 l.0.3, all-before p h l.1)
+all-before p (Accepted c ∷ h) l = all-before p h l.1
+all-before p (Refused w ∷ h) l = all-before p h l.1

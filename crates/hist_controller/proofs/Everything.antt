@@ -1,0 +1,293 @@
+-- What is no longer left was ended and needs no order, so the words over what is left are those over all.
+use Rattle.std.proofs.Common.{◌≡◌, ℕ, ◌≤◌, Bool, true, false, ◌==◌, not, ◌&&◌, ◌||◌, List, [], ◌∷◌, ◌++◌, length, ◌⊎◌, inl, inr, refl, sym, subst, ◌∙◌, ap, arith, if◌then◌else◌}
+use Rattle.std.specs.List.{filter, list_any}
+use Rattle.ikeless_tree.specs.declared.order.Answer.{Answer}
+use Rattle.ikeless_tree.specs.declared.command.Peer.{Peer}
+use Rattle.hist_controller.specs.Acts.{Way, Association, Order, Read, Policy, PutIn, PutOut, RemoveIn, RemoveOut, Placed, Act, Opened, Cut, Answered, Heard, Ordered, Accepted, Refused, Event}
+use Rattle.hist_controller.specs.Past.{after, oldest, queue, ready, serials, is_first, directions, made_by, PuttingIn, PuttingOut, RemovingIn, RemovingOut, is, answers_to, sends, heard, ended, in_progress, put_in, left, lacks}
+use Rattle.hist_controller.specs.Law.{may_out_remove, may_in_remove, may_out_put, history}
+use Rattle.hist_controller.specs.Clauses.{Has, MayOrder, IsPast, MayInRemove, Quiet, NotIdle}
+use Rattle.hist_controller.specs.Ever.{made, AllQuiet, AllNotIdle}
+use Rattle.hist_controller.proofs.Serials.{has-more, has-filter, has-if, put-one, put-serial, more-if}
+use Rattle.hist_controller.proofs.Turns.{has-left, any-has, not-idle}
+use Rattle.hist_controller.proofs.Befores.{or-or, has-queue, has-rest, has-none, is-not, not-ended}
+use Rattle.hist_controller.proofs.Clauses.{past-history}
+
+abbrev pub Spent : Association → List Act → Type 0
+Spent x h = (ended x h ≡ true) × ((sends x.serial h ≡ false) ⊎ (heard RemovingOut x.serial h ≡ true))
+
+pub record Whole (h : List Act) : Type 0 where
+  pub low : (d : Way) (x : Association) → Has x (made d h) → x.serial ≤ serials h
+  pub one : (d e : Way) (x y : Association) → Has x (made d h) → Has y (made e h) → x.serial ≡ y.serial → x ≡ y
+  pub sub : (d : Way) (x : Association) → Has x (left d h) → Has x (made d h)
+  pub early : (g n : ℕ) → Has (RemoveIn n) (queue g h) → n ≤ serials h
+  pub waits : (g n : ℕ) → Has (RemoveIn n) (queue g h) → (d : Way) (x : Association) → Has x (made d h) → x.serial ≡ n → Spent x h
+  pub gone : (d : Way) (x : Association) → Has x (made d h) → Has x (left d h) ⊎ ((heard RemovingIn x.serial h ≡ true) × Spent x h)
+
+-- ## it stays spent
+
+spent-or : (x : Association) (h : List Act) (a b : Bool) → Spent x h → ((a || ended x h) ≡ true) × ((sends x.serial h ≡ false) ⊎ ((b || heard RemovingOut x.serial h) ≡ true))
+spent-or x h a b s = (or-or a (ended x h) s.0, later s.1)
+  where
+    later : (sends x.serial h ≡ false) ⊎ (heard RemovingOut x.serial h ≡ true) → (sends x.serial h ≡ false) ⊎ ((b || heard RemovingOut x.serial h) ≡ true)
+    later (inl e) = inl e
+    later (inr e) = inr (or-or b (heard RemovingOut x.serial h) e)
+
+spent-order : (x : Association) (h : List Act) (g s n : ℕ) (o : Order) → is PuttingIn x.serial o ≡ false → is PuttingOut x.serial o ≡ false → Spent x h → Spent x (Ordered g s n o ∷ h)
+spent-order x h g s n o e f p = rw (e, f) p
+
+no-in : (h : List Act) (g : ℕ) (o : Order) (x : Association) → MayOrder h g o → x.serial ≤ serials h → is PuttingIn x.serial o ≡ false
+no-in h g Read x m e = refl
+no-in h g (Policy l) x m e = refl
+no-in h g (PutIn z) x m e = let q = m.serial in grind arith
+no-in h g (PutOut z) x m e = refl
+no-in h g (RemoveIn n) x m e = refl
+no-in h g (RemoveOut n) x m e = refl
+
+no-out : (h : List Act) (g : ℕ) (o : Order) (x : Association) (d : Way) → Whole h → Has x (made d h) → MayOrder h g o → ended x h ≡ true → is PuttingOut x.serial o ≡ false
+no-out h g Read x d k i m e = refl
+no-out h g (Policy l) x d k i m e = refl
+no-out h g (PutIn z) x d k i m e = refl
+no-out h g (PutOut z) x d k i m e = is-not (x.serial == z.serial) (λ t.
+    let q : x.serial ≡ z.serial = grind arith in
+    let s : x ≡ z = k.one d m.way x z i (k.sub m.way z m.left) q in
+    let n = not-ended (ended z h) (not (heard PuttingOut z.serial h)) (not (sends z.serial h)) (heard PuttingIn z.serial h) (ready m.way.sender h) (ready m.way.receiver h) m.may in
+    let f : ended x h ≡ false = rw s n in
+    let u : true ≡ false = sym e ∙ f in
+    cc)
+no-out h g (RemoveIn n) x d k i m e = refl
+no-out h g (RemoveOut n) x d k i m e = refl
+
+spent-on : (h : List Act) (g s n : ℕ) (o : Order) (d : Way) (x : Association) → Whole h → MayOrder h g o → Has x (made d h) → Spent x h → Spent x (Ordered g s n o ∷ h)
+spent-on h g s n o d x k m i p = spent-order x h g s n o (no-in h g o x m (k.low d x i)) (no-out h g o x d k i m p.0) p
+
+-- ## orders
+
+whole-low : (h : List Act) (g s n : ℕ) (o : Order) → MayOrder h g o → Whole h → (d : Way) (x : Association) → Has x (made d h) ⊎ Has x (put_in d o) → x.serial ≤ serials (Ordered g s n o ∷ h)
+whole-low h g s n o m k d x (inl j) = more-if (is_first o) x.serial (serials h) (k.low d x j)
+whole-low h g s n o m k d x (inr j) = let e = (put-one d x o j).0 in let q = put-serial h g o x m e in rw e (omega arith)
+
+whole-one : (h : List Act) (g : ℕ) (o : Order) → MayOrder h g o → Whole h → (d e : Way) (x y : Association) → Has x (made d h) ⊎ Has x (put_in d o) → Has y (made e h) ⊎ Has y (put_in e o) → x.serial ≡ y.serial → x ≡ y
+whole-one h g o m k d e x y (inl i) (inl j) q = k.one d e x y i j q
+whole-one h g o m k d e x y (inl i) (inr j) q = let a = k.low d x i in let b = put-serial h g o y m (put-one e y o j).0 in absurd (omega arith)
+whole-one h g o m k d e x y (inr i) (inl j) q = let a = k.low e y j in let b = put-serial h g o x m (put-one d x o i).0 in absurd (omega arith)
+whole-one h g o m k d e x y (inr i) (inr j) q = let a = (put-one d x o i).0 in let b = (put-one e y o j).0 in cc
+
+right-in : {A : Type 0} (x : A) (xs ys : List A) → Has x ys → Has x (xs ++ ys)
+right-in x [] ys i = i
+right-in x (z ∷ xs) ys i = inr (right-in x xs ys i)
+
+whole-sub : (h : List Act) (o : Order) → Whole h → (d : Way) (x : Association) → Has x (left d h) ⊎ Has x (put_in d o) → Has x (made d h ++ put_in d o)
+whole-sub h o k d x (inl j) = has-left x (made d h) (put_in d o) (k.sub d x j)
+whole-sub h o k d x (inr j) = right-in x (made d h) (put_in d o) j
+
+first-of : (a b c : Bool) → (a && b && c) ≡ true → (a ≡ true) × (b ≡ true)
+first-of true true c e = (refl, refl)
+first-of true false c e = cc
+first-of false b c e = cc
+
+no-or-done : (a b : Bool) → (not a || b) ≡ true → (a ≡ false) ⊎ (b ≡ true)
+no-or-done true b e = inr e
+no-or-done false b e = inl refl
+
+-- what is ordered removed inbound is spent
+spent-now : (h : List Act) (g n : ℕ) → MayInRemove h g n → Whole h → (d : Way) (x : Association) → Has x (made d h) → x.serial ≡ n → Spent x h
+spent-now h g n m k d x i e =
+    let s : x ≡ m.association = k.one d m.way x m.association i (k.sub m.way m.association m.left) (e ∙ m.name) in
+    let t = first-of (ended m.association h) (not (sends m.association.serial h) || heard RemovingOut m.association.serial h) (ready m.way.receiver h) m.may in
+    rw s (t.0, no-or-done (sends m.association.serial h) (heard RemovingOut m.association.serial h) t.1)
+
+whole-waits : (h : List Act) (f s i : ℕ) (o : Order) → MayOrder h f o → Whole h → (g n : ℕ) → Has (RemoveIn n) (queue g h) ⊎ ((RemoveIn n ≡ o) × ((g == f) ≡ true)) → (d : Way) (x : Association) → Has x (made d h) ⊎ Has x (put_in d o) → x.serial ≡ n → Spent x (Ordered f s i o ∷ h)
+whole-waits h f s i o m k g n (inl j) d x (inl a) e = spent-on h f s i o d x k m a (k.waits g n j d x a e)
+whole-waits h f s i o m k g n (inr j) d x (inl a) e = spent-on h f s i o d x k m a (let m' : MayInRemove h f n = subst (MayOrder h f) (sym j.0) m in spent-now h f n m' k d x a e)
+whole-waits h f s i o m k g n (inr j) d x (inr b) e = let q = (put-one d x o b).0 in let r : RemoveIn n ≡ PutIn x = j.0 ∙ q in cc
+whole-waits h f s i o m k g n (inl j) d x (inr b) e = let q = put-serial h f o x m (put-one d x o b).0 in let w = k.early g n j in absurd (omega arith)
+
+whole-gone : (h : List Act) (g s n : ℕ) (o : Order) → MayOrder h g o → Whole h → (d : Way) (x : Association) → Has x (made d h) ⊎ Has x (put_in d o) → Has x (left d h ++ put_in d o) ⊎ (((not (is PuttingIn x.serial o) && heard RemovingIn x.serial h) ≡ true) × Spent x (Ordered g s n o ∷ h))
+whole-gone h g s n o m k d x (inr j) = inl (right-in x (left d h) (put_in d o) j)
+whole-gone h g s n o m k d x (inl j) = elim (k.gone d x j) as (λ z. Has x (left d h ++ put_in d o) ⊎ (((not (is PuttingIn x.serial o) && heard RemovingIn x.serial h) ≡ true) × Spent x (Ordered g s n o ∷ h))) [
+  | inl a ↦ inl (has-left x (left d h) (put_in d o) a)
+  | inr b ↦ inr (rw (no-in h g o x m (k.low d x j), b.0) refl, spent-on h g s n o d x k m j b.1)
+]
+
+whole-early : (h : List Act) (f s i : ℕ) (o : Order) → MayOrder h f o → Whole h → (g n : ℕ) → Has (RemoveIn n) (queue g h) ⊎ ((RemoveIn n ≡ o) × ((g == f) ≡ true)) → n ≤ serials (Ordered f s i o ∷ h)
+whole-early h f s i o m k g n (inl j) = more-if (is_first o) n (serials h) (k.early g n j)
+whole-early h f s i o m k g n (inr j) =
+    let m' : MayInRemove h f n = subst (MayOrder h f) (sym j.0) m in
+    let b = k.low m'.way m'.association (k.sub m'.way m'.association m'.left) in
+    let e = m'.name in
+    more-if (is_first o) n (serials h) (omega arith)
+
+whole-order : (h : List Act) (f s i : ℕ) (o : Order) → MayOrder h f o → Whole h → Whole (Ordered f s i o ∷ h)
+whole-order h f s i o m k =
+    record {
+      low = λ d x j. whole-low h f s i o m k d x (has-more x (made d h) (put_in d o) j);
+      one = λ d e x y j l q. whole-one h f o m k d e x y (has-more x (made d h) (put_in d o) j) (has-more y (made e h) (put_in e o) l) q;
+      sub = λ d x j. whole-sub h o k d x (has-more x (left d h) (put_in d o) j);
+      early = λ g n j. whole-early h f s i o m k g n (has-queue (g == f) (queue g h) o (RemoveIn n) j);
+      waits = λ g n j d x l e. whole-waits h f s i o m k g n (has-queue (g == f) (queue g h) o (RemoveIn n) j) d x (has-more x (made d h) (put_in d o) l) e;
+      gone = λ d x j. whole-gone h f s i o m k d x (has-more x (made d h) (put_in d o) j);
+    }
+
+-- ## answers
+
+by-oldest : (n : ℕ) (q : List Order) → answers_to RemovingIn n (oldest q) ≡ true → Has (RemoveIn n) q
+by-oldest n [] e = cc
+by-oldest n (Read ∷ q) e = cc
+by-oldest n (Policy l ∷ q) e = cc
+by-oldest n (PutIn x ∷ q) e = cc
+by-oldest n (PutOut x ∷ q) e = cc
+by-oldest n (RemoveIn m ∷ q) e = let w : n ≡ m = grind arith in inl (ap RemoveIn w)
+by-oldest n (RemoveOut m ∷ q) e = cc
+
+filter-in : {A : Type 0} (p : A → Bool) (x : A) (xs : List A) → Has x xs → p x ≡ true → Has x (filter p xs)
+filter-in p x [] i e = i
+filter-in p x (z ∷ xs) (inl q) e = let w : p z ≡ true = ap p (sym q) ∙ e in rw w (inl q)
+filter-in p x (z ∷ xs) (inr i) e = keep (p z) (filter-in p x xs i e)
+  where
+    keep : (b : Bool) → Has x (filter p xs) → Has x (if b then z ∷ filter p xs else filter p xs)
+    keep true j = inr j
+    keep false j = j
+
+abbrev OrGone : List Act → ℕ → ℕ → ℕ → Answer → Way → Association → Type 0
+OrGone h g s n a d x = Has x (left d (Answered g s n a ∷ h)) ⊎ ((heard RemovingIn x.serial (Answered g s n a ∷ h) ≡ true) × Spent x (Answered g s n a ∷ h))
+
+gone-left : (h : List Act) (g s n : ℕ) (a : Answer) (d : Way) (x : Association) → Whole h → Has x (made d h) → Has x (left d h) → (b : Bool) → answers_to RemovingIn x.serial (oldest (queue g h)) ≡ b → OrGone h g s n a d x
+gone-left h g s n a d x k i j true e = inr (rw e refl, spent-or x h _ _ (k.waits g x.serial (by-oldest x.serial (queue g h) e) d x i refl))
+gone-left h g s n a d x k i j false e = inl (filter-in (λ (y : Association). not (answers_to RemovingIn y.serial (oldest (queue g h)))) x (left d h) j (rw e refl))
+
+gone-answered : (h : List Act) (g s n : ℕ) (a : Answer) (d : Way) (x : Association) → Whole h → Has x (made d h) → Has x (left d h) ⊎ ((heard RemovingIn x.serial h ≡ true) × Spent x h) → OrGone h g s n a d x
+gone-answered h g s n a d x k i (inl j) = gone-left h g s n a d x k i j (answers_to RemovingIn x.serial (oldest (queue g h))) refl
+gone-answered h g s n a d x k i (inr p) = inr (or-or _ _ p.0, spent-or x h _ _ p.1)
+
+whole-answered : (h : List Act) (g s n : ℕ) (a : Answer) → Whole h → Whole (Answered g s n a ∷ h)
+whole-answered h g s n a k =
+    record {
+      low = k.low;
+      one = k.one;
+      sub = λ d x i. k.sub d x (has-filter (λ (y : Association). not (answers_to RemovingIn y.serial (oldest (queue g h)))) x (left d h) i);
+      early = λ f m i. k.early f m (has-rest (f == g) (queue f h) (RemoveIn m) i);
+      waits = λ f m i d x j e. spent-or x h _ _ (k.waits f m (has-rest (f == g) (queue f h) (RemoveIn m) i) d x j e);
+      gone = λ d x i. gone-answered h g s n a d x k i (k.gone d x i);
+    }
+
+-- ## the other acts
+
+whole-cut : (h : List Act) (g s : ℕ) → Whole h → Whole (Cut g s ∷ h)
+whole-cut h g s k =
+    record {
+      low = k.low;
+      one = k.one;
+      sub = k.sub;
+      early = λ f m i. k.early f m (has-none (f == g) (queue f h) (RemoveIn m) i);
+      waits = λ f m i d x j e. let p = k.waits f m (has-none (f == g) (queue f h) (RemoveIn m) i) d x j e in (or-or _ _ p.0, p.1);
+      gone = λ d x i. cut-gone d x (k.gone d x i);
+    }
+  where
+    cut-gone : (d : Way) (x : Association) → Has x (left d h) ⊎ ((heard RemovingIn x.serial h ≡ true) × Spent x h) → Has x (left d h) ⊎ ((heard RemovingIn x.serial h ≡ true) × Spent x (Cut g s ∷ h))
+    cut-gone d x (inl j) = inl j
+    cut-gone d x (inr p) = inr (p.0, (or-or _ _ p.1.0, p.1.1))
+
+if-not : {A : Type 0} (x : A) (b : Bool) (xs : List A) → b ≡ false → Has x xs → Has x (if b then [] else xs)
+if-not x b xs e i = rw e i
+
+whole-told : (h : List Act) (c : Placed) → Whole h → Whole (Accepted c ∷ h)
+whole-told h c k =
+    record {
+      low = λ d x i. k.low d x (has-if x _ (made d h) i).1;
+      one = λ d e x y i j q. k.one d e x y (has-if x _ (made d h) i).1 (has-if y _ (made e h) j).1 q;
+      sub = λ d x i. let p = has-if x _ (left d h) i in if-not x _ (made d h) p.0 (k.sub d x p.1);
+      early = k.early;
+      waits = λ f m i d x j e. let p = k.waits f m i d x (has-if x _ (made d h) j).1 e in (or-or _ _ p.0, p.1);
+      gone = λ d x i. let p = has-if x _ (made d h) i in told-gone d x p.0 (k.gone d x p.1);
+    }
+  where
+    told-gone : (d : Way) (x : Association) → made_by c (length (directions h)) d ≡ false → Has x (left d h) ⊎ ((heard RemovingIn x.serial h ≡ true) × Spent x h) → Has x (left d (Accepted c ∷ h)) ⊎ ((heard RemovingIn x.serial h ≡ true) × Spent x (Accepted c ∷ h))
+    told-gone d x e (inl j) = inl (if-not x _ (left d h) e j)
+    told-gone d x e (inr p) = inr (p.0, (or-or _ _ p.1.0, p.1.1))
+
+whole-opened : (h : List Act) (g s : ℕ) → Whole h → Whole (Opened g s ∷ h)
+whole-opened h g s k =
+    record {
+      low = k.low;
+      one = k.one;
+      sub = k.sub;
+      early = λ f m i. k.early f m (has-none (f == g) (queue f h) (RemoveIn m) i);
+      waits = λ f m i. k.waits f m (has-none (f == g) (queue f h) (RemoveIn m) i);
+      gone = k.gone;
+    }
+
+pub whole : (p : ℕ) (h : List Act) → IsPast p h → Whole h
+whole p [] l = record { low = λ d x i. absurd i; one = λ d e x y i. absurd i; sub = λ d x i. i; early = λ g n i. absurd i; waits = λ g n i. absurd i; gone = λ d x i. inl i }
+whole p (Opened g s ∷ h) l = whole-opened h g s (whole p h l.1)
+whole p (Cut g s ∷ h) l = whole-cut h g s (whole p h l.1)
+whole p (Answered g s n a ∷ h) l = whole-answered h g s n a (whole p h l.1)
+whole p (Heard g s t ∷ h) l = let k = whole p h l.1 in record { low = k.low; one = k.one; sub = k.sub; early = k.early; waits = k.waits; gone = k.gone }
+whole p (Ordered g s n o ∷ h) l = whole-order h g s n o l.0.3 (whole p h l.1)
+whole p (Accepted c ∷ h) l = whole-told h c (whole p h l.1)
+whole p (Refused w ∷ h) l = let k = whole p h l.1 in record { low = k.low; one = k.one; sub = k.sub; early = k.early; waits = k.waits; gone = k.gone }
+
+-- ## the words over what is left are those over all
+
+ended-no : (a b : Bool) → a ≡ true → (not a && b) ≡ false
+ended-no true b e = refl
+ended-no false b e = cc
+
+spent-out : (a b c d : Bool) → (b ≡ false) ⊎ (c ≡ true) → (a && b && not c && d) ≡ false
+spent-out a b c d (inl e) = grind arith
+spent-out a b c d (inr e) = grind arith
+
+put-no : (a b c d e f : Bool) → a ≡ true → ((not a && b) && c && d && e && f) ≡ false
+put-no true b c d e f q = refl
+put-no false b c d e f q = cc
+
+all-quiet : (h : List Act) (d : Way) → Whole h → Quiet h d → AllQuiet h d
+all-quiet h d k q =
+    record {
+      no_out_remove = λ x i. elim (k.gone d x i) as (λ z. may_out_remove h d x ≡ false) [
+        | inl j ↦ q.no_out_remove x j
+        | inr p ↦ spent-out (ended x h) (sends x.serial h) (heard RemovingOut x.serial h) (ready d.sender h) p.1.1
+      ];
+      no_in_remove = λ x i e. elim (k.gone d x i) as (λ z. may_in_remove h d x ≡ false) [
+        | inl j ↦ q.no_in_remove x j
+        | inr p ↦ absurd (let u : true ≡ false = sym p.0 ∙ e in cc)
+      ];
+      no_out_put = λ x i. elim (k.gone d x i) as (λ z. may_out_put h d x ≡ false) [
+        | inl j ↦ q.no_out_put x j
+        | inr p ↦ put-no (ended x h) (not (heard PuttingOut x.serial h)) (not (sends x.serial h)) (heard PuttingIn x.serial h) (ready d.sender h) (ready d.receiver h) p.1.0
+      ];
+      no_in_put = q.no_in_put;
+    }
+
+pub all-not-idle : (p : ℕ) (h : List Act) → IsPast p h → NotIdle h → AllNotIdle h
+all-not-idle p h l q d i f = all-quiet h d (whole p h l) (q d i f)
+
+-- a test that no ended association passes is passed by one of all exactly where by one left
+any-all : (q : Association → Bool) (xs ys : List Association) → ((x : Association) → Has x ys → Has x xs) → ((x : Association) → Has x xs → q x ≡ true → Has x ys) → list_any q xs ≡ list_any q ys
+any-all q xs ys f g = same (list_any q xs) (list_any q ys) (λ e. let w = found xs e in any-has q w.0 ys (g w.0 w.1 w.2) w.2) (λ e. let w = found ys e in any-has q w.0 xs (f w.0 w.1) w.2)
+  where
+    same : (a b : Bool) → (a ≡ true → b ≡ true) → (b ≡ true → a ≡ true) → a ≡ b
+    same true b f g = sym (f refl)
+    same false true f g = g refl
+    same false false f g = refl
+
+    found-if : (x : Association) (xs : List Association) (b : Bool) → q x ≡ b → (list_any q xs ≡ true → (y : Association) × Has y xs × (q y ≡ true)) → (b || list_any q xs) ≡ true → (y : Association) × Has y (x ∷ xs) × (q y ≡ true)
+    found-if x xs true e f w = (x, inl refl, e)
+    found-if x xs false e f w = let r = f w in (r.0, inr r.1, r.2)
+
+    found : (xs : List Association) → list_any q xs ≡ true → (x : Association) × Has x xs × (q x ≡ true)
+    found [] e = cc
+    found (x ∷ xs) e = found-if x xs (q x) refl (found xs) e
+
+not-gone : (h : List Act) (d : Way) (k : Whole h) (b : Bool) (x : Association) → Has x (made d h) → (not (ended x h) && b) ≡ true → Has x (left d h)
+not-gone h d k b x i e = elim (k.gone d x i) as (λ z. Has x (left d h)) [
+  | inl j ↦ j
+  | inr p ↦ absurd (let u : true ≡ false = sym e ∙ ended-no (ended x h) b p.1.0 in cc)
+]
+
+-- causes 3 and 5 over all associations of the direction
+pub progress-all : (p : ℕ) (h : List Act) → IsPast p h → (d : Way) → list_any (in_progress h) (made d h) ≡ list_any (in_progress h) (left d h)
+progress-all p h l d = let k = whole p h l in any-all (in_progress h) (made d h) (left d h) (k.sub d) (λ x i e. not-gone h d k (not (heard PuttingOut x.serial h)) x i e)
+
+pub lacks-all : (p : ℕ) (h : List Act) → IsPast p h → (d : Way) (g : ℕ) (names : List (List ℕ)) → list_any (lacks h d g names) (made d h) ≡ list_any (lacks h d g names) (left d h)
+lacks-all p h l d g names = let k = whole p h l in any-all (lacks h d g names) (made d h) (left d h) (k.sub d) (λ x i e. not-gone h d k _ x i e)

@@ -1,0 +1,359 @@
+-- The definitions on worked cases, by computing: they are not empty.
+use Rattle.std.proofs.Common.{◌≡◌, ℕ, Bool, true, false, List, [], ◌∷◌, ◌++◌, Some, None, codes, take, refl, lit≤}
+use Rattle.std.specs.Fmt.{digits}
+use Rattle.ikl_base.specs.declared.address.Addr.TheVariants.{V4, V6}
+use Rattle.ikl_base.specs.declared.address.Prefix.{Prefix}
+use Rattle.ikeless_tree.specs.declared.association.Df.TheVariants as df
+use Rattle.ikeless_tree.specs.declared.association.Limits.{Limits}
+use Rattle.ikeless_tree.specs.declared.association.SadEntry.{SadEntry}
+use Rattle.ikeless_tree.specs.declared.command.Command.TheVariants as commands
+use Rattle.ikeless_tree.specs.declared.command.Peer.{Peer}
+use Rattle.ikeless_tree.specs.declared.command.Refusal.TheVariants as refusals
+use Rattle.ikeless_tree.specs.declared.command.TunnelSpec.{TunnelSpec}
+use Rattle.ikeless_tree.specs.declared.entry.Action.TheVariants as actions
+use Rattle.ikeless_tree.specs.declared.entry.Direction.TheVariants as directions
+use Rattle.ikeless_tree.specs.declared.entry.Selector.{Selector}
+use Rattle.ikeless_tree.specs.declared.entry.SpdEntry.{SpdEntry}
+use Rattle.ikeless_tree.specs.declared.order.Answer.{Answer}
+use Rattle.ikeless_tree.specs.declared.order.Notice.TheVariants as notices
+use Rattle.ikeless_tree.specs.declared.order.Order.TheVariants as orders
+use Rattle.ikeless_tree.specs.declared.reply.Tag.TheVariants as tags
+use Rattle.hist_acts.specs.declared.act.Act.TheVariants as acts
+use Rattle.hist_controller.specs.Acts.{Way, Association, in_name, out_name, Read, Policy, PutIn, PutOut, RemoveIn, RemoveOut, PlacedTunnel, SetPolicy, Tunnel, End, Rekey, Keys, Act, Opened, Cut, Answered, Heard, Ordered, Accepted, Refused, Event, Told, Opens, Cuts, Answers, Notices}
+use Rattle.hist_controller.specs.Past.{after}
+use Rattle.hist_controller.specs.Law.{history}
+use Rattle.hist_controller.specs.Told.{between, all_told}
+
+-- 2001:db8:1::/48 behind a, 2001:db8:2::/48 behind b
+behind_a : Prefix
+behind_a = record { addr = V6 (32 ∷ 1 ∷ 13 ∷ 184 ∷ 0 ∷ 1 ∷ 0 ∷ 0 ∷ 0 ∷ 0 ∷ 0 ∷ 0 ∷ 0 ∷ 0 ∷ 0 ∷ 0 ∷ []); len = 48; in_range = lit≤ tt; cleared = refl }
+
+behind_b : Prefix
+behind_b = record { addr = V6 (32 ∷ 1 ∷ 13 ∷ 184 ∷ 0 ∷ 2 ∷ 0 ∷ 0 ∷ 0 ∷ 0 ∷ 0 ∷ 0 ∷ 0 ∷ 0 ∷ 0 ∷ 0 ∷ []); len = 48; in_range = lit≤ tt; cleared = refl }
+
+abbrev peers : List Peer
+peers = record { name = codes "a"; address = V4 (192 ∷ 0 ∷ 2 ∷ 1 ∷ []) } ∷ record { name = codes "b"; address = V4 (198 ∷ 51 ∷ 100 ∷ 1 ∷ []) } ∷ []
+
+abbrev entry : Selector → SpdEntry
+entry s = record { name = codes "o1"; direction = directions.Out; reqid = 10; window = 64; selector = s; action = actions.Protect }
+
+abbrev list_a : List SpdEntry
+list_a = entry (between behind_a behind_b) ∷ []
+
+abbrev list_b : List SpdEntry
+list_b = entry (between behind_b behind_a) ∷ []
+
+abbrev limits : ℕ → Limits
+limits seconds = record { time = seconds; bytes = 0; packets = 0; idle = 0 }
+
+abbrev spent : Limits
+spent = record { time = 3600; bytes = 88; packets = 1; idle = 3600 }
+
+-- a tunnel between two gateways, of a lifetime of 3600 seconds
+abbrev spec : Bool → List ℕ → List ℕ → TunnelSpec
+spec now first second = record { reqid = 10; now = now; first = first; second = second; first_prefix = behind_a; second_prefix = behind_b; window = 64; hard = limits 0; soft = limits 3600 }
+
+abbrev t : TunnelSpec
+t = spec true (codes "a") (codes "b")
+
+abbrev at : TunnelSpec → PlacedTunnel
+at s = record { spec = s; first = 0; second = 1 }
+
+k1 : List ℕ
+k1 = 0 ∷ 1 ∷ 2 ∷ 3 ∷ 4 ∷ 5 ∷ 6 ∷ 7 ∷ 8 ∷ 9 ∷ 10 ∷ 11 ∷ 12 ∷ 13 ∷ 14 ∷ 15 ∷ 160 ∷ 161 ∷ 162 ∷ 163 ∷ []
+
+k2 : List ℕ
+k2 = 16 ∷ 17 ∷ 18 ∷ 19 ∷ 20 ∷ 21 ∷ 22 ∷ 23 ∷ 24 ∷ 25 ∷ 26 ∷ 27 ∷ 28 ∷ 29 ∷ 30 ∷ 31 ∷ 176 ∷ 177 ∷ 178 ∷ 179 ∷ []
+
+k3 : List ℕ
+k3 = 32 ∷ 33 ∷ 34 ∷ 35 ∷ 36 ∷ 37 ∷ 38 ∷ 39 ∷ 40 ∷ 41 ∷ 42 ∷ 43 ∷ 44 ∷ 45 ∷ 46 ∷ 47 ∷ 192 ∷ 193 ∷ 194 ∷ 195 ∷ []
+
+k4 : List ℕ
+k4 = 48 ∷ 49 ∷ 50 ∷ 51 ∷ 52 ∷ 53 ∷ 54 ∷ 55 ∷ 56 ∷ 57 ∷ 58 ∷ 59 ∷ 60 ∷ 61 ∷ 62 ∷ 63 ∷ 208 ∷ 209 ∷ 210 ∷ 211 ∷ []
+
+abbrev plain : ℕ → Answer
+plain n = record { status = n; tag = None; names = [] }
+
+abbrev reading : List (List ℕ) → Answer
+reading names = record { status = 200; tag = None; names = names }
+
+abbrev absent : Answer
+absent = record { status = 404; tag = Some tags.InvalidValue; names = [] }
+
+abbrev denied : Answer
+denied = record { status = 409; tag = Some tags.ResourceDenied; names = [] }
+
+-- what an acquire tells of the packet is not looked at
+abbrev flow : Selector
+flow = between behind_a behind_b
+
+abbrev policy_a : Event
+policy_a = Told (commands.Policy (codes "a") list_a)
+
+abbrev policy_b : Event
+policy_b = Told (commands.Policy (codes "b") list_b)
+
+-- a policy of each of two gateways, two keys, a tunnel, two sessions
+start : List Event
+start = policy_a ∷ policy_b ∷ Told (commands.Keys k1) ∷ Told (commands.Keys k2) ∷ Told (commands.Tunnel t) ∷ Opens 0 ∷ Opens 1 ∷ []
+
+-- and the answers to the readings, the lists and the inbound puts
+setup : List Event
+unfolding start
+setup = start ++ Answers 0 (reading []) ∷ Answers 0 (plain 204) ∷ Answers 1 (reading []) ∷ Answers 1 (plain 204) ∷ Answers 1 (plain 201) ∷ Answers 0 (plain 201) ∷ []
+
+abbrev ab : Way
+ab = record { id = 0; tunnel = t; sender = 0; receiver = 1; near = behind_a; far = behind_b }
+
+abbrev ba : Way
+ba = record { id = 1; tunnel = t; sender = 1; receiver = 0; near = behind_b; far = behind_a }
+
+abbrev half : ℕ → List ℕ → Way → Association
+half n k d = record { serial = n; key = k; way = d }
+
+begun : List Act
+begun =
+    Accepted (SetPolicy 0 list_a) ∷ Accepted (SetPolicy 1 list_b) ∷ Accepted (Keys k1) ∷ Accepted (Keys k2) ∷ Accepted (Tunnel (at t))
+    ∷ Opened 0 1 ∷ Ordered 0 1 1 Read ∷ Ordered 0 1 2 (Policy list_a)
+    ∷ Opened 1 1 ∷ Ordered 1 1 1 Read ∷ Ordered 1 1 2 (Policy list_b)
+    ∷ Answered 0 1 1 (reading []) ∷ Answered 0 1 2 (plain 204)
+    ∷ Answered 1 1 1 (reading []) ∷ Ordered 1 1 3 (PutIn (half 1 k1 ab)) ∷ Ordered 0 1 3 (PutIn (half 2 k2 ba))
+    ∷ Answered 1 1 2 (plain 204)
+    ∷ Answered 1 1 3 (plain 201) ∷ Ordered 0 1 4 (PutOut (half 1 k1 ab))
+    ∷ Answered 0 1 3 (plain 201) ∷ Ordered 1 1 4 (PutOut (half 2 k2 ba))
+    ∷ []
+
+shown-setup : history peers [] setup ≡ begun
+unfolding start setup begun in_name out_name k1 k2 k3 k4 digits
+shown-setup = refl
+
+rekeyed : List Event
+rekeyed = Answers 0 (plain 201) ∷ Answers 1 (plain 201) ∷ Told (commands.Keys k3) ∷ Notices 1 (notices.Expire (codes "in/1") true spent) ∷ Answers 1 (plain 201) ∷ Answers 0 (plain 201) ∷ Answers 0 (plain 204) ∷ Answers 1 (plain 204) ∷ []
+
+shown-rekey : history peers (after [] begun) rekeyed ≡
+    Answered 0 1 4 (plain 201) ∷ Answered 1 1 4 (plain 201) ∷ Accepted (Keys k3)
+    ∷ Heard 1 1 (notices.Expire (codes "in/1") true spent) ∷ Ordered 1 1 5 (PutIn (half 3 k3 ab))
+    ∷ Answered 1 1 5 (plain 201) ∷ Ordered 0 1 5 (PutOut (half 3 k3 ab))
+    ∷ Answered 0 1 5 (plain 201) ∷ Ordered 0 1 6 (RemoveOut 1)
+    ∷ Answered 0 1 6 (plain 204) ∷ Ordered 1 1 6 (RemoveIn 1)
+    ∷ Answered 1 1 6 (plain 204) ∷ []
+unfolding begun rekeyed in_name out_name k1 k2 k3 k4 digits
+shown-rekey = refl
+
+cut : List Event
+cut =
+    Told (commands.Keys k3) ∷ Cuts 0 ∷ Opens 0 ∷ Answers 0 (reading (codes "in/2" ∷ codes "out/1" ∷ []))
+    ∷ Answers 0 (plain 204) ∷ Answers 0 (plain 204) ∷ Answers 1 (plain 201) ∷ Answers 1 (plain 204) ∷ []
+
+shown-cut : history peers (after [] begun) cut ≡
+    Accepted (Keys k3) ∷ Cut 0 1
+    ∷ Opened 0 2 ∷ Ordered 0 2 1 Read ∷ Ordered 0 2 2 (Policy list_a)
+    ∷ Answered 0 2 1 (reading (codes "in/2" ∷ codes "out/1" ∷ [])) ∷ Ordered 0 2 3 (RemoveOut 1)
+    ∷ Answered 0 2 2 (plain 204)
+    ∷ Answered 0 2 3 (plain 204) ∷ Ordered 1 1 5 (RemoveIn 1)
+    ∷ Answered 1 1 4 (plain 201)
+    ∷ Answered 1 1 5 (plain 204) ∷ Ordered 1 1 6 (PutIn (half 3 k3 ab))
+    ∷ []
+unfolding begun cut in_name out_name k1 k2 k3 k4 digits
+shown-cut = refl
+
+-- both directions stand
+up : List Act
+unfolding begun
+up = begun ++ Answered 0 1 4 (plain 201) ∷ Answered 1 1 4 (plain 201) ∷ []
+
+-- a gateway that lost its halves: the reading is a cause of both directions, and the earlier one gets the key
+rebooted : List Event
+rebooted = Told (commands.Keys k3) ∷ Cuts 1 ∷ Opens 1 ∷ Answers 1 (reading []) ∷ Notices 1 (notices.BadSpi 257) ∷ Notices 1 (notices.BadSpi 257) ∷ Answers 1 (plain 204) ∷ Answers 1 (plain 201) ∷ Told (commands.Keys k4) ∷ []
+
+shown-reboot : history peers (after [] up) rebooted ≡
+    Accepted (Keys k3) ∷ Cut 1 1
+    ∷ Opened 1 2 ∷ Ordered 1 2 1 Read ∷ Ordered 1 2 2 (Policy list_b)
+    ∷ Answered 1 2 1 (reading []) ∷ Ordered 1 2 3 (PutIn (half 3 k3 ab))
+    ∷ Heard 1 2 (notices.BadSpi 257) ∷ Ordered 1 2 4 Read
+    ∷ Heard 1 2 (notices.BadSpi 257)
+    ∷ Answered 1 2 2 (plain 204)
+    ∷ Answered 1 2 3 (plain 201) ∷ Ordered 0 1 5 (PutOut (half 3 k3 ab))
+    ∷ Accepted (Keys k4) ∷ Ordered 0 1 6 (PutIn (half 4 k4 ba))
+    ∷ []
+unfolding begun up rebooted in_name out_name k1 k2 k3 k4 digits
+shown-reboot = refl
+
+-- the put of out/1 is lost before it was handled, and the reading shows in/2 alone: the removal is ordered all the same
+lost : List Event
+lost = Told (commands.Keys k3) ∷ Cuts 0 ∷ Opens 0 ∷ Answers 0 (reading (codes "in/2" ∷ [])) ∷ Answers 0 (plain 204) ∷ Answers 0 (absent) ∷ []
+
+shown-lost : history peers (after [] begun) lost ≡
+    Accepted (Keys k3) ∷ Cut 0 1
+    ∷ Opened 0 2 ∷ Ordered 0 2 1 Read ∷ Ordered 0 2 2 (Policy list_a)
+    ∷ Answered 0 2 1 (reading (codes "in/2" ∷ [])) ∷ Ordered 0 2 3 (RemoveOut 1)
+    ∷ Answered 0 2 2 (plain 204)
+    ∷ Answered 0 2 3 (absent) ∷ Ordered 1 1 5 (RemoveIn 1)
+    ∷ []
+unfolding begun lost in_name out_name k1 k2 k3 k4 digits
+shown-lost = refl
+
+-- a tunnel without a cause waits for an acquire of a rule with its reqid at the sender
+asked_for : TunnelSpec
+asked_for = spec false (codes "a") (codes "b")
+
+abbrev asked_ab : Way
+asked_ab = record { id = 0; tunnel = asked_for; sender = 0; receiver = 1; near = behind_a; far = behind_b }
+
+abbrev asked_ba : Way
+asked_ba = record { id = 1; tunnel = asked_for; sender = 1; receiver = 0; near = behind_b; far = behind_a }
+
+acquired : List Event
+unfolding asked_for
+acquired =
+    policy_a ∷ Told (commands.Keys k1) ∷ Opens 0 ∷ Opens 1 ∷ Answers 0 (reading []) ∷ Answers 0 (plain 204) ∷ Answers 1 (reading [])
+    ∷ Notices 0 (notices.Acquire (codes "o1") flow) ∷ Told (commands.Tunnel asked_for) ∷ Notices 1 (notices.Acquire (codes "o1") flow) ∷ Notices 0 (notices.Acquire (codes "o2") flow) ∷ Notices 0 (notices.Acquire (codes "o1") flow) ∷ Notices 0 (notices.Acquire (codes "o1") flow) ∷ Told (commands.Keys k2) ∷ Told (commands.End 10) ∷ Answers 1 (plain 201) ∷ Answers 1 (plain 204) ∷ []
+
+shown-acquire : history peers [] acquired ≡
+    Accepted (SetPolicy 0 list_a) ∷ Accepted (Keys k1)
+    ∷ Opened 0 1 ∷ Ordered 0 1 1 Read ∷ Ordered 0 1 2 (Policy list_a) ∷ Opened 1 1 ∷ Ordered 1 1 1 Read
+    ∷ Answered 0 1 1 (reading []) ∷ Answered 0 1 2 (plain 204) ∷ Answered 1 1 1 (reading [])
+    ∷ Heard 0 1 (notices.Acquire (codes "o1") flow) ∷ Accepted (Tunnel (at asked_for)) ∷ Heard 1 1 (notices.Acquire (codes "o1") flow) ∷ Heard 0 1 (notices.Acquire (codes "o2") flow)
+    ∷ Heard 0 1 (notices.Acquire (codes "o1") flow) ∷ Ordered 1 1 2 (PutIn (half 1 k1 asked_ab))
+    ∷ Heard 0 1 (notices.Acquire (codes "o1") flow) ∷ Accepted (Keys k2)
+    ∷ Accepted (End 10) ∷ Answered 1 1 2 (plain 201) ∷ Ordered 1 1 3 (RemoveIn 1)
+    ∷ Answered 1 1 3 (plain 204) ∷ []
+unfolding acquired asked_for in_name out_name k1 k2 k3 k4 digits
+shown-acquire = refl
+
+-- refusals, in their order
+refused : List Event
+refused =
+    Told (commands.Keys k1) ∷ Told (commands.Keys k1) ∷ Told (commands.Keys (k1 ++ k1 ++ take 16 k1)) ∷ Told (commands.Rekey 9) ∷ Told (commands.Tunnel (spec true (codes "a") (codes "a")))
+    ∷ Told (commands.Tunnel (spec true (codes "a") (codes "c"))) ∷ Told (commands.Tunnel t) ∷ Told (commands.Tunnel t) ∷ Told (commands.Policy (codes "c") []) ∷ Told (commands.End 10) ∷ Told (commands.Rekey 10) ∷ Told (commands.Tunnel t)
+    ∷ Told (commands.Keys (take 16 k1 ++ 0 ∷ 0 ∷ 0 ∷ 0 ∷ [])) ∷ []
+
+shown-refused : history peers [] refused ≡
+    Accepted (Keys k1) ∷ Refused refusals.KeySeen ∷ Refused refusals.KeyLength ∷ Refused refusals.NoTunnel ∷ Refused refusals.SameGateway ∷ Refused refusals.UnknownGateway
+    ∷ Accepted (Tunnel (at t)) ∷ Refused refusals.TunnelExists ∷ Refused refusals.UnknownGateway ∷ Accepted (End 10) ∷ Refused refusals.NoTunnel ∷ Accepted (Tunnel (at t))
+    ∷ Refused refusals.KeySeen ∷ []
+unfolding refused in_name out_name k1 k2 k3 k4 digits
+shown-refused = refl
+
+-- an acquire while an association is in progress is no cause, a rekey is one for both directions
+renewed : List Event
+unfolding asked_for
+renewed =
+    policy_a ∷ Told (commands.Keys k1) ∷ Told (commands.Keys k2) ∷ Told (commands.Keys k3) ∷ Told (commands.Tunnel asked_for) ∷ Opens 0 ∷ Opens 1 ∷ Answers 0 (reading []) ∷ Answers 0 (plain 204) ∷ Answers 1 (reading [])
+    ∷ Notices 0 (notices.Acquire (codes "o1") flow) ∷ Notices 0 (notices.Acquire (codes "o1") flow) ∷ Answers 1 (plain 201) ∷ Answers 0 (plain 201) ∷ Told (commands.Rekey 10) ∷ []
+
+shown-renew : history peers [] renewed ≡
+    Accepted (SetPolicy 0 list_a) ∷ Accepted (Keys k1) ∷ Accepted (Keys k2) ∷ Accepted (Keys k3) ∷ Accepted (Tunnel (at asked_for))
+    ∷ Opened 0 1 ∷ Ordered 0 1 1 Read ∷ Ordered 0 1 2 (Policy list_a) ∷ Opened 1 1 ∷ Ordered 1 1 1 Read
+    ∷ Answered 0 1 1 (reading []) ∷ Answered 0 1 2 (plain 204) ∷ Answered 1 1 1 (reading [])
+    ∷ Heard 0 1 (notices.Acquire (codes "o1") flow) ∷ Ordered 1 1 2 (PutIn (half 1 k1 asked_ab))
+    ∷ Heard 0 1 (notices.Acquire (codes "o1") flow)
+    ∷ Answered 1 1 2 (plain 201) ∷ Ordered 0 1 3 (PutOut (half 1 k1 asked_ab))
+    ∷ Answered 0 1 3 (plain 201)
+    ∷ Accepted (Rekey 10) ∷ Ordered 1 1 3 (PutIn (half 2 k2 asked_ab)) ∷ Ordered 0 1 4 (PutIn (half 3 k3 asked_ba))
+    ∷ []
+unfolding renewed asked_for in_name out_name k1 k2 k3 k4 digits
+shown-renew = refl
+
+-- a reading that doesn't show in/1 in time abandons it and is a cause: it is removed, and a new one is put; a refused put abandons too and is no cause
+abandoned : List Event
+unfolding asked_for
+abandoned =
+    policy_a ∷ Told (commands.Keys k1) ∷ Told (commands.Keys k2) ∷ Told (commands.Tunnel asked_for) ∷ Opens 0 ∷ Opens 1 ∷ Answers 0 (reading []) ∷ Answers 0 (plain 204) ∷ Answers 1 (reading [])
+    ∷ Notices 0 (notices.Acquire (codes "o1") flow) ∷ Cuts 0 ∷ Notices 1 (notices.BadSpi 257) ∷ Answers 1 (plain 201) ∷ Answers 1 (reading []) ∷ Answers 1 (plain 204) ∷ Opens 0 ∷ Answers 0 (reading []) ∷ Answers 1 (denied) ∷ Answers 1 (plain 204) ∷ []
+
+shown-abandon : history peers [] abandoned ≡
+    Accepted (SetPolicy 0 list_a) ∷ Accepted (Keys k1) ∷ Accepted (Keys k2) ∷ Accepted (Tunnel (at asked_for))
+    ∷ Opened 0 1 ∷ Ordered 0 1 1 Read ∷ Ordered 0 1 2 (Policy list_a) ∷ Opened 1 1 ∷ Ordered 1 1 1 Read
+    ∷ Answered 0 1 1 (reading []) ∷ Answered 0 1 2 (plain 204) ∷ Answered 1 1 1 (reading [])
+    ∷ Heard 0 1 (notices.Acquire (codes "o1") flow) ∷ Ordered 1 1 2 (PutIn (half 1 k1 asked_ab))
+    ∷ Cut 0 1
+    ∷ Heard 1 1 (notices.BadSpi 257) ∷ Ordered 1 1 3 Read
+    ∷ Answered 1 1 2 (plain 201)
+    ∷ Answered 1 1 3 (reading []) ∷ Ordered 1 1 4 (RemoveIn 1)
+    ∷ Answered 1 1 4 (plain 204)
+    ∷ Opened 0 2 ∷ Ordered 0 2 1 Read ∷ Ordered 0 2 2 (Policy list_a)
+    ∷ Answered 0 2 1 (reading []) ∷ Ordered 1 1 5 (PutIn (half 2 k2 asked_ab))
+    ∷ Answered 1 1 5 (denied) ∷ Ordered 1 1 6 (RemoveIn 2)
+    ∷ Answered 1 1 6 (plain 204)
+    ∷ []
+unfolding abandoned asked_for in_name out_name k1 k2 k3 k4 digits
+shown-abandon = refl
+
+-- a reading that doesn't show an association that was replaced is no cause
+replaced : List Event
+replaced =
+    Told (commands.Keys k3) ∷ Told (commands.Keys k4) ∷ Notices 1 (notices.Expire (codes "in/1") true spent) ∷ Answers 1 (plain 201) ∷ Answers 0 (plain 201)
+    ∷ Notices 1 (notices.BadSpi 257) ∷ Answers 1 (reading (codes "out/2" ∷ codes "in/3" ∷ [])) ∷ Answers 0 (plain 204) ∷ Answers 1 (plain 204) ∷ []
+
+shown-replaced : history peers (after [] up) replaced ≡
+    Accepted (Keys k3) ∷ Accepted (Keys k4)
+    ∷ Heard 1 1 (notices.Expire (codes "in/1") true spent) ∷ Ordered 1 1 5 (PutIn (half 3 k3 ab))
+    ∷ Answered 1 1 5 (plain 201) ∷ Ordered 0 1 5 (PutOut (half 3 k3 ab))
+    ∷ Answered 0 1 5 (plain 201) ∷ Ordered 0 1 6 (RemoveOut 1)
+    ∷ Heard 1 1 (notices.BadSpi 257) ∷ Ordered 1 1 6 Read
+    ∷ Answered 1 1 6 (reading (codes "out/2" ∷ codes "in/3" ∷ []))
+    ∷ Answered 0 1 6 (plain 204) ∷ Ordered 1 1 7 (RemoveIn 1)
+    ∷ Answered 1 1 7 (plain 204) ∷ []
+unfolding begun up replaced in_name out_name k1 k2 k3 k4 digits
+shown-replaced = refl
+
+-- a second expiry, of the other direction, finds no key left; the next key is put there
+without_key : List Event
+without_key = Answers 0 (plain 201) ∷ Answers 1 (plain 201) ∷ Told (commands.Keys k3) ∷ Notices 1 (notices.Expire (codes "in/1") true spent) ∷ Notices 1 (notices.Expire (codes "out/2") true spent) ∷ Told (commands.Keys k4) ∷ []
+
+shown-without-key : history peers (after [] begun) without_key ≡
+    Answered 0 1 4 (plain 201) ∷ Answered 1 1 4 (plain 201) ∷ Accepted (Keys k3)
+    ∷ Heard 1 1 (notices.Expire (codes "in/1") true spent) ∷ Ordered 1 1 5 (PutIn (half 3 k3 ab))
+    ∷ Heard 1 1 (notices.Expire (codes "out/2") true spent)
+    ∷ Accepted (Keys k4) ∷ Ordered 0 1 5 (PutIn (half 4 k4 ba))
+    ∷ []
+unfolding begun without_key in_name out_name k1 k2 k3 k4 digits
+shown-without-key = refl
+
+-- the put of in/1 is lost, and out/1 was never ordered: in/1 is removed at once, whether it is there or not
+never_ordered : List Event
+unfolding start
+never_ordered =
+    start ++ Answers 0 (reading []) ∷ Answers 0 (plain 204) ∷ Answers 1 (reading []) ∷ Answers 1 (plain 204)
+    ∷ Cuts 1 ∷ Opens 1 ∷ Answers 1 (reading []) ∷ Answers 1 (plain 204) ∷ Answers 1 absent ∷ []
+
+shown-never-ordered : history peers [] never_ordered ≡
+    Accepted (SetPolicy 0 list_a) ∷ Accepted (SetPolicy 1 list_b) ∷ Accepted (Keys k1) ∷ Accepted (Keys k2) ∷ Accepted (Tunnel (at t))
+    ∷ Opened 0 1 ∷ Ordered 0 1 1 Read ∷ Ordered 0 1 2 (Policy list_a)
+    ∷ Opened 1 1 ∷ Ordered 1 1 1 Read ∷ Ordered 1 1 2 (Policy list_b)
+    ∷ Answered 0 1 1 (reading []) ∷ Answered 0 1 2 (plain 204)
+    ∷ Answered 1 1 1 (reading []) ∷ Ordered 1 1 3 (PutIn (half 1 k1 ab)) ∷ Ordered 0 1 3 (PutIn (half 2 k2 ba))
+    ∷ Answered 1 1 2 (plain 204)
+    ∷ Cut 1 1
+    ∷ Opened 1 2 ∷ Ordered 1 2 1 Read ∷ Ordered 1 2 2 (Policy list_b)
+    ∷ Answered 1 2 1 (reading []) ∷ Ordered 1 2 3 (RemoveIn 1)
+    ∷ Answered 1 2 2 (plain 204) ∷ Answered 1 2 3 absent
+    ∷ []
+unfolding start never_ordered in_name out_name k1 k2 k3 k4 digits
+shown-never-ordered = refl
+
+-- ## as a transcript has them
+
+entry_of : List ℕ → ℕ → Prefix → Prefix → List ℕ → List ℕ → List ℕ → SadEntry
+entry_of name spi own other key local remote = record { name = name; reqid = 10; spi = spi; window = 64; selector = between own other; key = key; local = V4 local; remote = V4 remote; df = df.Copy; hard = limits 0; soft = limits 3600 }
+
+at_a : List ℕ
+at_a = 192 ∷ 0 ∷ 2 ∷ 1 ∷ []
+
+at_b : List ℕ
+at_b = 198 ∷ 51 ∷ 100 ∷ 1 ∷ []
+
+shown-told : all_told peers begun ≡
+    acts.Opened (codes "a") 1 ∷ acts.Order (codes "a") 1 1 orders.Read ∷ acts.Order (codes "a") 1 2 (orders.Policy list_a)
+    ∷ acts.Opened (codes "b") 1 ∷ acts.Order (codes "b") 1 1 orders.Read ∷ acts.Order (codes "b") 1 2 (orders.Policy list_b)
+    ∷ acts.Answered (codes "a") 1 1 (reading []) ∷ acts.Answered (codes "a") 1 2 (plain 204)
+    ∷ acts.Answered (codes "b") 1 1 (reading [])
+    ∷ acts.Order (codes "b") 1 3 (orders.Put (entry_of (codes "in/1") 257 behind_b behind_a k1 at_b at_a))
+    ∷ acts.Order (codes "a") 1 3 (orders.Put (entry_of (codes "in/2") 258 behind_a behind_b k2 at_a at_b))
+    ∷ acts.Answered (codes "b") 1 2 (plain 204)
+    ∷ acts.Answered (codes "b") 1 3 (plain 201) ∷ acts.Order (codes "a") 1 4 (orders.Put (entry_of (codes "out/1") 257 behind_a behind_b k1 at_a at_b))
+    ∷ acts.Answered (codes "a") 1 3 (plain 201) ∷ acts.Order (codes "b") 1 4 (orders.Put (entry_of (codes "out/2") 258 behind_b behind_a k2 at_b at_a))
+    ∷ []
+unfolding begun entry_of at_a at_b in_name out_name k1 k2 k3 k4 digits
+shown-told = refl

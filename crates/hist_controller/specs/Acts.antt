@@ -1,0 +1,72 @@
+-- What a controller is told, what it hears and what it orders. A gateway stands as its number among the peers. These are
+-- the controller's own acts; `told` in Told says which acts of a transcript they are.
+use Rattle.std.specs.Prelude.{ℕ, ◌+◌, Bool, List, [], ◌∷◌, ◌++◌, codes, decimal}
+use Rattle.ikl_base.specs.declared.address.Prefix.{Prefix}
+use Rattle.ikeless_tree.specs.declared.entry.SpdEntry.{SpdEntry}
+use Rattle.ikeless_tree.specs.declared.order.Answer.{Answer}
+use Rattle.ikeless_tree.specs.declared.order.Notice.{Notice}
+use Rattle.ikeless_tree.specs.declared.command.Command.{Command}
+use Rattle.ikeless_tree.specs.declared.command.Refusal.{Refusal}
+use Rattle.ikeless_tree.specs.declared.command.TunnelSpec.{TunnelSpec}
+
+-- one direction of a tunnel; its id is its place among all directions, in the order of the commands
+pub record Way : Type 0 where
+  pub id : ℕ
+  pub tunnel : TunnelSpec
+  pub sender : ℕ
+  pub receiver : ℕ
+  pub near : Prefix  -- behind the sender
+  pub far : Prefix  -- behind the receiver
+
+-- an association as its two halves are put: `in/N` at the receiver and `out/N` at the sender, N its serial
+pub record Association : Type 0 where
+  pub serial : ℕ
+  pub key : List ℕ
+  pub way : Way
+
+-- the names of the halves of a serial, of this project
+unfoldable pub in_name : ℕ → List ℕ
+in_name n = codes "in/" ++ decimal n
+
+unfoldable pub out_name : ℕ → List ℕ
+out_name n = codes "out/" ++ decimal n
+
+-- an order at a gateway; a half is put whole and removed by its serial
+pub data Order : Type 0 where
+  Read : Order
+  Policy : (l : List SpdEntry) → Order
+  PutIn : (x : Association) → Order
+  PutOut : (x : Association) → Order
+  RemoveIn : (n : ℕ) → Order
+  RemoveOut : (n : ℕ) → Order
+
+-- a tunnel that is commanded, with its gateways by their numbers
+pub record PlacedTunnel : Type 0 where
+  pub spec : TunnelSpec
+  pub first : ℕ
+  pub second : ℕ
+
+-- a command with its gateways by their numbers
+pub data Placed : Type 0 where
+  SetPolicy : (g : ℕ) (l : List SpdEntry) → Placed
+  Tunnel : (t : PlacedTunnel) → Placed
+  End : (r : ℕ) → Placed
+  Rekey : (r : ℕ) → Placed
+  Keys : (k : List ℕ) → Placed
+
+-- g a gateway, s a session of it, n the number of an order in the session
+pub data Act : Type 0 where
+  Opened : (g s : ℕ) → Act
+  Cut : (g s : ℕ) → Act
+  Answered : (g s n : ℕ) (a : Answer) → Act
+  Heard : (g s : ℕ) (t : Notice) → Act
+  Ordered : (g s n : ℕ) (o : Order) → Act
+  Accepted : (c : Placed) → Act
+  Refused : (w : Refusal) → Act
+
+pub data Event : Type 0 where
+  Told : (c : Command) → Event
+  Opens : (g : ℕ) → Event
+  Cuts : (g : ℕ) → Event
+  Answers : (g : ℕ) (a : Answer) → Event
+  Notices : (g : ℕ) (t : Notice) → Event

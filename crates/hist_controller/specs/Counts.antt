@@ -1,0 +1,59 @@
+-- How often things are ordered.
+use Rattle.std.specs.Prelude.{◌≡◌, ℕ, ◌+◌, ◌-◌, Bool, false, ◌==◌, ◌&&◌, List, [], ◌∷◌, Some, if◌then◌else◌}
+use Rattle.hist_controller.specs.Acts.{Way, Order, PutIn, PutOut, Act, Opened, Ordered}
+use Rattle.hist_controller.specs.Past.{keys, Kind, is, causes}
+use Rattle.hist_controller.specs.Machine.{place}
+
+-- how often such an order of serial n was given
+abbrev pub times : Kind → ℕ → List Act → ℕ
+times k n [] = 0
+times k n (Ordered g s i o ∷ h) = if is k n o then times k n h + 1 else times k n h
+times k n (_ ∷ h) = times k n h
+
+-- how often at this gateway
+abbrev pub times_at : Kind → ℕ → ℕ → List Act → ℕ
+times_at k n g [] = 0
+times_at k n g (Ordered f s i o ∷ h) = if (g == f) && is k n o then times_at k n g h + 1 else times_at k n g h
+times_at k n g (_ ∷ h) = times_at k n g h
+
+-- how often in its newest session
+abbrev pub times_now : Kind → ℕ → ℕ → List Act → ℕ
+times_now k n g [] = 0
+times_now k n g (Opened f s ∷ h) = if g == f then 0 else times_now k n g h
+times_now k n g (Ordered f s i o ∷ h) = if (g == f) && is k n o then times_now k n g h + 1 else times_now k n g h
+times_now k n g (_ ∷ h) = times_now k n g h
+
+abbrev pub in_way : Way → Order → Bool
+in_way d (PutIn x) = d.id == x.way.id
+in_way d (_) = false
+
+abbrev pub out_way : Way → Order → Bool
+out_way d (PutOut x) = d.id == x.way.id
+out_way d (_) = false
+
+-- how many inbound, and outbound, puts were ordered in the direction
+abbrev pub in_puts : Way → List Act → ℕ
+in_puts d [] = 0
+in_puts d (Ordered g s n o ∷ h) = if in_way d o then in_puts d h + 1 else in_puts d h
+in_puts d (_ ∷ h) = in_puts d h
+
+abbrev pub out_puts : Way → List Act → ℕ
+out_puts d [] = 0
+out_puts d (Ordered g s n o ∷ h) = if out_way d o then out_puts d h + 1 else out_puts d h
+out_puts d (_ ∷ h) = out_puts d h
+
+-- how many causes of the direction stand
+abbrev pub cause_count : Way → List Act → ℕ
+cause_count d [] = 0
+cause_count d (a ∷ h) = if causes d a h then cause_count d h + 1 else cause_count d h
+
+-- a put has the key whose place its serial is
+abbrev pub KeyRight : List Act → Order → Type 0
+KeyRight h (PutIn x) = place (x.serial - 1) (keys h) ≡ Some x.key
+KeyRight h (PutOut x) = place (x.serial - 1) (keys h) ≡ Some x.key
+KeyRight h (_) = Unit {0}
+
+abbrev pub KeysRight : List Act → Type 0
+KeysRight [] = Unit {0}
+KeysRight (Ordered g s n o ∷ h) = KeyRight h o × KeysRight h
+KeysRight (_ ∷ h) = KeysRight h

@@ -1,0 +1,178 @@
+-- What a controller must do: which orders may be given, why a command is refused, and the one block of acts that an event
+-- has. The order of a rekey and of a recovery is that of RFC 9061, made exact by this project.
+use Rattle.std.specs.Prelude.{ℕ, ◌+◌, ◌-◌, Bool, true, false, ◌==◌, not, ◌&&◌, ◌||◌, nat_le, nat_lt, List, [], ◌∷◌, ◌++◌, Option, Some, None, length, take, if◌then◌else◌}
+use Rattle.std.specs.List.{list_any}
+use Rattle.std.specs.Str.{bytes_eq}
+use Rattle.ikeless_tree.specs.Check.{is_key_length}
+use Rattle.ikeless_tree.specs.declared.command.Command.{Command}
+use Rattle.ikeless_tree.specs.declared.command.Command.TheVariants as commands
+use Rattle.ikeless_tree.specs.declared.command.Peer.{Peer}
+use Rattle.ikeless_tree.specs.declared.command.Refusal.{Refusal}
+use Rattle.ikeless_tree.specs.declared.entry.SpdEntry.{SpdEntry}
+use Rattle.ikeless_tree.specs.declared.order.Answer.{Answer}
+use Rattle.ikeless_tree.specs.declared.order.Notice.{Notice}
+use Rattle.ikeless_tree.specs.declared.order.Notice.TheVariants as notices
+use Rattle.ikeless_tree.specs.declared.command.Refusal.TheVariants as refusals
+use Rattle.hist_controller.specs.Acts.{Way, Association, Order, Read, Policy, PutIn, PutOut, RemoveIn, RemoveOut, Placed, SetPolicy, Tunnel, End, Rekey, Keys, Act, Opened, Cut, Answered, Heard, Ordered, Accepted, Refused, Event, Told, Opens, Cuts, Answers, Notices}
+use Rattle.hist_controller.specs.Past.{after, is_open, session, orders, answers, queue, ready, newest_list, keys, serials, spare, directions, over, PuttingIn, RemovingOut, sends, heard, ended, in_progress, left, busy, owed}
+
+-- the order as the next one of the gateway's session
+abbrev pub order : List Act → ℕ → Order → Act
+order h g o = Ordered g (session g h) (orders g h + 1) o
+
+-- ## which orders a direction may get
+
+abbrev pub may_out_remove : List Act → Way → Association → Bool
+may_out_remove h d x = ended x h && sends x.serial h && not (heard RemovingOut x.serial h) && ready d.sender h
+
+abbrev pub may_in_remove : List Act → Way → Association → Bool
+may_in_remove h d x = ended x h && (not (sends x.serial h) || heard RemovingOut x.serial h) && ready d.receiver h
+
+abbrev pub may_out_put : List Act → Way → Association → Bool
+may_out_put h d x = in_progress h x && not (sends x.serial h) && heard PuttingIn x.serial h && ready d.sender h && ready d.receiver h
+
+abbrev pub may_in_put : List Act → Way → Bool
+may_in_put h d = owed d h && ready d.sender h && ready d.receiver h
+
+-- the first that passes
+abbrev pub first : (Association → Bool) → List Association → Option Association
+first p [] = None
+first p (x ∷ xs) = if p x then Some x else first p xs
+
+abbrev pub key_put : List Act → Way → List (List ℕ) → List Act
+key_put h d [] = []
+key_put h d (k ∷ ks) = if may_in_put h d then order h d.receiver (PutIn (record { serial = serials h + 1; key = k; way = d })) ∷ [] else []
+
+abbrev pub out_put : List Act → Way → Option Association → List Act
+out_put h d (Some x) = order h d.sender (PutOut x) ∷ []
+out_put h d None = key_put h d (spare h)
+
+abbrev pub in_remove : List Act → Way → Option Association → List Act
+in_remove h d (Some x) = order h d.receiver (RemoveIn x.serial) ∷ []
+in_remove h d None = out_put h d (first (may_out_put h d) (left d h))
+
+abbrev pub out_remove : List Act → Way → Option Association → List Act
+out_remove h d (Some x) = order h d.sender (RemoveOut x.serial) ∷ []
+out_remove h d None = in_remove h d (first (may_in_remove h d) (left d h))
+
+-- the order of a direction, or none
+abbrev pub give : List Act → Way → List Act
+give h d = if busy d h then [] else out_remove h d (first (may_out_remove h d) (left d h))
+
+-- the orders of directions, one after another
+abbrev pub pass : List Act → List Way → List Act
+pass h [] = []
+pass h (d ∷ ds) = give h d ++ pass (after h (give h d)) ds
+
+-- ## orders that belong to no direction
+
+abbrev pub with_list : List Act → ℕ → Option (List SpdEntry) → List Act
+with_list h g None = []
+with_list h g (Some l) = order h g (Policy l) ∷ []
+
+abbrev pub is_reading : Order → Bool
+is_reading Read = true
+is_reading (_) = false
+
+abbrev pub by_command : List Act → Placed → List Act
+by_command h (SetPolicy g l) = if is_open g h then order h g (Policy l) ∷ [] else []
+by_command h (_) = []
+
+abbrev pub by_notice : List Act → ℕ → Notice → List Act
+by_notice h g (notices.BadSpi spi) = if list_any is_reading (queue g h) then [] else order h g Read ∷ []
+by_notice h g (_) = []
+
+abbrev pub read_put : List Act → ℕ → List Act
+read_put h g = order h g Read ∷ with_list (order h g Read ∷ h) g (newest_list g h)
+
+-- after which act; orders of this kind come first in a block
+abbrev pub asked : List Act → Act → List Act
+asked h (Accepted c) = by_command h c
+asked h (Opened g s) = read_put h g
+asked h (Heard g s t) = by_notice h g t
+asked h (_) = []
+
+-- ## commands
+
+-- the number of the first peer of this name, or how many peers there are
+abbrev pub number_of : List ℕ → List Peer → ℕ
+number_of name [] = 0
+number_of name (p ∷ ps) = if bytes_eq p.name name then 0 else number_of name ps + 1
+
+abbrev pub placed : List Peer → Command → Placed
+placed ps (commands.Policy g l) = SetPolicy (number_of g ps) l
+placed ps (commands.Tunnel t) = Tunnel (record { spec = t; first = number_of t.first ps; second = number_of t.second ps })
+placed ps (commands.End r) = End r
+placed ps (commands.Rekey r) = Rekey r
+placed ps (commands.Keys k) = Keys k
+
+abbrev pub has_tunnel : ℕ → List Act → Bool
+has_tunnel r h = list_any (λ d. (d.tunnel.reqid == r) && not (over d h)) (directions h)
+
+abbrev pub is_none : List Association → Bool
+is_none [] = true
+is_none (x ∷ xs) = false
+
+abbrev pub counts : List Act → Way → Bool
+counts h d = not (over d h) || not (is_none (left d h))
+
+-- how many tunnels aren't ended or have an association left; the two directions of a tunnel stand together
+abbrev pub tunnels : List Act → List Way → ℕ
+tunnels h [] = 0
+tunnels h (d ∷ []) = 0
+tunnels h (d ∷ e ∷ ds) = if counts h d || counts h e then tunnels h ds + 1 else tunnels h ds
+
+-- the AES key of keying material: all but the salt of four octets (RFC 4106 section 8.1)
+abbrev pub aes_part : List ℕ → List ℕ
+aes_part k = take (length k - 4) k
+
+-- one of these keys has its AES key
+abbrev pub is_seen : List ℕ → List (List ℕ) → Bool
+is_seen k ks = list_any (λ x. bytes_eq (aes_part x) (aes_part k)) ks
+
+-- why a command is refused, by the first reason that applies, among so many gateways
+abbrev pub refusal : ℕ → List Act → Placed → Option Refusal
+refusal p h (SetPolicy g l) = if nat_lt g p then None else Some refusals.UnknownGateway
+refusal p h (Tunnel t) =
+    if not (nat_lt t.first p && nat_lt t.second p) then Some refusals.UnknownGateway
+    else if t.first == t.second then Some refusals.SameGateway
+    else if has_tunnel t.spec.reqid h then Some refusals.TunnelExists
+    else if nat_le 1024 (tunnels h (directions h)) then Some refusals.TunnelLimit
+    else None
+refusal p h (End r) = if has_tunnel r h then None else Some refusals.NoTunnel
+refusal p h (Rekey r) = if has_tunnel r h then None else Some refusals.NoTunnel
+refusal p h (Keys k) =
+    if not (is_key_length (length k)) then Some refusals.KeyLength
+    else if is_seen k (keys h) then Some refusals.KeySeen
+    else if nat_le 1048576 (length (keys h)) then Some refusals.KeyLimit
+    else None
+
+-- ## blocks
+
+abbrev pub asked_then : List Act → List Act → List Act
+asked_then h os = os ++ pass (after h os) (directions (after h os))
+
+-- an act, the orders that belong to no direction, and those of the directions
+abbrev pub going : List Act → Act → List Act
+going h a = a ∷ asked_then (a ∷ h) (asked (a ∷ h) a)
+
+abbrev pub by_refusal : List Act → Placed → Option Refusal → List Act
+by_refusal h c None = going h (Accepted c)
+by_refusal h c (Some w) = Refused w ∷ []
+
+abbrev pub by_answer : List Act → ℕ → Answer → List Order → List Act
+by_answer h g a [] = []
+by_answer h g a (o ∷ os) = going h (Answered g (session g h) (answers g h + 1) a)
+
+-- the one block that an event has after a past, with these peers; an event that changes nothing has none
+abbrev pub block : List Peer → List Act → Event → List Act
+block ps h (Told c) = by_refusal h (placed ps c) (refusal (length ps) h (placed ps c))
+block ps h (Opens g) = if is_open g h then [] else going h (Opened g (session g h + 1))
+block ps h (Cuts g) = if is_open g h then going h (Cut g (session g h)) else []
+block ps h (Answers g a) = by_answer h g a (queue g h)
+block ps h (Notices g t) = if is_open g h then going h (Heard g (session g h) t) else []
+
+-- the acts of events are the blocks of each, in order
+abbrev pub history : List Peer → List Act → List Event → List Act
+history ps h [] = []
+history ps h (e ∷ es) = block ps h e ++ history ps (after h (block ps h e)) es

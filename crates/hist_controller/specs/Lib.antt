@@ -1,0 +1,12 @@
+pub mod Acts
+pub mod Past
+pub mod Law
+pub mod Told
+pub mod State
+pub mod Machine
+pub mod Clauses
+pub mod Counts
+pub mod Numbers
+pub mod Orders
+pub mod Ever
+pub mod Table

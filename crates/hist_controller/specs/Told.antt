@@ -1,0 +1,83 @@
+-- Which acts of a transcript the controller's own acts are.
+use Rattle.std.specs.Prelude.{ℕ, ◌+◌, ◌-◌, ◌==◌, List, [], ◌∷◌, ◌++◌, None, if◌then◌else◌}
+use Rattle.ikl_base.specs.declared.address.Addr.{Addr}
+use Rattle.ikl_base.specs.declared.address.Addr.TheVariants.{V4}
+use Rattle.ikl_base.specs.declared.address.Prefix.{Prefix}
+use Rattle.ikeless_tree.specs.declared.association.Df.TheVariants as df
+use Rattle.ikeless_tree.specs.declared.association.SadEntry.{SadEntry}
+use Rattle.ikeless_tree.specs.declared.command.Peer.{Peer}
+use Rattle.ikeless_tree.specs.declared.entry.Selector.{Selector}
+use Rattle.ikeless_tree.specs.declared.order.Order.TheVariants as tree
+use Rattle.hist_acts.specs.declared.act.Act.TheVariants as acts
+use Rattle.ikeless_tree.specs.declared.order as orders
+use Rattle.hist_acts.specs.declared.act as happened
+use Rattle.hist_controller.specs.Acts.{Way, Association, in_name, out_name, Order, Read, Policy, PutIn, PutOut, RemoveIn, RemoveOut, Act, Opened, Cut, Answered, Heard, Ordered, Accepted, Refused}
+
+-- the name and the address of the peer with this number; an unknown one has none
+abbrev pub name_of : List Peer → ℕ → List ℕ
+name_of [] g = []
+name_of (p ∷ ps) g = if g == 0 then p.name else name_of ps (g - 1)
+
+abbrev pub address_of : List Peer → ℕ → Addr
+address_of [] g = V4 (0 ∷ 0 ∷ 0 ∷ 0 ∷ [])
+address_of (p ∷ ps) g = if g == 0 then p.address else address_of ps (g - 1)
+
+-- any protocol and any ports between two prefixes
+abbrev pub between : Prefix → Prefix → Selector
+between own other = record { local = own; remote = other; proto = None; local_ports = []; remote_ports = [] }
+
+-- The two halves as entries of the databases at their gateways (RFC 4301 section 4.4.2): local is what the gateway has
+-- itself, and the SPI is 256 and the serial.
+abbrev pub in_entry : List Peer → Association → SadEntry
+in_entry ps x = record {
+  name = in_name x.serial;
+  reqid = x.way.tunnel.reqid;
+  spi = 256 + x.serial;
+  window = x.way.tunnel.window;
+  selector = between x.way.far x.way.near;
+  key = x.key;
+  local = address_of ps x.way.receiver;
+  remote = address_of ps x.way.sender;
+  df = df.Copy;
+  hard = x.way.tunnel.hard;
+  soft = x.way.tunnel.soft;
+}
+
+abbrev pub out_entry : List Peer → Association → SadEntry
+out_entry ps x = record {
+  name = out_name x.serial;
+  reqid = x.way.tunnel.reqid;
+  spi = 256 + x.serial;
+  window = x.way.tunnel.window;
+  selector = between x.way.near x.way.far;
+  key = x.key;
+  local = address_of ps x.way.sender;
+  remote = address_of ps x.way.receiver;
+  df = df.Copy;
+  hard = x.way.tunnel.hard;
+  soft = x.way.tunnel.soft;
+}
+
+-- an order as the gateway gets it
+abbrev pub order_told : List Peer → Order → orders.Order.Order
+order_told ps Read = tree.Read
+order_told ps (Policy l) = tree.Policy l
+order_told ps (PutIn x) = tree.Put (in_entry ps x)
+order_told ps (PutOut x) = tree.Put (out_entry ps x)
+order_told ps (RemoveIn n) = tree.Remove (in_name n)
+order_told ps (RemoveOut n) = tree.Remove (out_name n)
+
+-- An act as a transcript has it. A transcript has no act for an accepted command: its block has no refusal.
+abbrev pub told : List Peer → Act → List happened.Act.Act
+told ps (Opened g s) = acts.Opened (name_of ps g) s ∷ []
+told ps (Cut g s) = acts.Cut (name_of ps g) s ∷ []
+told ps (Answered g s n a) = acts.Answered (name_of ps g) s n a ∷ []
+told ps (Heard g s t) = acts.Heard (name_of ps g) s t ∷ []
+told ps (Ordered g s n o) = acts.Order (name_of ps g) s n (order_told ps o) ∷ []
+told ps (Accepted c) = []
+told ps (Refused w) = acts.Refused w ∷ []
+
+-- acts, in their order
+abbrev pub all_told : List Peer → List Act → List happened.Act.Act
+all_told ps [] = []
+all_told ps (a ∷ more) = told ps a ++ all_told ps more

@@ -1,0 +1,120 @@
+// Laws for the crates above: each is the contract of a function with an empty body.
+ghost use Rattle.std.specs.Prelude.{◌≡◌, ℕ, ◌+◌, ◌-◌, ◌^◌, ◌==◌, Bool, true, false, List, [], ◌∷◌, ◌++◌, Option, Some, None, ◌<◌, ◌≤◌, ◌⊎◌, length};
+ghost use Rattle.std.specs.List.{list_all, list_any};
+ghost use Rattle.ikeless_tree.specs.Check.{is_key_length};
+ghost use Rattle.ikeless_tree.specs.declared.command.Peer.{Peer};
+ghost use Rattle.ikeless_tree.specs.declared.order.Answer.{Answer};
+ghost use Rattle.hist_controller.specs.Acts.{Way, Association, Order, PutIn, PutOut, RemoveIn, RemoveOut, Act, Answered, Event, in_name, out_name};
+ghost use Rattle.hist_controller.specs.Past.{after, session, directions, keys, serials, queue, oldest, in_progress, left, lacks, PuttingIn, PuttingOut, RemovingIn, RemovingOut};
+ghost use Rattle.hist_controller.specs.State.{state_of, did};
+ghost use Rattle.hist_controller.specs.Machine.{acts_of, next, run, place};
+ghost use Rattle.hist_controller.specs.Law.{aes_part, block, history};
+ghost use Rattle.hist_controller.specs.Clauses.{Has, IsPast, MayAll, NotIdle};
+ghost use Rattle.hist_controller.specs.Counts.{times, times_at, times_now, in_puts, out_puts, cause_count, KeysRight};
+ghost use Rattle.hist_controller.specs.Numbers.{numbered};
+ghost use Rattle.hist_controller.specs.Orders.{AllBefore, Given, PutOf};
+ghost use Rattle.hist_controller.specs.Ever.{made, AllNotIdle};
+ghost use Rattle.hist_controller.specs.Table.{Table, first_table, did_table, next_table, seen, Fits, AllFit, EventFits, AllEventsFit};
+
+/// What is kept of a past, one act later, is what the act makes of what was kept.
+pub fn keeps()
+    ensures { (h : List Act) (a : Act) → state_of (a ∷ h) ≡ did (state_of h) a }
+{}
+
+/// A step from what is kept of a past gives the one block that the past allows, and leaves what is kept of the past with
+/// that block.
+pub fn steps()
+    ensures acts { (ps : List Peer) (h : List Act) (e : Event) → acts_of ps (state_of h) e ≡ block ps h e }
+    ensures keeps { (ps : List Peer) (h : List Act) (e : Event) → state_of (after h (block ps h e)) ≡ next ps (state_of h) e }
+{}
+
+/// The acts of a whole run are the one history of its events.
+pub fn runs()
+    ensures history { (ps : List Peer) (h : List Act) (es : List Event) → run ps (state_of h) es ≡ history ps h es }
+    ensures past { (h xs ys : List Act) → after h (xs ++ ys) ≡ after (after h xs) ys }
+{}
+
+/// Each act of a block may stand after the acts before it, and so each act of a history.
+pub fn follows_the_clauses()
+    ensures block { (ps : List Peer) (h : List Act) (e : Event) → MayAll (length ps) h (block ps h e) }
+    ensures more { (n : ℕ) (h xs : List Act) → IsPast n h → MayAll n h xs → IsPast n (after h xs) }
+    ensures history { (ps : List Peer) (es : List Event) → IsPast (length ps) (after [] (history ps [] es)) }
+{}
+
+/// After each block a direction without a waiting order of its own has no order that is allowed, for any association that
+/// was ever put in it.
+pub fn is_never_idle()
+    ensures block { (ps : List Peer) (h : List Act) (e : Event) → IsPast (length ps) h → NotIdle h → NotIdle (after h (block ps h e)) }
+    ensures history { (ps : List Peer) (es : List Event) → NotIdle (after [] (history ps [] es)) }
+    ensures ever { (n : ℕ) (h : List Act) → IsPast n h → NotIdle h → AllNotIdle h }
+{}
+
+/// Each half is put once at most, with the key of its serial.
+pub fn puts_once()
+    ensures once { (n : ℕ) (h : List Act) → IsPast n h → (serial : ℕ) → (times PuttingIn serial h ≤ 1) × (times PuttingOut serial h ≤ 1) }
+    ensures keyed { (n : ℕ) (h : List Act) → IsPast n h → KeysRight h }
+{}
+
+/// The inbound puts of a direction are no more than its causes, and its outbound puts no more than its inbound ones: at
+/// most two puts for each cause.
+pub fn puts_for_causes()
+    ensures { (n : ℕ) (h : List Act) → IsPast n h → (d : Way) → Has d (directions h) → (in_puts d h ≤ cause_count d h) × (out_puts d h ≤ in_puts d h) }
+{}
+
+/// A half is ordered removed once at most in each session of its gateway, and not more often than sessions were opened.
+pub fn removes_once()
+    ensures outbound { (n : ℕ) (h : List Act) → IsPast n h → (serial g : ℕ) → (times_now RemovingOut serial g h ≤ 1) × (times_at RemovingOut serial g h ≤ session g h) }
+    ensures inbound { (n : ℕ) (h : List Act) → IsPast n h → (serial g : ℕ) → (times_now RemovingIn serial g h ≤ 1) × (times_at RemovingIn serial g h ≤ session g h) }
+{}
+
+/// What stood before each order, in words of orders and answers alone.
+pub fn stands_before()
+    ensures { (n : ℕ) (h : List Act) → IsPast n h → AllBefore h }
+{}
+
+/// Inbound halves are put at the receiver and outbound ones at the sender of a direction, after their inbound half; one
+/// serial is of one association; and a half is removed where it was put.
+pub fn has_homes()
+    ensures inbound { (n : ℕ) (h : List Act) → IsPast n h → (g : ℕ) (x : Association) → Given (PutIn x) g h → (g ≡ x.way.receiver) × Has x.way (directions h) × (x.serial ≤ serials h) }
+    ensures outbound { (n : ℕ) (h : List Act) → IsPast n h → (g : ℕ) (x : Association) → Given (PutOut x) g h → (g ≡ x.way.sender) × Given (PutIn x) x.way.receiver h }
+    ensures one { (n : ℕ) (h : List Act) → IsPast n h → (f g : ℕ) (x y : Association) → Given (PutIn x) f h → Given (PutIn y) g h → x.serial ≡ y.serial → x ≡ y }
+    ensures in_removal { (n : ℕ) (h : List Act) → IsPast n h → (g serial : ℕ) → Given (RemoveIn serial) g h → PutOf PutIn serial g h }
+    ensures out_removal { (n : ℕ) (h : List Act) → IsPast n h → (g serial : ℕ) → Given (RemoveOut serial) g h → PutOf PutOut serial g h }
+{}
+
+/// The two gateways of a direction are known and differ.
+pub fn knows_its_gateways()
+    ensures { (n : ℕ) (h : List Act) → IsPast n h → (d : Way) → Has d (directions h) → (d.sender < n) × (d.receiver < n) × ((d.sender == d.receiver) ≡ false) }
+{}
+
+/// No two accepted keys have one AES key, whether they were used or not; each has an AES key and a salt; there are no more
+/// of them than the limit says, and no more serials than keys.
+pub fn accepts_fresh_keys()
+    ensures apart { (n : ℕ) (h : List Act) → IsPast n h → (i j : ℕ) (a b : List ℕ) → place i (keys h) ≡ Some a → place j (keys h) ≡ Some b → aes_part a ≡ aes_part b → i ≡ j }
+    ensures long { (n : ℕ) (h : List Act) → IsPast n h → list_all (λ k. is_key_length (length k)) (keys h) ≡ true }
+    ensures few { (n : ℕ) (h : List Act) → IsPast n h → (serials h ≤ length (keys h)) × (length (keys h) ≤ 1048576) }
+{}
+
+/// Different halves have different names.
+pub fn names_differ()
+    ensures inbound { (m n : ℕ) → m < 2 ^ 64 → n < 2 ^ 64 → in_name m ≡ in_name n → m ≡ n }
+    ensures outbound { (m n : ℕ) → m < 2 ^ 64 → n < 2 ^ 64 → out_name m ≡ out_name n → m ≡ n }
+    ensures both { (m n : ℕ) → in_name m ≡ out_name n → ⊥ }
+{}
+
+/// The order that is answered is the one with the number and session of the answer; and the causes that speak of the
+/// associations left say the same of all that were ever put.
+pub fn reads_plainly()
+    ensures number { (p g s n : ℕ) (a : Answer) (h : List Act) → IsPast p (Answered g s n a ∷ h) → numbered g s n h ≡ oldest (queue g h) }
+    ensures progress { (n : ℕ) (h : List Act) → IsPast n h → (d : Way) → list_any (in_progress h) (made d h) ≡ list_any (in_progress h) (left d h) }
+    ensures reading { (n : ℕ) (h : List Act) → IsPast n h → (d : Way) (g : ℕ) (names : List (List ℕ)) → list_any (lacks h d g names) (made d h) ≡ list_any (lacks h d g names) (left d h) }
+{}
+
+/// A list of gateways can stand for what is kept, where each event speaks of a known gateway.
+pub fn fits_a_table()
+    ensures first { (n : ℕ) → seen (first_table n) ≡ state_of [] }
+    ensures act { (t : Table) (a : Act) → Fits (length t.gateways) a → seen (did_table t a) ≡ did (seen t) a }
+    ensures step { (ps : List Peer) (t : Table) (h : List Act) (e : Event) → IsPast (length ps) h → AllFit (length ps) h → length t.gateways ≡ length ps → seen t ≡ state_of h → EventFits (length ps) e →
+        (seen (next_table ps t e) ≡ state_of (after h (block ps h e))) × (length (next_table ps t e).gateways ≡ length ps) × AllFit (length ps) (after h (block ps h e)) }
+    ensures history { (ps : List Peer) (es : List Event) → AllEventsFit (length ps) es → AllFit (length ps) (after [] (history ps [] es)) }
+{}

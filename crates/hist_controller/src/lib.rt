@@ -1,0 +1,11 @@
+//! The laws of a controller over what happened: its words, the one block of acts that each event has, and what every
+//! history keeps.
+#![tactic(auto)]
+
+mod laws;
+
+pub use laws::{
+    accepts_fresh_keys, fits_a_table, follows_the_clauses, has_homes, is_never_idle, keeps,
+    knows_its_gateways, names_differ, puts_for_causes, puts_once, reads_plainly, removes_once,
+    runs, stands_before, steps,
+};
