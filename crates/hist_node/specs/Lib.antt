@@ -7,3 +7,5 @@ pub mod Let
 pub mod Arrive
 pub mod Handle
 pub mod Block
+pub mod State
+pub mod May
