@@ -79,7 +79,7 @@ same-sym x y = same-back x y (bytes_eq x y) (bytes_eq y x) refl refl
 
 -- ---- the effect on a half
 
-sent-split : (g f y o : List ℕ) (n : ℕ) (h : List Act) (e : SadEntry) (b : Bool) → bytes_eq f g ≡ true → bytes_eq y e.name ≡ b →
+pub sent-split : (g f y o : List ℕ) (n : ℕ) (h : List Act) (e : SadEntry) (b : Bool) → bytes_eq f g ≡ true → bytes_eq y e.name ≡ b →
     half_of g (acts.Sent f y n o ∷ h) e ≡ sent_under y (clock h) (octets_in (Some o)) (half_of g h e)
 sent-split g f y o n h e true at own =
     let p = cut-more 18446744073709551615 (octets_used g e.name h) (length (esp_of o)) in
@@ -93,7 +93,7 @@ sent-away g f y o n h e at = rw at refl
 window-end : (size n : ℕ) (ns : List ℕ) → window_of size (ns ++ n ∷ []) ≡ marked (window_of size ns) n
 window-end size n ns = fold-append marked (no_marks size) ns (n ∷ [])
 
-gave-split : (g f y o : List ℕ) (n : ℕ) (h : List Act) (e : SadEntry) (b : Bool) → bytes_eq f g ≡ true → bytes_eq y e.name ≡ b →
+pub gave-split : (g f y o : List ℕ) (n : ℕ) (h : List Act) (e : SadEntry) (b : Bool) → bytes_eq f g ≡ true → bytes_eq y e.name ≡ b →
     half_of g (acts.Gave f y n o ∷ h) e ≡ given_under y (clock h) (octets_in (arrival g h)) n (half_of g h e)
 gave-split g f y o n h e true at own =
     let p = cut-more 18446744073709551615 (octets_used g e.name h) (octets_in (arrival g h)) in
@@ -124,7 +124,7 @@ number-is g x numbers [] = refl
 number-is g x numbers (acts.Arrived f o ∷ h) = number-at g x numbers f o h (bytes_eq f g) refl
 number-is g x numbers (a ∷ h) = refl
 
-opened-split : (g f : List ℕ) (w : DropWhy) (h : List Act) (e : SadEntry) (b : Bool) → bytes_eq f g ≡ true → is_opened w ≡ true →
+pub opened-split : (g f : List ℕ) (w : DropWhy) (h : List Act) (e : SadEntry) (b : Bool) → bytes_eq f g ≡ true → is_opened w ≡ true →
     is_for e.name (live g h) (arrival g h) ≡ b →
     half_of g (acts.Drop f w ∷ h) e ≡ opened_under (live g h) (arrival g h) (clock h) (half_of g h e)
 opened-split g f w h e true at op own =

@@ -1,2 +1,5 @@
 pub mod KeepsLemmas
 pub mod ReadingsLemmas
+pub mod BlocksLemmas
+pub mod StepsLemmas
+pub mod MayLemmas

@@ -9,3 +9,4 @@ pub mod Handle
 pub mod Block
 pub mod State
 pub mod May
+pub mod Machine
