@@ -1,8 +1,6 @@
 -- The machine does what the law says.
-use Rattle.std.proofs.Common.{◌≡◌, ◌⊎◌, inl, inr, ℕ, ◌+◌, ◌==◌, max, Bool, true, false, not, ◌&&◌, nat_le, nat_lt, List, [], ◌∷◌, ◌++◌, Option, Some, None, Result, Ok, Err, map, find, fold, take, length, refl, sym, ◌∙◌, ap, arith, if◌then◌else◌}
+use Rattle.std.proofs.Common.{◌≡◌, ◌⊎◌, inl, inr, ℕ, ◌+◌, ◌==◌, max, Bool, true, false, not, ◌&&◌, nat_le, nat_lt, List, [], ◌∷◌, ◌++◌, Option, Some, None, Result, Ok, Err, map, fold, length, refl, sym, ◌∙◌, ap, arith, if◌then◌else◌}
 use Rattle.std.specs.Option.{option_map}
-use Rattle.std.specs.List.{list_any}
-use Rattle.std.specs.Str.{bytes_eq}
 use Rattle.ikl_base.specs.declared.address.Addr.{Addr}
 use Rattle.ip_packet.specs.declared.packet.NotPacket.{NotPacket}
 use Rattle.ip_packet.specs.View.{Packet, view_of}
@@ -31,8 +29,8 @@ use Rattle.hist_acts.specs.Past.{force, clock}
 use Rattle.hist_acts.specs.Sessions as sessions
 use Rattle.hist_halves.specs.Sealed.{by_spi, esp_of, payload_of, is_inbound, is_opened}
 use Rattle.hist_halves.specs.Halves.{live, sent, taken}
-use Rattle.hist_node.specs.Uses.{arrival, octets_in, counts, is_for, names_half}
-use Rattle.hist_node.specs.Stands.{acquire_stands, overflow_given, soft_given}
+use Rattle.hist_node.specs.Uses.{arrival, octets_in, counts, is_for}
+use Rattle.hist_node.specs.Stands.{overflow_given, soft_given}
 use Rattle.hist_node.specs.Rows.{row_of, tree_of}
 use Rattle.hist_node.specs.Datagram.{datagram, flow_of}
 use Rattle.hist_node.specs.Look.{is_reached, expiry, given_by, goings, expiries, look, tells}
@@ -40,8 +38,8 @@ use Rattle.hist_node.specs.Let.{seals, newer, newest, unless, sends, by_half, by
 use Rattle.hist_node.specs.Arrive as arrive
 use Rattle.hist_node.specs.Handle.{Fault, handle_acts, reply_acts, requests}
 use Rattle.hist_node.specs.Block.{Gateway, Event, Let, Arrive, Clock, Handle, Session_taken, gw_block, clock_acts}
-use Rattle.hist_node.specs.State.{Half, State, half_of, state_of, window_of, acquires, sent_under, given_under, opened_under, send, take_number, number_in}
-use Rattle.hist_node.specs.Machine.{counts_of, goings_of, expiries_of, look_of, tells_of, newer_of, newest_of, sends_of, out_by_half, out_by_action, out_by_entry, out_by_view, uses_of, in_by_text, in_by_verdict, in_by_half, half_by_spi, in_esp, in_by_view, top_of, row_from, tree_from, handles, ticks, acts_of}
+use Rattle.hist_node.specs.State.{Half, half_of, state_of, sent_under, given_under, opened_under, send, take_number, number_in}
+use Rattle.hist_node.specs.Machine.{goings_of, expiries_of, look_of, newer_of, newest_of, sends_of, out_by_half, out_by_action, out_by_entry, out_by_view, uses_of, in_by_text, in_by_verdict, in_by_half, half_by_spi, in_esp, in_by_view, row_from, tree_from, handles, ticks, acts_of}
 use Rattle.hist_node.proofs.KeepsLemmas.{same-refl, sent-split, gave-split, opened-split}
 use Rattle.hist_node.proofs.ReadingsLemmas.{acquires-is}
 

@@ -3,3 +3,4 @@ pub mod ReadingsLemmas
 pub mod BlocksLemmas
 pub mod StepsLemmas
 pub mod MayLemmas
+pub mod SafeLemmas

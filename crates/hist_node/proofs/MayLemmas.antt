@@ -1,49 +1,49 @@
 -- Every act of a block may follow those before it.
-use Rattle.std.proofs.Common.{◌≡◌, ℕ, ◌+◌, ◌==◌, max, Bool, true, false, not, ◌&&◌, ◌||◌, nat_le, nat_lt, List, [], ◌∷◌, ◌++◌, length, map, find, Option, Some, None, Result, Ok, Err, refl, sym, ◌∙◌, ap, subst, arith, if◌then◌else◌}
+use Rattle.std.proofs.Common.{◌≡◌, ℕ, suc, ◌+◌, ◌==◌, max, Bool, true, false, not, ◌&&◌, ◌||◌, nat_le, nat_lt, List, [], ◌∷◌, ◌++◌, length, map, Option, Some, None, Result, Ok, Err, refl, sym, ◌∙◌, ap, subst, if◌then◌else◌}
 use Rattle.std.specs.List.{list_any}
-use Rattle.std.specs.Str.{bytes_eq}
 use Rattle.ikl_base.specs.declared.address.Addr.{Addr}
 use Rattle.ip_packet.specs.declared.packet.NotPacket.{NotPacket}
 use Rattle.ip_packet.specs.View.{Packet, view_of}
 use Rattle.ikeless_tree.specs.declared.association.SadEntry.{SadEntry}
-use Rattle.ikeless_tree.specs.declared.association.Limits.{Limits}
+use Rattle.ikeless_tree.specs.declared.association.Tree.{Tree}
 use Rattle.ikeless_tree.specs.declared.entry.SpdEntry.{SpdEntry}
 use Rattle.ikeless_tree.specs.declared.entry.Action.{Action}
 use Rattle.ikeless_tree.specs.declared.entry.Action.TheVariants as actions
 use Rattle.ikeless_tree.specs.declared.entry.Direction.TheVariants.{In, Out}
 use Rattle.ikeless_tree.specs.declared.order.Notice.{Notice}
 use Rattle.ikeless_tree.specs.declared.order.Notice.TheVariants as notices
-use Rattle.ikeless_tree.specs.declared.reply.DropWhy.{DropWhy}
 use Rattle.ikeless_tree.specs.declared.reply.DropWhy.TheVariants as why
+use Rattle.ikeless_tree.specs.declared.reply.GoneWhy.{GoneWhy}
 use Rattle.ikeless_tree.specs.declared.reply.GoneWhy.TheVariants as gone
+use Rattle.hist_halves.specs.Halves.{is_hard}
 use Rattle.reply_table.specs.declared.ask.Ask.{Ask}
-use Rattle.reply_table.specs.declared.ask.Ask.TheVariants as asks
-use Rattle.reply_table.specs.declared.ask.Place.{Place}
 use Rattle.reply_table.specs.declared.ask.Change.{Change}
 use Rattle.reply_table.specs.declared.ask.Change.TheVariants as changes
 use Rattle.reply_table.specs.Reply as table
 use Rattle.replay_win.specs.declared.verdict.Verdict.{Verdict}
 use Rattle.replay_win.specs.declared.verdict.Verdict.TheVariants as verdicts
 use Rattle.replay_win.specs.Marks.{verdict_over}
-use Rattle.esp_frame.specs.Esp.{keying, spi_of, seq_of}
+use Rattle.esp_frame.specs.Esp.{keying, spi_of}
 use Rattle.esp_frame.specs.Open as esp
 use Rattle.spd_match.specs.Match.{first_entry, holds_packet}
 use Rattle.hist_acts.specs.declared.act.Act.{Act}
 use Rattle.hist_acts.specs.declared.act.Act.TheVariants as acts
-use Rattle.hist_acts.specs.Past.{force, after, clock}
+use Rattle.hist_acts.specs.Past.{force, clock}
 use Rattle.hist_acts.specs.Sessions as sessions
 use Rattle.hist_halves.specs.Sealed.{is_inbound, by_spi, number_of}
 use Rattle.hist_halves.specs.Halves.{live, sent, taken}
 use Rattle.hist_node.specs.Uses.{counts}
 use Rattle.hist_node.specs.Stands.{acquire_stands, overflow_given, soft_given, bad_spi_stands}
 use Rattle.hist_node.specs.Rows.{row_of, tree_of}
-use Rattle.hist_node.specs.Datagram.{datagram, flow_of, fault_why}
+use Rattle.hist_node.specs.Datagram.{datagram, flow_of}
 use Rattle.hist_node.specs.Look.{is_reached, expiry, given_by, goings, expiries, look, tells}
 use Rattle.hist_node.specs.Let.{newest, unless, sends, by_half, by_action, by_entry, by_view, let_acts}
 use Rattle.hist_node.specs.Arrive as arrive
-use Rattle.hist_node.specs.Handle.{Fault, handle_acts, reply_acts, change_acts, requests}
+use Rattle.hist_node.specs.Handle.{Fault, answer_of, handle_acts, change_acts, requests}
 use Rattle.hist_node.specs.Block.{Gateway, Event, Let, Arrive, Clock, Handle, Session_taken, gw_block, clock_acts}
-use Rattle.hist_node.specs.May.{has_half, LetBefore, IsLetOut, IsSealedLet, IsOpenedArrival, IsArrivalIn, MayFollow, AllMay}
+use Rattle.ikeless_tree.specs.declared.association.SadRow.{SadRow}
+use Rattle.hist_node.proofs.KeepsLemmas.{same-is}
+use Rattle.hist_node.specs.May.{IsNewHalf, AreNewHalves, has_half, LetBefore, MayFollow, AllMay}
 
 -- ---- acts that say nothing of their past
 
@@ -53,7 +53,12 @@ says (acts.Sent f x n d) = true
 says (acts.Gave f x n p) = true
 says (acts.Pass f o) = true
 says (acts.Put f e) = true
+says (acts.Gone f x w) = not (is_hard w)
 says _ = false
+
+plain-gone : (q : ℕ) (h : List Act) (f x : List ℕ) (w : GoneWhy) → not (is_hard w) ≡ false → MayFollow q h (acts.Gone f x w)
+plain-gone q h f x gone.Removed e = cc
+plain-gone q h f x gone.Hard e = tt
 
 plain : (q : ℕ) (h : List Act) (a : Act) → says a ≡ false → MayFollow q h a
 plain q h (acts.Clear f o) e = cc
@@ -61,6 +66,7 @@ plain q h (acts.Sent f x n d) e = cc
 plain q h (acts.Gave f x n p) e = cc
 plain q h (acts.Pass f o) e = cc
 plain q h (acts.Put f x) e = cc
+plain q h (acts.Gone f x w) e = plain-gone q h f x w e
 plain q h a e = tt
 
 abbrev some-says : List Act → Bool
@@ -234,3 +240,62 @@ may-arrived q h older g o own (Ok v) before seen =
 pub may-arrive : (q : ℕ) (g o : List ℕ) (own : Addr) (h : List Act) → AllMay q (acts.Arrived g o ∷ h) (arrive.arrive_acts g own (acts.Arrived g o ∷ h) o)
 unfolding arrive.arrive_acts
 may-arrive q g o own h = may-arrived q (acts.Arrived g o ∷ h) h g o own (view_of o) refl refl
+
+-- ---- a request
+
+any-map : (p : SadRow → Bool) (f : SadEntry → SadRow) (es : List SadEntry) → list_any p (map f es) ≡ list_any (λ e. p (f e)) es
+any-map p f [] = refl
+any-map p f (e ∷ es) = ap (λ t. p (f e) || t) (any-map p f es)
+
+length-map : (f : SadEntry → SadRow) (es : List SadEntry) → length (map f es) ≡ length es
+length-map f [] = refl
+length-map f (e ∷ es) = ap (λ n. suc n) (length-map f es)
+
+may-change : (q : ℕ) (g : List ℕ) (h : List Act) (r : table.Outcome) (c : Change) → table.Fits (tree_of g h) c → AllMay q h (change_acts g r c)
+may-change q g h r changes.Nothing fits = tt
+may-change q g h r changes.Spd fits = (tt, tt)
+may-change q g h r (changes.Put e) fits =
+    let name = any-map (table.is_row e.name) (row_of g h) (live g h) in
+    let spi = any-map (λ r. is_inbound r.entry.name && (r.entry.spi == e.spi)) (row_of g h) (live g h) in
+    let room = length-map (row_of g h) (live g h) in
+    (record {
+      name = sym name ∙ fits.0;
+      spi = ap (λ b. is_inbound e.name && b) (sym spi) ∙ fits.1;
+      room = ap (λ n. nat_le 4096 n) (sym room) ∙ fits.2;
+    }, tt)
+may-change q g h r (changes.Gone name) fits = let there = any-map (table.is_row name) (row_of g h) (live g h) in (sym there ∙ fits, tt)
+
+may-append : (q : ℕ) (h xs : List Act) (a : Act) → says a ≡ false → AllMay q h xs → AllMay q h (xs ++ a ∷ [])
+may-append q h [] a e m = (plain q h a e, tt)
+may-append q h (x ∷ xs) a e m = (m.0, may-append q (x ∷ h) xs a e m.1)
+
+-- what every reply's change says of the databases
+abbrev pub AllFit : Type 0
+AllFit = (t : Tree) (a : Ask) → table.Fits t (table.reply t a).change
+
+may-handle : (q : ℕ) (g : List ℕ) (s k : ℕ) (h : List Act) (request : Result Ask Fault) → AllFit → AllMay q h (handle_acts g s k h request)
+may-handle q g s k h (Ok ask) fits =
+    let r : table.Outcome = table.reply (tree_of g h) ask in
+    may-append q h (change_acts g r r.change) (acts.Handled g s k (answer_of r)) refl (may-change q g h r r.change (fits (tree_of g h) ask))
+may-handle q g s k h (Err fault) fits = (tt, tt)
+
+-- ---- the whole
+
+may-clock : (q : ℕ) (g : List ℕ) (h : List Act) (raised : Bool) → AllMay q h (clock_acts g h raised)
+may-clock q g h true = all-plain q h (look g h (live g h)) (says-look g h (live g h))
+may-clock q g h false = tt
+
+pub may-block : AllFit → (c : Gateway) (h : List Act) (e : Event) → AllMay c.seq_last h (gw_block c h e)
+may-block fits c h (Let o) = (tt, may-let c.seq_last c.name o h)
+may-block fits c h (Arrive o) = (tt, may-arrive c.seq_last c.name o c.address h)
+may-block fits c h (Clock t) = (tt, may-clock c.seq_last c.name (acts.Now (max t (clock h)) ∷ h) (nat_lt (clock h) t))
+may-block fits c h (Handle request) = may-handle c.seq_last c.name (sessions.taken c.name h) (requests c.name h + 1) h request fits
+may-block fits c h Session_taken = (tt, tt)
+
+new-half : (q : ℕ) (g : List ℕ) (h : List Act) (a : Act) → MayFollow q h a → IsNewHalf g h a
+new-half q g h (acts.Put f e) may = λ at. subst (λ n. has_half e.name (live n h) ≡ false) (same-is f g at) may.name
+new-half q g h a may = tt
+
+pub new-halves : (q : ℕ) (g : List ℕ) (h xs : List Act) → AllMay q h xs → AreNewHalves g h xs
+new-halves q g h [] may = tt
+new-halves q g h (a ∷ xs) may = (new-half q g h a may.0, new-halves q g (a ∷ h) xs may.1)

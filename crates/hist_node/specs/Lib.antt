@@ -10,3 +10,4 @@ pub mod Block
 pub mod State
 pub mod May
 pub mod Machine
+pub mod Safe

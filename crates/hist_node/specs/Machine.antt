@@ -1,5 +1,5 @@
 -- The gateway as a machine over what it keeps: the acts of an event, and what it keeps after them.
-use Rattle.std.specs.Prelude.{ℕ, ◌+◌, ◌-◌, ◌==◌, ◌&&◌, nat_le, nat_lt, max, not, Bool, true, false, List, [], ◌∷◌, ◌++◌, length, map, find, Option, Some, None, Result, Ok, Err, if◌then◌else◌}
+use Rattle.std.specs.Prelude.{ℕ, ◌+◌, ◌-◌, ◌==◌, ◌&&◌, nat_le, nat_lt, max, List, [], ◌∷◌, ◌++◌, length, map, find, Option, Some, None, Result, Ok, Err, if◌then◌else◌}
 use Rattle.std.specs.List.{list_any}
 use Rattle.std.specs.Str.{bytes_eq}
 use Rattle.ikl_base.specs.declared.address.Addr.{Addr}
@@ -149,3 +149,8 @@ acts_of c s Session_taken = acts.Opened c.name (s.openings + 1) ∷ []
 -- what is kept after it
 abbrev pub next : Gateway → State → Event → State
 next c s e = did_all c.name s (acts_of c s e)
+
+-- the acts of events, one after another
+abbrev pub run : Gateway → State → List Event → List Act
+run c s [] = []
+run c s (e ∷ es) = acts_of c s e ++ run c (next c s e) es

@@ -1,5 +1,5 @@
 -- What the acts of a gateway say of the past before them.
-use Rattle.std.specs.Prelude.{◌≡◌, ℕ, ◌+◌, ◌&&◌, nat_le, nat_lt, Bool, true, false, List, [], ◌∷◌, length, Some, Ok}
+use Rattle.std.specs.Prelude.{◌≡◌, ℕ, ◌+◌, ◌==◌, ◌&&◌, nat_le, Bool, true, false, List, [], ◌∷◌, length, Some, Ok}
 use Rattle.std.specs.List.{list_any}
 use Rattle.std.specs.Str.{bytes_eq}
 use Rattle.ip_packet.specs.View.{Packet, view_of}
@@ -8,20 +8,21 @@ use Rattle.ikeless_tree.specs.declared.entry.SpdEntry.{SpdEntry}
 use Rattle.ikeless_tree.specs.declared.entry.Action.{Action}
 use Rattle.ikeless_tree.specs.declared.entry.Action.TheVariants as actions
 use Rattle.ikeless_tree.specs.declared.entry.Direction.TheVariants.{In, Out}
+use Rattle.ikeless_tree.specs.declared.reply.GoneWhy.{GoneWhy}
+use Rattle.ikeless_tree.specs.declared.reply.GoneWhy.TheVariants as gone
 use Rattle.replay_win.specs.declared.verdict.Verdict.TheVariants as verdicts
 use Rattle.replay_win.specs.Marks.{verdict_over}
-use Rattle.esp_frame.specs.Esp.{keying, spi_of, seq_of}
+use Rattle.esp_frame.specs.Esp.{keying, spi_of}
 use Rattle.esp_frame.specs.Open as esp
 use Rattle.spd_match.specs.Match.{first_entry, holds_packet}
 use Rattle.hist_acts.specs.declared.act.Act.{Act}
 use Rattle.hist_acts.specs.declared.act.Act.TheVariants as acts
 use Rattle.hist_acts.specs.Past.{force}
-use Rattle.hist_halves.specs.Sealed.{by_spi, number_of}
+use Rattle.hist_halves.specs.Sealed.{is_inbound, by_spi, number_of}
 use Rattle.hist_halves.specs.Halves.{live, sent, taken}
 use Rattle.hist_node.specs.Datagram.{datagram}
 use Rattle.hist_node.specs.Let.{newest}
-use Rattle.hist_node.specs.Arrive.{is_sealed_for, is_told_version}
-use Rattle.hist_node.specs.Block.{Gateway}
+use Rattle.hist_node.specs.Arrive.{is_told_version}
 
 -- one of these halves has this name
 abbrev pub has_half : List ℕ → List SadEntry → Bool
@@ -97,13 +98,26 @@ pub record IsArrivalIn (h : List Act) (g o : List ℕ) : Type 0 where
   pub first : first_entry (force g h) In packet ≡ Some entry
   pub action : entry.action ≡ actions.Bypass
 
+-- A half that is installed has a name that no live half has, and where it is inbound an SPI that no live inbound half has, and
+-- there is room for it.
+pub record IsInstallable (halves : List SadEntry) (e : SadEntry) : Type 0 where
+  pub name : has_half e.name halves ≡ false
+  pub spi : (is_inbound e.name && list_any (λ x. is_inbound x.name && (x.spi == e.spi)) halves) ≡ false
+  pub room : nat_le 4096 (length halves) ≡ false
+
+-- a half that is removed is live
+abbrev pub MayGo : List ℕ → List Act → List ℕ → GoneWhy → Type 0
+MayGo g h x gone.Removed = has_half x (live g h) ≡ true
+MayGo g h x gone.Hard = Unit {0}
+
 -- what an act of a gateway says of the past before it
 abbrev pub MayFollow : ℕ → List Act → Act → Type 0
 MayFollow seq_last h (acts.Clear f o) = IsLetOut h f o
 MayFollow seq_last h (acts.Sent f x n d) = IsSealedLet seq_last h f x n d
 MayFollow seq_last h (acts.Gave f x n p) = IsOpenedArrival h f x n p
 MayFollow seq_last h (acts.Pass f o) = IsArrivalIn h f o
-MayFollow seq_last h (acts.Put f e) = has_half e.name (live f h) ≡ false
+MayFollow seq_last h (acts.Put f e) = IsInstallable (live f h) e
+MayFollow seq_last h (acts.Gone f x w) = MayGo f h x w
 MayFollow seq_last h _ = Unit {0}
 
 -- each of these acts, after those before it

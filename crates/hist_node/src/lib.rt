@@ -3,4 +3,4 @@
 
 mod laws;
 
-pub use laws::{keeps, readings};
+pub use laws::{blocks_follow, is_every_history_safe, keeps, readings, steps};
