@@ -4,3 +4,4 @@ pub mod BlocksLemmas
 pub mod StepsLemmas
 pub mod MayLemmas
 pub mod SafeLemmas
+pub mod Shown

@@ -128,8 +128,10 @@ may-half q g o h v p (Some e) let_before new =
     let d : List ℕ = datagram e n v o in
     may-if q h (nat_le q (sent g e.name h)) limit (sends g h e n d)
     (λ _. all-plain q h limit (says-unless (overflow_given g e.name h) (tells g h (notices.SeqOverflow e.name)) refl))
-    (λ below. (record { octets = o; packet = v; entry = p; half = e; let_before = let_before; newest = new; name = refl; number = refl; in_limit = below; datagram = refl },
-    all-plain q (acts.Sent g e.name n d ∷ h) (look g (acts.Sent g e.name n d ∷ h) (e ∷ [])) (says-look g (acts.Sent g e.name n d ∷ h) (e ∷ []))))
+    (λ below. (
+      record { octets = o; packet = v; entry = p; half = e; let_before = let_before; newest = new; name = refl; number = refl; in_limit = below; datagram = refl },
+      all-plain q (acts.Sent g e.name n d ∷ h) (look g (acts.Sent g e.name n d ∷ h) (e ∷ [])) (says-look g (acts.Sent g e.name n d ∷ h) (e ∷ [])),
+    ))
 
 may-action : (q : ℕ) (g o : List ℕ) (h older : List Act) (v : Packet) (p : SpdEntry) (a : Action) → h ≡ acts.Let g o ∷ older → view_of o ≡ Ok v →
     first_entry (force g h) Out v ≡ Some p → p.action ≡ a → AllMay q h (by_action g q h o v p a)
@@ -195,9 +197,10 @@ may-text : (q : ℕ) (h older : List Act) (g o : List ℕ) (v : Packet) (e : Sad
     esp.opened (keying e.spi e.key) v.payload ≡ x → AllMay q h (arrive.by_text g h e n x)
 may-text q h older g o v e n None before seen spi number fresh op = (tt, tt)
 may-text q h older g o v e n (Some x) before seen spi number fresh op =
-    let a : Act = arrive.by_packet g e n (esp.packet_of x) in
-    (may-packet q h g o v e n x (esp.packet_of x) (record { older = older; before = before; view = seen; spi = spi; number = number; fresh = fresh; opened = op }) refl,
-    all-plain q (a ∷ h) (look g (a ∷ h) (e ∷ [])) (says-look g (a ∷ h) (e ∷ [])))
+    let a : Act = arrive.by_packet g e n (esp.packet_of x) in (
+      may-packet q h g o v e n x (esp.packet_of x) (record { older = older; before = before; view = seen; spi = spi; number = number; fresh = fresh; opened = op }) refl,
+      all-plain q (a ∷ h) (look g (a ∷ h) (e ∷ [])) (says-look g (a ∷ h) (e ∷ [])),
+    )
 
 may-verdict : (q : ℕ) (h older : List Act) (g o : List ℕ) (v : Packet) (e : SadEntry) (n : ℕ) (w : Verdict) → h ≡ acts.Arrived g o ∷ older → view_of o ≡ Ok v →
     by_spi (spi_of v.payload) (live g h) ≡ Some e → n ≡ number_of e (taken g e.name h) v.payload → verdict_over e.window (taken g e.name h) n ≡ w →
@@ -257,12 +260,14 @@ may-change q g h r changes.Spd fits = (tt, tt)
 may-change q g h r (changes.Put e) fits =
     let name = any-map (table.is_row e.name) (row_of g h) (live g h) in
     let spi = any-map (λ r. is_inbound r.entry.name && (r.entry.spi == e.spi)) (row_of g h) (live g h) in
-    let room = length-map (row_of g h) (live g h) in
-    (record {
-      name = sym name ∙ fits.0;
-      spi = ap (λ b. is_inbound e.name && b) (sym spi) ∙ fits.1;
-      room = ap (λ n. nat_le 4096 n) (sym room) ∙ fits.2;
-    }, tt)
+    let room = length-map (row_of g h) (live g h) in (
+      record {
+        name = sym name ∙ fits.0;
+        spi = ap (λ b. is_inbound e.name && b) (sym spi) ∙ fits.1;
+        room = ap (λ n. nat_le 4096 n) (sym room) ∙ fits.2;
+      },
+      tt,
+    )
 may-change q g h r (changes.Gone name) fits = let there = any-map (table.is_row name) (row_of g h) (live g h) in (sym there ∙ fits, tt)
 
 may-append : (q : ℕ) (h xs : List Act) (a : Act) → says a ≡ false → AllMay q h xs → AllMay q h (xs ++ a ∷ [])
