@@ -7,3 +7,7 @@ pub mod Let
 pub mod Arrive
 pub mod Handle
 pub mod Block
+pub mod State
+pub mod May
+pub mod Machine
+pub mod Safe

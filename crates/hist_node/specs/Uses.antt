@@ -11,37 +11,41 @@ use Rattle.esp_frame.specs.Esp.{spi_of}
 use Rattle.hist_halves.specs.Sealed.{esp_of, by_spi, is_opened}
 use Rattle.hist_halves.specs.Halves.{is_half, live}
 
--- the octets of the arrival that is the newest act
-abbrev pub arrived : List Act → List ℕ
-arrived (acts.Arrived f o ∷ h) = o
-arrived _ = []
+-- the datagram that arrived at the gateway, where that is the newest act
+abbrev pub arrival : List ℕ → List Act → Option (List ℕ)
+arrival g (acts.Arrived f o ∷ h) = if bytes_eq f g then Some o else None
+arrival g _ = None
 
 abbrev pub names_half : List ℕ → Option SadEntry → Bool
 names_half x None = false
 names_half x (Some e) = bytes_eq e.name x
 
--- the newest act is an arrival for this half
-abbrev pub is_arrival_for : List ℕ → List ℕ → List Act → Bool
-is_arrival_for g x (acts.Arrived f o ∷ h) = bytes_eq f g && names_half x (by_spi (spi_of (esp_of o)) (live g h))
-is_arrival_for g x _ = false
+-- of these halves the datagram is for this one
+abbrev pub is_for : List ℕ → List SadEntry → Option (List ℕ) → Bool
+is_for x halves None = false
+is_for x halves (Some o) = names_half x (by_spi (spi_of (esp_of o)) halves)
 
 -- The act is a use of the half, after its past: a datagram is sealed under it, or one arrived for it whose tag was right.
 abbrev pub is_use : List ℕ → List ℕ → Act → List Act → Bool
 is_use g x (acts.Sent f y n o) h = is_half f y g x
 is_use g x (acts.Gave f y n o) h = is_half f y g x
-is_use g x (acts.Drop f w) h = (bytes_eq f g && is_opened w) && is_arrival_for g x h
+is_use g x (acts.Drop f w) h = (bytes_eq f g && is_opened w) && is_for x (live g h) (arrival g h)
 is_use g x _ h = false
 
+abbrev pub octets_in : Option (List ℕ) → ℕ
+octets_in None = 0
+octets_in (Some o) = length (esp_of o)
+
 -- the number of ESP octets of a use: those sent, or those that arrived just before
-abbrev pub use_octets : Act → List Act → ℕ
-use_octets (acts.Sent f y n o) h = length (esp_of o)
-use_octets _ h = length (esp_of (arrived h))
+abbrev pub use_octets : List ℕ → Act → List Act → ℕ
+use_octets g (acts.Sent f y n o) h = length (esp_of o)
+use_octets g _ h = octets_in (arrival g h)
 
 -- the octets of the uses since the installation, how many uses there were, and the clock at the last one or else at the installation
 abbrev pub octets_used : List ℕ → List ℕ → List Act → ℕ
 octets_used g x [] = 0
 octets_used g x (acts.Put f e ∷ h) = if is_half f e.name g x then 0 else octets_used g x h
-octets_used g x (a ∷ h) = if is_use g x a h then octets_used g x h + use_octets a h else octets_used g x h
+octets_used g x (a ∷ h) = if is_use g x a h then octets_used g x h + use_octets g a h else octets_used g x h
 
 abbrev pub times_used : List ℕ → List ℕ → List Act → ℕ
 times_used g x [] = 0

@@ -1,2 +1,6 @@
 //! The law of a gateway over what happened: for each event the one block of acts that may follow a past.
 #![tactic(auto)]
+
+mod laws;
+
+pub use laws::{blocks_follow, is_every_history_safe, keeps, readings, steps};

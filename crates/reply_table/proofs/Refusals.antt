@@ -12,7 +12,7 @@ use Rattle.reply_table.specs.declared.ask.Ask.{Ask}
 use Rattle.reply_table.specs.declared.ask.Ask.TheVariants as asks
 use Rattle.reply_table.specs.declared.ask.Change.{Change}
 use Rattle.reply_table.specs.declared.ask.Change.TheVariants as changes
-use Rattle.reply_table.specs.Reply.{Outcome, Location, reply, made, done, exists, spi_taken, full, absent, no_point, has_policy, is_spd_full, has_point, put_at, with_spd, replaced, without_policy, post_spd, put_spd_entry, delete_spd_entry, show_policy, At_policy, At_half, is_row, has_spi, is_sad_full, new_row, with_sad, without_row, post_sad, delete_sad, show_half}
+use Rattle.reply_table.specs.Reply.{Outcome, Location, reply, made, done, exists, spi_taken, full, absent, no_point, has_policy, is_spd_full, has_point, put_at, with_spd, replaced, without_policy, post_spd, put_spd_entry, show_policy, At_policy, At_half, is_row, has_spi, is_sad_full, new_row, with_sad, without_row, post_sad, show_half}
 use Rattle.std.specs.Prelude.{◌++◌, ◌∷◌, [], ◌&&◌}
 
 abbrev pub Harmless : Tree → Outcome → Type 0

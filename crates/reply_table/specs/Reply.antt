@@ -1,11 +1,10 @@
 -- The reply to each request, without its text: methods and statuses of RESTCONF (RFC 8040 sections 3.5 and 4), error tags of
 -- its section 7, and this project's own app tags and limits.
-use Rattle.std.specs.Prelude.{ℕ, ◌==◌, ◌&&◌, nat_le, not, Bool, true, false, List, [], ◌∷◌, ◌++◌, length, map, filter, find, Option, Some, None, if◌then◌else◌}
+use Rattle.std.specs.Prelude.{◌≡◌, ℕ, ◌==◌, ◌&&◌, nat_le, not, Bool, true, false, List, [], ◌∷◌, ◌++◌, length, map, filter, find, Option, Some, None, if◌then◌else◌}
 use Rattle.std.specs.List.{list_any}
 use Rattle.std.specs.Str.{bytes_eq}
 use Rattle.ikeless_tree.specs.declared.entry.SpdEntry.{SpdEntry}
 use Rattle.ikeless_tree.specs.declared.association.Limits.{Limits}
-use Rattle.ikeless_tree.specs.declared.association.SaState.{SaState}
 use Rattle.ikeless_tree.specs.declared.association.SadEntry.{SadEntry}
 use Rattle.ikeless_tree.specs.declared.association.SadRow.{SadRow}
 use Rattle.ikeless_tree.specs.declared.association.Tree.{Tree}
@@ -194,3 +193,13 @@ reply t asks.GetSad = get_sad t
 reply t (asks.PostSad e) = post_sad t e
 reply t (asks.GetSadEntry name) = show_half t (find (is_row name) t.sad)
 reply t (asks.DeleteSad name) = delete_sad t name
+
+-- ---- what a change says of the databases before it
+
+-- An association that is put has a name that none has, and where it is inbound an SPI that no inbound one has, and there is room.
+-- One that is gone was there.
+abbrev pub Fits : Tree → Change → Type 0
+Fits t changes.Nothing = Unit {0}
+Fits t changes.Spd = Unit {0}
+Fits t (changes.Put e) = (list_any (is_row e.name) t.sad ≡ false) × ((is_inbound e.name && has_spi e.spi t.sad) ≡ false) × (is_sad_full t.sad ≡ false)
+Fits t (changes.Gone name) = list_any (is_row name) t.sad ≡ true

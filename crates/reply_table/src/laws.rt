@@ -7,7 +7,7 @@ ghost use Rattle.ikeless_tree.specs.declared.order.Order.TheVariants as orders;
 ghost use Rattle.reply_table.specs.declared.ask.Ask.{Ask};
 ghost use Rattle.reply_table.specs.declared.ask.Change.TheVariants as changes;
 ghost use Rattle.reply_table.specs.Order.{ask_of};
-ghost use Rattle.reply_table.specs.Reply.{reply, row_names};
+ghost use Rattle.reply_table.specs.Reply.{Fits, reply, row_names};
 
 /// A reply of status 400 or above leaves the databases as they are, and says that nothing changed.
 pub fn refuses()
@@ -21,4 +21,9 @@ pub fn answers_orders()
     ensures policy { (t : Tree) (list : List SpdEntry) → (reply t (ask_of (orders.Policy list))).status ≡ 204 }
     ensures put { (t : Tree) (e : SadEntry) → ((reply t (ask_of (orders.Put e))).status ≡ 201) ⊎ ((reply t (ask_of (orders.Put e))).status ≡ 409) }
     ensures remove { (t : Tree) (name : List ℕ) → ((reply t (ask_of (orders.Remove name))).status ≡ 204) ⊎ ((reply t (ask_of (orders.Remove name))).status ≡ 404) }
+{}
+
+/// What a reply changes fits the databases: what it puts is new and has room, and what it removes was there.
+pub fn changes_fit()
+    ensures { (t : Tree) (a : Ask) → Fits t (reply t a).change }
 {}

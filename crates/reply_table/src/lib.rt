@@ -5,4 +5,4 @@ mod ask;
 mod laws;
 
 pub use ask::{Ask, Change, Place};
-pub use laws::{answers_orders, refuses};
+pub use laws::{answers_orders, changes_fit, refuses};

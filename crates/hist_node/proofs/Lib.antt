@@ -1,0 +1,7 @@
+pub mod KeepsLemmas
+pub mod ReadingsLemmas
+pub mod BlocksLemmas
+pub mod StepsLemmas
+pub mod MayLemmas
+pub mod SafeLemmas
+pub mod Shown
