@@ -8,3 +8,4 @@ pub mod Pairs
 pub mod Halves
 pub mod Frames
 pub mod Keys
+pub mod Live
