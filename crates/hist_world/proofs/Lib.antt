@@ -9,3 +9,6 @@ pub mod Halves
 pub mod Frames
 pub mod Keys
 pub mod Live
+pub mod Carried
+pub mod Window
+pub mod Safe
