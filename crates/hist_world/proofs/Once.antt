@@ -6,6 +6,7 @@ use Rattle.ikeless_tree.specs.declared.command.Peer.{Peer}
 use Rattle.ikeless_tree.specs.declared.order.Order.{Order}
 use Rattle.ikeless_tree.specs.declared.order.Order.TheVariants as asks
 use Rattle.ikeless_tree.specs.declared.order.Answer.{Answer}
+use Rattle.ikeless_tree.specs.declared.reply.DropWhy.{DropWhy}
 use Rattle.ikeless_tree.specs.declared.reply.GoneWhy.TheVariants as gone
 use Rattle.hist_acts.specs.declared.act.Act.{Act}
 use Rattle.hist_acts.specs.declared.act.Act.TheVariants as acts
@@ -47,11 +48,11 @@ pass-mid gs g x (acts.Arrived f o ∷ h) s m = no m
 pass-mid gs g x [] s m = no m
 pass-mid gs g x (a ∷ h) s m = s
 
-drop-mid : (gs : List Peer) (g x : List ℕ) (h : List Act) → MayDrop gs g h → is_mid x h ≡ true → ⊥
-drop-mid gs g x (acts.Let f o ∷ h) s m = no m
-drop-mid gs g x (acts.Arrived f o ∷ h) s m = no m
-drop-mid gs g x [] s m = no m
-drop-mid gs g x (a ∷ h) s m = s
+drop-mid : (gs : List Peer) (g : List ℕ) (why : DropWhy) (x : List ℕ) (h : List Act) → MayDrop gs g why h → is_mid x h ≡ true → ⊥
+drop-mid gs g why x (acts.Let f o ∷ h) s m = no m
+drop-mid gs g why x (acts.Arrived f o ∷ h) s m = no m
+drop-mid gs g why x [] s m = no m
+drop-mid gs g why x (a ∷ h) s m = s
 
 clear-mid : (g o x : List ℕ) (h : List Act) → ClearIsLet h g o → is_mid x h ≡ true → ⊥
 clear-mid g o x h c m = let p : is_mid x (acts.Let g o ∷ c.older) ≡ true = subst (λ z. is_mid x z ≡ true) c.let_before m in no p
@@ -71,7 +72,7 @@ only-handled gs x (acts.Clear g o) h m e = absurd (clear-mid g o x h m e)
 only-handled gs x (acts.Sent g y n o) h m e = absurd (send-mid g y o n x h m e)
 only-handled gs x (acts.Gave g y n p) h m e = absurd (give-mid gs g y p n x h m e)
 only-handled gs x (acts.Pass g o) h m e = absurd (pass-mid gs g x h m e)
-only-handled gs x (acts.Drop g why) h m e = absurd (drop-mid gs g x h m e)
+only-handled gs x (acts.Drop g why) h m e = absurd (drop-mid gs g why x h m e)
 only-handled gs x (acts.Took k) h m e = absurd (ready-mid x h m e)
 only-handled gs x (acts.Now t) h m e = absurd (ready-mid x h m e)
 only-handled gs x (acts.Boot g) h m e = absurd (ready-mid x h m e)

@@ -1,5 +1,5 @@
 -- The two halves of an association: one key, one SPI, mirrored selectors, two gateways.
-use Rattle.std.proofs.Common.{◌≡◌, ℕ, ◌+◌, ◌≤◌, ◌<◌, ◌^◌, Bool, true, false, ◌==◌, ◌&&◌, ◌||◌, List, [], ◌∷◌, decimal, Option, Some, None, ◌⊎◌, inl, inr, refl, sym, ◌∙◌, ap, subst, arith, if◌then◌else◌}
+use Rattle.std.proofs.Common.{◌≡◌, ℕ, ◌+◌, ◌≤◌, ◌<◌, nat_lt, ◌^◌, Bool, true, false, ◌==◌, ◌&&◌, ◌||◌, List, [], ◌∷◌, decimal, Option, Some, None, ◌⊎◌, inl, inr, refl, sym, ◌∙◌, ap, subst, arith, if◌then◌else◌}
 use Rattle.std.specs.Str.{bytes_eq}
 use Rattle.std.proofs.lemmas.Fmt.{decimal_injective}
 use Rattle.ikeless_tree.specs.declared.association.SadEntry.{SadEntry}
@@ -101,7 +101,7 @@ pair gs t (acts.Order f s k (asks.Put d) ∷ h) l q =
     pair-older f s k t d h (other gs (out_half t) f d h l.1 l.0.4 r) (other gs (in_half t) f d h l.1 l.0.4 (order-ordered (in_half t) p.1 h p.3)) p) q
 pair gs t (acts.Answered f s k a ∷ h) l q =
     let p = pair gs t h l.1 q in
-    (p.0, p.1, p.2, p.3, p.4, p.5, p.6, p.7, pair-made t (is_put (in_half t) (order_at f s k h) && (a.status == 201)) h p.8)
+    (p.0, p.1, p.2, p.3, p.4, p.5, p.6, p.7, pair-made t (is_put (in_half t) (order_at f s k h) && nat_lt a.status 400) h p.8)
 pair gs t (a ∷ h) l q = pair gs t h l.1 q
 
 -- ---- numbers: an inbound half has the SPI of its serial

@@ -2,3 +2,4 @@ pub mod Orders
 pub mod Carried
 pub mod Law
 pub mod Safe
+pub mod Kept

@@ -74,3 +74,8 @@ abbrev pub Safe : List Peer → List Act → Type 0
 Safe gateways [] = Unit {0}
 Safe gateways (a ∷ h) =
     IsClearSafe a h × IsKeySafe a h × IsGaveSafe a h × IsSentSafe a h × IsArrivalSafe gateways a h × Safe gateways h
+
+-- nothing that must be given is left without its answer at the end
+abbrev pub IsLastSafe : List Peer → List Act → Type 0
+IsLastSafe gateways (acts.Arrived g o ∷ h) = (serial p : List ℕ) (half : SadEntry) → MustGive gateways g o serial p half h → ⊥
+IsLastSafe gateways _ = Unit {0}
