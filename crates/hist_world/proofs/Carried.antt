@@ -16,6 +16,7 @@ use Rattle.hist_halves.specs.Halves.{arrival_number, is_half, is_live, is_sealed
 use Rattle.hist_world.specs.Orders.{order_of, ordered, site}
 use Rattle.hist_world.specs.Carried.{Delivers, Sends, is_let, keying_of, next_of, was_given, was_sent}
 use Rattle.hist_world.specs.Law.{IsLawful, MayGive, MaySend}
+use Rattle.hist_world.specs.Kept.{Carried, Given}
 use Rattle.hist_world.proofs.Basics.{no, both, both-left, both-right, eq-nat, half-is, half-true, if-old, if-new, name-is, name-self, not-true, or-left, or-split, or-true, self, some-is}
 use Rattle.hist_world.proofs.Orders.{other, put-order, put-was}
 use Rattle.hist_world.proofs.Once.{put-once}
@@ -23,12 +24,6 @@ use Rattle.hist_world.proofs.Pairs.{order-ordered}
 use Rattle.hist_world.proofs.Live.{spi-is}
 
 -- ---- what was sent
-
--- the entry under which it was sent, and the packet
-abbrev pub Carried : List ℕ → List ℕ → ℕ → List ℕ → List ℕ → List Act → Type 0
-Carried g x n b p h =
-    (o : SadEntry) × (packet : Packet) × (order_of x h ≡ Some o) × (site x h ≡ g) × (is_inbound x ≡ false) × (n < 2 ^ 32)
-    × (b ≡ esp (keying_of o) n (next_of p) p) × (view_of p ≡ Ok packet) × (holds_packet o.selector Out packet ≡ true)
 
 carried-now : (gs : List Peer) (f y : List ℕ) (m : ℕ) (p o : List ℕ) (h : List Act) → IsLawful gs h → Sends f y m p o h → Carried f y m (esp_of o) p h
 carried-now gs f y m p o h l s = let r = put-order gs f y s.half h l s.put in (s.half, s.packet, r.3, r.2, s.outbound, s.small, s.sealed, s.view, s.holds)
@@ -108,9 +103,6 @@ sent-sealed g x n b p (acts.Sent f y m o ∷ h) e =
 sent-sealed g x n b p (a ∷ h) e = sent-sealed g x n b p h e
 
 -- ---- what was given
-
-abbrev pub Given : List ℕ → ℕ → List Act → Type 0
-Given x n h = (g : List ℕ) × (was_put g x h ≡ true) × (is_among n (taken g x h) ≡ true)
 
 among-more : (n m : ℕ) (xs : List ℕ) → is_among n xs ≡ true → is_among n (xs ++ m ∷ []) ≡ true
 among-more n m [] e = absurd (no e)

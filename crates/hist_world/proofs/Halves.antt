@@ -14,6 +14,7 @@ use Rattle.hist_acts.specs.Sessions.{answer_at, handled, is_session, order_at, t
 use Rattle.hist_halves.specs.Halves.{is_half, is_lapsed, is_live, was_put}
 use Rattle.hist_world.specs.Orders.{in_half, inbounds, is_doomed, is_left, is_made, is_off, is_put, is_removal, ordered, out_half, site}
 use Rattle.hist_world.specs.Law.{IsAnswer, IsLawful, MayPutIn, MayPutOut, MayRemoveIn, MayRemoveOut}
+use Rattle.hist_world.specs.Kept.{Last}
 use Rattle.hist_world.proofs.Basics.{no, both-left, both-right, eq-nat, or-left, or-split, or-true, name-is, name-self, half-is, half-true, spot-is, some-is, if-cases}
 use Rattle.hist_world.proofs.Sessions.{next-at, next-is, told-order}
 use Rattle.hist_world.proofs.Orders.{in-out, in-serial, other, out-serial, was}
@@ -86,9 +87,6 @@ pub first-in : (gs : List Peer) (t : List ℕ) (h : List Act) → IsLawful gs h 
 first-in gs t h l o = made-put gs (in_half t) h l (pair gs t h l o).8
 
 -- ---- the inbound half is ordered removed only where the outbound one is gone for good
-abbrev pub Last : List ℕ → List Act → Type 0
-Last t h = (ordered (out_half t) h ≡ false) ⊎ (is_off (out_half t) h ≡ true)
-
 last-in : (gs : List Peer) (t : List ℕ) (h : List Act) → IsLawful gs h → (ordered (out_half t) h ≡ false) ⊎ (is_left (out_half t) h ≡ true) → Last t h
 last-in gs t h l (inl p) = inl p
 last-in gs t h l (inr p) = inr (left-off gs (out_half t) h l p)

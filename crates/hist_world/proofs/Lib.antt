@@ -12,3 +12,6 @@ pub mod Live
 pub mod Carried
 pub mod Window
 pub mod Safe
+pub mod Numbers
+pub mod Kept
+pub mod Ended

@@ -12,6 +12,7 @@ use Rattle.hist_acts.specs.Sessions.{order_at}
 use Rattle.hist_halves.specs.Sealed.{is_inbound}
 use Rattle.hist_world.specs.Orders.{aes_part, in_half, inbounds, is_doomed, is_key_used, is_made, is_put, mirrored, order_of, ordered, out_half, site}
 use Rattle.hist_world.specs.Law.{IsLawful, MayPutIn, MayPutOut}
+use Rattle.hist_world.specs.Kept.{Pair}
 use Rattle.hist_world.proofs.Basics.{no, or-false, or-left, or-split, or-true, name-is, name-not, name-self, name-true, some-is, if-cases, if-new, if-old}
 use Rattle.hist_world.proofs.Orders.{in-out, in-serial, once-ordered, other, out-serial}
 
@@ -63,11 +64,6 @@ pub inbound : (gs : List Peer) (x : List ℕ) (h : List Act) → IsLawful gs h �
 inbound gs x h l o b = inbound-by x b (named gs x h l o)
 
 -- ---- both halves
-abbrev pub Pair : List ℕ → List Act → Type 0
-Pair t h =
-    (o : SadEntry) × (i : SadEntry) × (order_of (out_half t) h ≡ Some o) × (order_of (in_half t) h ≡ Some i) × (o.key ≡ i.key) × (o.spi ≡ i.spi)
-    × (i.selector ≡ mirrored o.selector) × (bytes_eq (site (in_half t) h) (site (out_half t) h) ≡ false) × (is_made (in_half t) h ≡ true)
-
 pair-new : (f : List ℕ) (s k : ℕ) (t : List ℕ) (d : SadEntry) (h : List Act) (p : MayPutOut f d h) → p.serial ≡ t → bytes_eq d.name (out_half t) ≡ true → bytes_eq d.name (in_half t) ≡ false → Pair t (acts.Order f s k (asks.Put d) ∷ h)
 pair-new f s k t d h p e q r =
     let o : order_of (in_half t) h ≡ Some p.inbound = subst (λ z. order_of (in_half z) h ≡ Some p.inbound) e p.order in

@@ -5,16 +5,17 @@ use Rattle.ikeless_tree.specs.declared.command.Peer.{Peer}
 use Rattle.hist_acts.specs.declared.act.Act.{Act}
 use Rattle.hist_acts.specs.declared.act.Act.TheVariants as acts
 use Rattle.hist_halves.specs.Sealed.{esp_of, is_inbound, number_of, other_half}
-use Rattle.hist_halves.specs.Halves.{is_lapsed, is_live, taken, was_put}
+use Rattle.hist_halves.specs.Halves.{is_lapsed, is_live, is_sealed, taken, was_put}
 use Rattle.hist_world.specs.Orders.{in_half, ordered, out_half, site}
-use Rattle.hist_world.specs.Carried.{Sends}
-use Rattle.hist_world.specs.Law.{IsLawful, MayHappen, MaySend}
-use Rattle.hist_world.specs.Safe.{IsArrivalSafe, IsClearSafe, IsGaveSafe, IsKeySafe, IsSentSafe, MustGive, Safe}
+use Rattle.hist_world.specs.Carried.{IsGenuine, Sends}
+use Rattle.hist_world.specs.Law.{IsLawful, IsWhole, MayHappen, MaySend}
+use Rattle.hist_world.specs.Safe.{IsArrivalSafe, IsClearSafe, IsGaveSafe, IsKeySafe, IsLastSafe, IsSentSafe, MustGive, Safe}
 use Rattle.hist_world.proofs.Orders.{was}
 use Rattle.hist_world.proofs.Pairs.{outbound}
 use Rattle.hist_world.proofs.Halves.{live-was, sent-safe}
 use Rattle.hist_world.proofs.Keys.{key-safe}
-use Rattle.hist_world.proofs.Window.{answer, delivered, gave-safe}
+use Rattle.hist_world.proofs.Window.{answer, delivered, gave-safe, same-found}
+use Rattle.hist_world.proofs.Carried.{sent-sealed}
 
 abbrev InboundStands : List ℕ → List Act → Type 0
 InboundStands y h = (was_put (site y h) y h ≡ true) × ((is_live (site y h) y h ≡ true) ⊎ (is_lapsed (site y h) y h ≡ true))
@@ -45,3 +46,16 @@ act-safe gs a h l m = (tt, tt, tt, tt)
 pub safe : (gs : List Peer) (h : List Act) → IsLawful gs h → Safe gs h
 safe gs [] l = tt
 safe gs (a ∷ h) l = let s = act-safe gs a h l.1 l.0 in (s.0, s.1, s.2, s.3, arrival-safe gs a h l.1 l.0, safe gs h l.1)
+
+-- what must be given is genuine, so a whole history has its answer
+last-genuine : (gs : List Peer) (g o t p : List ℕ) (half : SadEntry) (h : List Act) → IsLawful gs h → MustGive gs g o t p half h → IsGenuine gs g o h
+last-genuine gs g o t p half h l m = λ e text comes opens.
+    let d = delivered gs g o t p half h l m in
+    let s = same-found gs g o d.half e h d.comes comes in
+    let n : out_half t ≡ other_half e.name = sym (ap other_half d.name) ∙ ap (λ (z : SadEntry). other_half z.name) s in
+    subst (λ z. is_sealed z (esp_of o) h ≡ true) n (sent-sealed m.sender (out_half t) m.number (esp_of o) p h m.unchanged)
+
+pub last-safe : (gs : List Peer) (h : List Act) → IsLawful gs h → IsWhole gs h → IsLastSafe gs h
+last-safe gs (acts.Arrived g o ∷ h) l w = λ t p half m. w (last-genuine gs g o t p half h l.1 m)
+last-safe gs [] l w = tt
+last-safe gs (a ∷ h) l w = tt

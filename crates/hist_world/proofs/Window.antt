@@ -31,7 +31,7 @@ use Rattle.hist_world.proofs.Pairs.{Numbered, inbound, numbered, order-ordered, 
 use Rattle.hist_world.proofs.Halves.{Stands, stays}
 use Rattle.hist_world.proofs.Frames.{esp-seq, esp-spi, keying-same, keying-spi, one-packet, seals-open}
 use Rattle.hist_world.proofs.Live.{spi-finds, spi-is}
-use Rattle.hist_world.proofs.Carried.{Carried, carried, given, sealed-sent}
+use Rattle.hist_world.proofs.Carried.{carried, given, sealed-sent}
 
 -- ---- a number taken isn't fresh
 fresh-by : (a b c : Bool) → (if a then Zero else if b then Old else if c then Seen else Fresh) ≡ Fresh → c ≡ false
@@ -187,7 +187,7 @@ delivered gs g o t p half h l m =
     }
 
 -- an arrival has at most one packet
-same-found : (gs : List Peer) (g o : List ℕ) (d e : SadEntry) (h : List Act) → ComesTo gs g o d h → ComesTo gs g o e h → d ≡ e
+pub same-found : (gs : List Peer) (g o : List ℕ) (d e : SadEntry) (h : List Act) → ComesTo gs g o d h → ComesTo gs g o e h → d ≡ e
 same-found gs g o d e h a b = some-is d e (sym a.found ∙ b.found)
 
 same-packet : (d e : SadEntry) (b x y p q : List ℕ) (m n : ℕ) → d ≡ e → EspOpens (keying_of d) b x → EspOpens (keying_of e) b y → Inner x m p → Inner y n q → p ≡ q

@@ -3,3 +3,4 @@ pub mod Carried
 pub mod Law
 pub mod Safe
 pub mod Kept
+pub mod Ended
