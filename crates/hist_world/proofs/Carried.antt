@@ -1,23 +1,20 @@
 -- What was sent under an outbound half, and what was given under an inbound one.
-use Rattle.std.proofs.Common.{◌≡◌, ℕ, ◌+◌, ◌<◌, ◌^◌, Bool, true, false, ◌==◌, not, ◌&&◌, ◌||◌, List, [], ◌∷◌, ◌++◌, Option, Some, None, Ok, ◌⊎◌, inl, inr, refl, sym, ◌∙◌, ap, subst, arith, if◌then◌else◌}
+use Rattle.std.proofs.Common.{◌≡◌, ℕ, Bool, true, false, ◌==◌, ◌&&◌, ◌||◌, List, [], ◌∷◌, ◌++◌, Option, Some, None, refl, sym, ◌∙◌, subst, if◌then◌else◌}
 use Rattle.std.specs.Str.{bytes_eq}
-use Rattle.ip_packet.specs.View.{Packet, view_of}
 use Rattle.ikeless_tree.specs.declared.association.SadEntry.{SadEntry}
 use Rattle.ikeless_tree.specs.declared.command.Peer.{Peer}
-use Rattle.ikeless_tree.specs.declared.entry.Direction.TheVariants.{Out}
 use Rattle.ikeless_tree.specs.declared.order.Order.TheVariants as asks
-use Rattle.spd_match.specs.Match.{holds_packet}
-use Rattle.esp_frame.specs.Esp.{esp, spi_of}
+use Rattle.esp_frame.specs.Esp.{spi_of}
 use Rattle.replay_win.specs.Marks.{is_among}
 use Rattle.hist_acts.specs.declared.act.Act.{Act}
 use Rattle.hist_acts.specs.declared.act.Act.TheVariants as acts
-use Rattle.hist_halves.specs.Sealed.{esp_of, is_inbound, is_opened}
-use Rattle.hist_halves.specs.Halves.{arrival_number, is_half, is_live, is_sealed, put_of, taken, was_put, with_number}
-use Rattle.hist_world.specs.Orders.{order_of, ordered, site}
-use Rattle.hist_world.specs.Carried.{Delivers, Sends, is_let, keying_of, next_of, was_given, was_sent}
+use Rattle.hist_halves.specs.Sealed.{esp_of, is_opened}
+use Rattle.hist_halves.specs.Halves.{arrival_number, is_half, is_sealed, taken, was_put, with_number}
+use Rattle.hist_world.specs.Orders.{order_of, site}
+use Rattle.hist_world.specs.Carried.{Sends, is_let, was_given, was_sent}
 use Rattle.hist_world.specs.Law.{IsLawful, MayGive, MaySend}
 use Rattle.hist_world.specs.Kept.{Carried, Given}
-use Rattle.hist_world.proofs.Basics.{no, both, both-left, both-right, eq-nat, half-is, half-true, if-old, if-new, name-is, name-self, not-true, or-left, or-split, or-true, self, some-is}
+use Rattle.hist_world.proofs.Basics.{no, both, both-left, both-right, eq-nat, half-is, half-true, if-old, name-is, name-self, not-true, or-left, or-split, or-true, self}
 use Rattle.hist_world.proofs.Orders.{other, put-order, put-was}
 use Rattle.hist_world.proofs.Once.{put-once}
 use Rattle.hist_world.proofs.Pairs.{order-ordered}

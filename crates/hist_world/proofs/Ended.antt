@@ -1,5 +1,5 @@
 -- An association of which the inbound half was ordered removed is ended.
-use Rattle.std.proofs.Common.{◌≡◌, ℕ, Bool, true, ◌||◌, List, [], ◌∷◌}
+use Rattle.std.proofs.Common.{◌≡◌, ℕ, Bool, true, List, [], ◌∷◌}
 use Rattle.std.specs.Str.{bytes_eq}
 use Rattle.ikeless_tree.specs.declared.order.Order.TheVariants as asks
 use Rattle.hist_acts.specs.declared.act.Act.{Act}

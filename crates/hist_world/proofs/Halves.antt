@@ -15,7 +15,7 @@ use Rattle.hist_halves.specs.Halves.{is_half, is_lapsed, is_live, was_put}
 use Rattle.hist_world.specs.Orders.{in_half, inbounds, is_doomed, is_left, is_made, is_off, is_put, is_removal, ordered, out_half, site}
 use Rattle.hist_world.specs.Law.{IsAnswer, IsLawful, MayPutIn, MayPutOut, MayRemoveIn, MayRemoveOut}
 use Rattle.hist_world.specs.Kept.{Last}
-use Rattle.hist_world.proofs.Basics.{no, both-left, both-right, eq-nat, or-left, or-split, or-true, name-is, name-self, half-is, half-true, spot-is, some-is, if-cases}
+use Rattle.hist_world.proofs.Basics.{no, both-left, both-right, or-left, or-split, or-true, name-is, half-is, half-true, spot-is, some-is, if-cases}
 use Rattle.hist_world.proofs.Sessions.{next-at, next-is, told-order}
 use Rattle.hist_world.proofs.Orders.{in-out, in-serial, other, out-serial, was}
 use Rattle.hist_world.proofs.Removal.{asked, left-off, off-dead}

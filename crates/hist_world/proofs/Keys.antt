@@ -1,5 +1,5 @@
 -- No number is sealed twice under one key.
-use Rattle.std.proofs.Common.{◌≡◌, ℕ, ◌+◌, ◌≤◌, ◌<◌, ◌^◌, Bool, true, false, ◌==◌, ◌&&◌, ◌||◌, List, [], ◌∷◌, Option, Some, None, refl, sym, ◌∙◌, ap, subst, arith, if◌then◌else◌}
+use Rattle.std.proofs.Common.{◌≡◌, ℕ, ◌+◌, ◌≤◌, true, false, ◌&&◌, List, [], ◌∷◌, Some, refl, sym, ◌∙◌, ap, subst, arith, if◌then◌else◌}
 use Rattle.std.specs.Int.{w64, to_be_bytes}
 use Rattle.std.specs.Str.{bytes_eq}
 use Rattle.ikeless_tree.specs.declared.association.SadEntry.{SadEntry}
@@ -13,7 +13,7 @@ use Rattle.hist_world.specs.Orders.{aes_part, in_half, order_of, ordered, out_ha
 use Rattle.hist_world.specs.Carried.{Sends, aes_in, keying_of, next_of, was_sealed}
 use Rattle.hist_world.specs.Law.{IsLawful, MaySend}
 use Rattle.hist_world.specs.Kept.{Under}
-use Rattle.hist_world.proofs.Basics.{no, both-left, both-right, half-is, half-true, if-new, if-old, more, name-is, not-true, or-split, some-is}
+use Rattle.hist_world.proofs.Basics.{no, both-left, both-right, half-is, half-true, if-old, more, name-is, not-true, or-split, some-is}
 use Rattle.hist_world.proofs.Orders.{put-order, put-was}
 use Rattle.hist_world.proofs.Once.{put-once}
 use Rattle.hist_world.proofs.Pairs.{keys-differ, outbound, pair}

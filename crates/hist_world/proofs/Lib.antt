@@ -13,5 +13,6 @@ pub mod Carried
 pub mod Window
 pub mod Safe
 pub mod Numbers
-pub mod Kept
+pub mod Invariant
 pub mod Ended
+pub mod Blocks

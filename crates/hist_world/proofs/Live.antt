@@ -1,5 +1,5 @@
 -- The list of live halves: each is the one that was put under its name, and an SPI names one of them.
-use Rattle.std.proofs.Common.{◌≡◌, ℕ, ◌+◌, Bool, true, false, ◌==◌, not, ◌&&◌, ◌||◌, List, [], ◌∷◌, ◌++◌, Option, Some, None, ◌⊎◌, inl, inr, refl, sym, ◌∙◌, ap, subst, arith, if◌then◌else◌}
+use Rattle.std.proofs.Common.{◌≡◌, ℕ, Bool, true, false, ◌==◌, not, ◌&&◌, ◌||◌, List, [], ◌∷◌, ◌++◌, Some, ◌⊎◌, inl, inr, refl, sym, ◌∙◌, ap, subst, arith, if◌then◌else◌}
 use Rattle.std.specs.Prelude.{find}
 use Rattle.std.specs.Str.{bytes_eq}
 use Rattle.ikeless_tree.specs.declared.association.SadEntry.{SadEntry}
@@ -8,9 +8,9 @@ use Rattle.hist_acts.specs.declared.act.Act.{Act}
 use Rattle.hist_acts.specs.declared.act.Act.TheVariants as acts
 use Rattle.hist_halves.specs.Sealed.{by_spi, is_inbound}
 use Rattle.hist_halves.specs.Halves.{is_half, is_live, live, put_of, was_put, without}
-use Rattle.hist_world.specs.Orders.{in_half, order_of, ordered}
+use Rattle.hist_world.specs.Orders.{in_half, order_of}
 use Rattle.hist_world.specs.Law.{IsLawful}
-use Rattle.hist_world.proofs.Basics.{no, and-false, both, both-left, both-right, eq-nat, half-is, half-true, if-new, if-old, name-is, name-not, name-self, name-true, not-true, or-left, or-split, or-true, self, some-is}
+use Rattle.hist_world.proofs.Basics.{no, both, both-left, both-right, eq-nat, half-true, if-new, if-old, name-is, name-not, name-true, or-left, or-true, self, some-is}
 use Rattle.hist_world.proofs.Orders.{put-order}
 use Rattle.hist_world.proofs.Once.{put-once}
 use Rattle.hist_world.proofs.Pairs.{inbound, numbered, one-spi}

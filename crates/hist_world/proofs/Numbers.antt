@@ -1,18 +1,18 @@
 -- The numbers under one half: each was sent once, and what was taken was sent.
-use Rattle.std.proofs.Common.{◌≡◌, ℕ, ◌+◌, ◌≤◌, ◌<◌, Bool, true, false, ◌==◌, ◌&&◌, ◌||◌, List, [], ◌∷◌, ◌++◌, Option, Some, None, ◌⊎◌, inl, inr, refl, sym, ◌∙◌, ap, subst, arith, if◌then◌else◌}
+use Rattle.std.proofs.Common.{◌≡◌, ℕ, ◌+◌, ◌≤◌, Bool, true, false, ◌==◌, ◌&&◌, ◌||◌, List, [], ◌∷◌, ◌++◌, Option, Some, None, ◌⊎◌, inl, inr, refl, sym, ◌∙◌, ap, subst, arith, if◌then◌else◌}
 use Rattle.std.specs.Str.{bytes_eq}
 use Rattle.ikeless_tree.specs.declared.association.SadEntry.{SadEntry}
 use Rattle.ikeless_tree.specs.declared.command.Peer.{Peer}
 use Rattle.ikeless_tree.specs.declared.reply.DropWhy.{DropWhy}
-use Rattle.esp_frame.specs.Esp.{esp, seq_of, spi_of}
+use Rattle.esp_frame.specs.Esp.{seq_of, spi_of}
 use Rattle.replay_win.specs.Marks.{is_among}
 use Rattle.hist_acts.specs.declared.act.Act.{Act}
 use Rattle.hist_acts.specs.declared.act.Act.TheVariants as acts
 use Rattle.hist_halves.specs.Sealed.{by_spi, esp_of, is_opened, number_of, other_half}
 use Rattle.hist_halves.specs.Halves.{arrival_number, is_half, is_sealed, live, number_if, put_of, sent, taken, was_put, with_number}
 use Rattle.hist_world.specs.Orders.{site}
-use Rattle.hist_world.specs.Carried.{ComesTo, IsOpened, is_let, keying_of, next_of, was_sent}
-use Rattle.hist_world.specs.Kept.{Carried, NumberSent}
+use Rattle.hist_world.specs.Carried.{ComesTo, is_let, keying_of, next_of, was_sent}
+use Rattle.hist_world.specs.Kept.{NumberSent}
 use Rattle.hist_world.specs.Law.{IsLawful, MayDrop, MayGive, MaySend}
 use Rattle.hist_world.proofs.Basics.{both-left, both-right, eq-nat, half-is, if-old, more, name-is, no, or-left, or-split, or-true, some-is}
 use Rattle.hist_world.proofs.Once.{put-once}
@@ -46,11 +46,13 @@ under-new f y m o h s false q = absurd (no q)
 
 under-this : (f y : List ℕ) (m : ℕ) (o g x : List ℕ) (n : ℕ) (h : List Act) → MaySend f y m o h → f ≡ g → y ≡ x → m ≡ n → is_half f y g x ≡ true → SentUnder g x n (acts.Sent f y m o ∷ h)
 under-this f y m o g x n h s p q r e =
-    let one = under-new f y m o h s (is_half f y g x) e in
-    (one.0, subst (λ z. put_of z x h ≡ Some one.0) p (subst (λ z. put_of f z h ≡ Some one.0) q one.1),
-     subst (λ z. z ≤ (if is_half f y g x then sent g x h + 1 else sent g x h)) r
-     (subst (λ z. m ≤ (if is_half f y g x then sent z x h + 1 else sent z x h)) p
-     (subst (λ z. m ≤ (if is_half f y g x then sent f z h + 1 else sent f z h)) q one.2)))
+    let one = under-new f y m o h s (is_half f y g x) e in (
+      one.0,
+      subst (λ z. put_of z x h ≡ Some one.0) p (subst (λ z. put_of f z h ≡ Some one.0) q one.1),
+      subst (λ z. z ≤ (if is_half f y g x then sent g x h + 1 else sent g x h)) r
+          (subst (λ z. m ≤ (if is_half f y g x then sent z x h + 1 else sent z x h)) p
+          (subst (λ z. m ≤ (if is_half f y g x then sent f z h + 1 else sent f z h)) q one.2)),
+    )
 
 under-put : (gs : List Peer) (f g x : List ℕ) (n : ℕ) (d : SadEntry) (h : List Act) → was_put g d.name h ≡ false → SentUnder g x n h → SentUnder g x n (acts.Put f d ∷ h)
 under-put gs f g x n d h w u =

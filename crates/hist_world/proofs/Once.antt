@@ -1,5 +1,5 @@
 -- A half is put once.
-use Rattle.std.proofs.Common.{◌≡◌, ℕ, ◌+◌, ◌≤◌, Bool, true, false, ◌==◌, ◌&&◌, ◌||◌, List, [], ◌∷◌, Option, Some, ◌⊎◌, inl, inr, refl, sym, ◌∙◌, ap, subst, arith, if◌then◌else◌}
+use Rattle.std.proofs.Common.{◌≡◌, ℕ, ◌+◌, ◌≤◌, Bool, true, false, ◌&&◌, ◌||◌, List, [], ◌∷◌, Some, ◌⊎◌, inl, inr, refl, sym, ◌∙◌, ap, subst, arith, if◌then◌else◌}
 use Rattle.std.specs.Str.{bytes_eq}
 use Rattle.ikeless_tree.specs.declared.association.SadEntry.{SadEntry}
 use Rattle.ikeless_tree.specs.declared.command.Peer.{Peer}
@@ -10,15 +10,15 @@ use Rattle.ikeless_tree.specs.declared.reply.DropWhy.{DropWhy}
 use Rattle.ikeless_tree.specs.declared.reply.GoneWhy.TheVariants as gone
 use Rattle.hist_acts.specs.declared.act.Act.{Act}
 use Rattle.hist_acts.specs.declared.act.Act.TheVariants as acts
-use Rattle.hist_acts.specs.Sessions.{handled, is_session, next_request, order_at, taken}
-use Rattle.hist_halves.specs.Halves.{is_half, was_put}
+use Rattle.hist_acts.specs.Sessions.{handled, is_session, next_request, taken}
+use Rattle.hist_halves.specs.Halves.{was_put}
 use Rattle.hist_gateway.specs.Safe.{ClearIsLet}
-use Rattle.hist_world.specs.Orders.{order_of, ordered, place_of, session_of, site}
+use Rattle.hist_world.specs.Orders.{place_of, session_of, site}
 use Rattle.hist_world.specs.Law.{IsAnswer, IsLawful, MayDrop, MayGive, MayHappen, MayPass, MaySend, is_ready}
 use Rattle.hist_world.specs.Kept.{IsBehind, Placed}
-use Rattle.hist_world.proofs.Basics.{no, or-split, not-true, name-is, more, session-self}
+use Rattle.hist_world.proofs.Basics.{no, not-true, name-is, more, session-self}
 use Rattle.hist_world.proofs.Sessions.{next-at, next-is}
-use Rattle.hist_world.proofs.Orders.{Was, other, place, put-is, was}
+use Rattle.hist_world.proofs.Orders.{other, place, was}
 
 -- the newest act is the Put of this half
 abbrev pub is_mid : List ℕ → List Act → Bool

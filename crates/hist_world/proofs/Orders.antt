@@ -1,5 +1,5 @@
 -- Orders of one half: where its put was ordered, and that it is ordered once.
-use Rattle.std.proofs.Common.{◌≡◌, ℕ, ◌+◌, ◌≤◌, ◌<◌, ◌^◌, Bool, true, false, ◌==◌, ◌&&◌, ◌||◌, List, [], ◌∷◌, ◌++◌, decimal, drop, Option, Some, ◌⊎◌, inl, inr, refl, sym, ◌∙◌, ap, subst, arith, if◌then◌else◌}
+use Rattle.std.proofs.Common.{◌≡◌, ℕ, ◌+◌, ◌≤◌, ◌<◌, ◌^◌, Bool, true, false, ◌==◌, ◌&&◌, ◌||◌, List, [], ◌∷◌, decimal, drop, Option, Some, ◌⊎◌, inl, inr, refl, sym, ◌∙◌, ap, subst, arith, if◌then◌else◌}
 use Rattle.std.specs.Str.{bytes_eq}
 use Rattle.std.proofs.lemmas.Fmt.{decimal_injective}
 use Rattle.ikeless_tree.specs.declared.association.SadEntry.{SadEntry}
@@ -8,13 +8,13 @@ use Rattle.ikeless_tree.specs.declared.order.Order.{Order}
 use Rattle.ikeless_tree.specs.declared.order.Order.TheVariants as asks
 use Rattle.hist_acts.specs.declared.act.Act.{Act}
 use Rattle.hist_acts.specs.declared.act.Act.TheVariants as acts
-use Rattle.hist_acts.specs.Sessions.{handled, is_session, next_request, order_at, taken}
+use Rattle.hist_acts.specs.Sessions.{handled, is_session, order_at, taken}
 use Rattle.hist_halves.specs.Sealed.{is_inbound}
 use Rattle.hist_halves.specs.Halves.{is_half, put_of, was_put}
-use Rattle.hist_world.specs.Orders.{in_half, inbounds, order_of, ordered, out_half, place_of, session_of, site}
+use Rattle.hist_world.specs.Orders.{in_half, inbounds, order_of, ordered, out_half, site}
 use Rattle.hist_world.specs.Law.{IsLawful, MayPutIn, MayPutOut}
 use Rattle.hist_world.specs.Kept.{Placed, PutIs}
-use Rattle.hist_world.proofs.Basics.{no, or-split, or-true, or-left, not-true, name-is, name-true, name-not, name-self, half-is, spot-is, more, if-old, if-cases, some-is}
+use Rattle.hist_world.proofs.Basics.{no, or-split, not-true, name-is, name-not, name-self, half-is, spot-is, more, if-cases, some-is}
 use Rattle.hist_world.proofs.Sessions.{next-is}
 
 -- ---- names of halves

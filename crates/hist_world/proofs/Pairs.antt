@@ -1,20 +1,18 @@
 -- The two halves of an association: one key, one SPI, mirrored selectors, two gateways.
-use Rattle.std.proofs.Common.{◌≡◌, ℕ, ◌+◌, ◌≤◌, ◌<◌, nat_lt, ◌^◌, Bool, true, false, ◌==◌, ◌&&◌, ◌||◌, List, [], ◌∷◌, decimal, Option, Some, None, ◌⊎◌, inl, inr, refl, sym, ◌∙◌, ap, subst, arith, if◌then◌else◌}
+use Rattle.std.proofs.Common.{◌≡◌, ℕ, ◌+◌, ◌≤◌, nat_lt, Bool, true, false, ◌&&◌, ◌||◌, List, [], ◌∷◌, decimal, Option, Some, ◌⊎◌, inl, inr, refl, sym, ◌∙◌, ap, subst, arith, if◌then◌else◌}
 use Rattle.std.specs.Str.{bytes_eq}
-use Rattle.std.proofs.lemmas.Fmt.{decimal_injective}
 use Rattle.ikeless_tree.specs.declared.association.SadEntry.{SadEntry}
 use Rattle.ikeless_tree.specs.declared.command.Peer.{Peer}
-use Rattle.ikeless_tree.specs.declared.order.Order.{Order}
 use Rattle.ikeless_tree.specs.declared.order.Order.TheVariants as asks
 use Rattle.hist_acts.specs.declared.act.Act.{Act}
 use Rattle.hist_acts.specs.declared.act.Act.TheVariants as acts
 use Rattle.hist_acts.specs.Sessions.{order_at}
 use Rattle.hist_halves.specs.Sealed.{is_inbound}
-use Rattle.hist_world.specs.Orders.{aes_part, in_half, inbounds, is_doomed, is_key_used, is_made, is_put, mirrored, order_of, ordered, out_half, site}
+use Rattle.hist_world.specs.Orders.{aes_part, in_half, inbounds, is_key_used, is_made, is_put, order_of, ordered, out_half, site}
 use Rattle.hist_world.specs.Law.{IsLawful, MayPutIn, MayPutOut}
 use Rattle.hist_world.specs.Kept.{Pair}
-use Rattle.hist_world.proofs.Basics.{no, or-false, or-left, or-split, or-true, name-is, name-not, name-self, name-true, some-is, if-cases, if-new, if-old}
-use Rattle.hist_world.proofs.Orders.{in-out, in-serial, once-ordered, other, out-serial}
+use Rattle.hist_world.proofs.Basics.{no, or-left, or-split, or-true, name-is, name-not, name-true, some-is, if-cases, if-new, if-old}
+use Rattle.hist_world.proofs.Orders.{in-out, in-serial, other, out-serial}
 
 -- what was ordered has an entry, of its name
 order-some : (b c : Bool) (d e : SadEntry) (o : Option SadEntry) → (o ≡ Some e → c ≡ true) → (if b then Some d else o) ≡ Some e → (b || c) ≡ true

@@ -11,8 +11,8 @@ use Rattle.hist_acts.specs.declared.act.Act.{Act}
 use Rattle.hist_acts.specs.declared.act.Act.TheVariants as acts
 use Rattle.hist_acts.specs.Sessions.{answer_at, handled, is_session, next_request, openings, order_at, taken}
 use Rattle.hist_halves.specs.Halves.{is_half, is_live}
-use Rattle.hist_world.specs.Orders.{is_doomed, is_left, is_off, is_removal, ordered, place_of, session_of, site}
-use Rattle.hist_world.specs.Law.{IsAnswer, IsLawful, is_ready}
+use Rattle.hist_world.specs.Orders.{is_doomed, is_left, is_off, is_removal, place_of, session_of, site}
+use Rattle.hist_world.specs.Law.{IsAnswer, IsLawful}
 use Rattle.hist_world.specs.Kept.{Dead, Never}
 use Rattle.hist_world.proofs.Basics.{no, or-split, or-true, or-left, and-false, name-is, name-self, name-true, half-is, half-true, spot-is, more, some-is, if-cases}
 use Rattle.hist_world.proofs.Sessions.{next-at, next-is, told-order}

@@ -1,12 +1,12 @@
 -- The five parts together.
-use Rattle.std.proofs.Common.{◌≡◌, ℕ, Bool, true, false, List, [], ◌∷◌, ◌⊎◌, refl, sym, ◌∙◌, ap, subst}
+use Rattle.std.proofs.Common.{◌≡◌, ℕ, true, false, List, [], ◌∷◌, ◌⊎◌, sym, ◌∙◌, ap, subst}
 use Rattle.ikeless_tree.specs.declared.association.SadEntry.{SadEntry}
 use Rattle.ikeless_tree.specs.declared.command.Peer.{Peer}
 use Rattle.hist_acts.specs.declared.act.Act.{Act}
 use Rattle.hist_acts.specs.declared.act.Act.TheVariants as acts
 use Rattle.hist_halves.specs.Sealed.{esp_of, is_inbound, number_of, other_half}
 use Rattle.hist_halves.specs.Halves.{is_lapsed, is_live, is_sealed, taken, was_put}
-use Rattle.hist_world.specs.Orders.{in_half, ordered, out_half, site}
+use Rattle.hist_world.specs.Orders.{in_half, out_half, site}
 use Rattle.hist_world.specs.Carried.{IsGenuine, Sends}
 use Rattle.hist_world.specs.Law.{IsLawful, IsWhole, MayHappen, MaySend}
 use Rattle.hist_world.specs.Safe.{IsArrivalSafe, IsClearSafe, IsGaveSafe, IsKeySafe, IsLastSafe, IsSentSafe, MustGive, Safe}

@@ -1,11 +1,10 @@
 -- What arrives is given once, and what must be given is given.
-use Rattle.std.proofs.Common.{◌≡◌, ℕ, ◌+◌, ◌<◌, ◌≤◌, ◌^◌, Bool, true, false, ◌==◌, not, ◌&&◌, ◌||◌, List, [], ◌∷◌, ◌++◌, Option, Some, None, Ok, ◌⊎◌, inl, inr, refl, sym, ◌∙◌, ap, subst, arith, if◌then◌else◌, length}
+use Rattle.std.proofs.Common.{◌≡◌, ℕ, ◌<◌, ◌^◌, Bool, true, false, ◌==◌, ◌&&◌, List, [], ◌∷◌, Option, Some, None, inl, inr, refl, sym, ◌∙◌, ap, subst, arith, if◌then◌else◌, length}
 use Rattle.std.specs.Str.{bytes_eq}
-use Rattle.ip_packet.specs.View.{Packet, view_of}
+use Rattle.ip_packet.specs.View.{Packet}
 use Rattle.ikeless_tree.specs.declared.association.SadEntry.{SadEntry}
 use Rattle.ikeless_tree.specs.declared.command.Peer.{Peer}
 use Rattle.ikeless_tree.specs.declared.entry.Direction.TheVariants.{In, Out}
-use Rattle.ikeless_tree.specs.declared.entry.Range.{Range}
 use Rattle.ikeless_tree.specs.declared.entry.Selector.{Selector}
 use Rattle.ikeless_tree.specs.declared.order.Order.{Order}
 use Rattle.ikeless_tree.specs.declared.order.Order.TheVariants as asks
@@ -19,11 +18,11 @@ use Rattle.replay_win.specs.declared.verdict.Verdict.TheVariants.{Fresh, Old, Se
 use Rattle.hist_acts.specs.declared.act.Act.{Act}
 use Rattle.hist_acts.specs.declared.act.Act.TheVariants as acts
 use Rattle.hist_halves.specs.Sealed.{by_spi, esp_of, is_inbound, number_of, other_half}
-use Rattle.hist_halves.specs.Halves.{is_lapsed, is_live, is_sealed, live, put_of, taken, was_put}
+use Rattle.hist_halves.specs.Halves.{is_lapsed, is_live, is_sealed, live, put_of, taken}
 use Rattle.hist_gateway.specs.Safe.{ClearIsLet}
-use Rattle.hist_world.specs.Orders.{in_half, is_doomed, mirrored, order_of, ordered, out_half, site}
-use Rattle.hist_world.specs.Carried.{ComesTo, Delivers, IsGenuine, address_of, keying_of, next_of, was_given, was_sent}
-use Rattle.hist_world.specs.Law.{IsAnswer, IsLawful, MayDrop, MayGive, MayHappen, MayPass, is_ready}
+use Rattle.hist_world.specs.Orders.{in_half, is_doomed, mirrored, order_of, out_half, site}
+use Rattle.hist_world.specs.Carried.{ComesTo, Delivers, IsGenuine, keying_of, next_of, was_given, was_sent}
+use Rattle.hist_world.specs.Law.{IsAnswer, IsLawful, MayGive, MayHappen}
 use Rattle.hist_world.specs.Safe.{GaveWasSent, MustGive}
 use Rattle.hist_world.proofs.Basics.{no, name-not, name-true, not-true, some-is}
 use Rattle.hist_world.proofs.Orders.{put-order, put-was, was}

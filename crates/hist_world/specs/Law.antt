@@ -134,6 +134,11 @@ abbrev pub IsLawful : List Peer → List Act → Type 0
 IsLawful gateways [] = Unit {0}
 IsLawful gateways (a ∷ h) = MayHappen gateways a h × IsLawful gateways h
 
+-- Acts that may happen in their order after a past, each after those before it.
+abbrev pub MayAll : List Peer → List Act → List Act → Type 0
+MayAll gateways h [] = Unit {0}
+MayAll gateways h (a ∷ more) = MayHappen gateways a h × MayAll gateways (a ∷ h) more
+
 -- What happened is whole: each question has its answer, but for a forged arrival at the end.
 abbrev pub IsWhole : List Peer → List Act → Type 0
 IsWhole gateways (acts.Arrived g o ∷ h) = IsGenuine gateways g o h → ⊥

@@ -1,5 +1,5 @@
 -- What is safe, in five parts, each said of an act and what happened before it. A past has its newest act first.
-use Rattle.std.specs.Prelude.{◌≡◌, ℕ, true, false, List, [], ◌∷◌, Option, Some, Ok, ◌⊎◌}
+use Rattle.std.specs.Prelude.{◌≡◌, ℕ, true, false, List, [], ◌∷◌, Some, Ok, ◌⊎◌}
 use Rattle.std.specs.Str.{bytes_eq}
 use Rattle.ip_packet.specs.View.{Packet, view_of}
 use Rattle.ikeless_tree.specs.declared.association.SadEntry.{SadEntry}
