@@ -1,23 +1,15 @@
 -- A removal of a half is ordered behind its put, so once it is handled no put can be.
-use Rattle.std.proofs.Common.{◌≡◌, ℕ, ◌+◌, ◌≤◌, ◌<◌, Bool, true, false, ◌==◌, not, ◌&&◌, ◌||◌, List, [], ◌∷◌, ◌⊎◌, inl, inr, refl, sym, ◌∙◌, ap, subst, arith, if◌then◌else◌}
+use Rattle.std.proofs.Common.{◌≡◌, ℕ, ◌+◌, ◌≤◌, ◌<◌, Bool, true, false, not, ◌&&◌, ◌||◌, List, [], ◌∷◌, ◌⊎◌, inl, inr, refl, sym, subst, arith, if◌then◌else◌}
 use Rattle.std.specs.Str.{bytes_eq}
-use Rattle.ikeless_tree.specs.declared.association.SadEntry.{SadEntry}
 use Rattle.ikeless_tree.specs.declared.command.Peer.{Peer}
-use Rattle.ikeless_tree.specs.declared.order.Order.{Order}
 use Rattle.ikeless_tree.specs.declared.order.Order.TheVariants as asks
 use Rattle.hist_acts.specs.declared.act.Act.{Act}
 use Rattle.hist_acts.specs.declared.act.Act.TheVariants as acts
 use Rattle.hist_acts.specs.Sessions.{handled, is_open, is_session, openings, orders, taken}
 use Rattle.hist_world.specs.Orders.{is_doomed, ordered, place_of, session_of, site}
 use Rattle.hist_world.specs.Law.{IsLawful, MayOrder}
+use Rattle.hist_world.specs.Kept.{Never}
 use Rattle.hist_world.proofs.Basics.{no, or-false, or-split, or-true, name-is, session-self, more}
-use Rattle.hist_world.proofs.Sessions.{}
-use Rattle.hist_world.proofs.Orders.{other}
-use Rattle.hist_world.proofs.Once.{Behind}
-
--- the put of the half can't be handled any more: not its session is taken, or its number is behind
-abbrev pub Never : List ℕ → List Act → Type 0
-Never x h = taken (site x h) h ≡ session_of x h → Behind x h
 
 open-more : (b p : Bool) (o : ℕ) → (p ≡ true → 1 ≤ o) → (b || p) ≡ true → 1 ≤ (if b then o + 1 else o)
 open-more true p o i e = omega arith

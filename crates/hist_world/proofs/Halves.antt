@@ -1,6 +1,7 @@
 -- The halves of an association: the inbound one stays while the outbound one is there.
-use Rattle.std.proofs.Common.{◌≡◌, ℕ, ◌+◌, ◌≤◌, Bool, true, false, ◌==◌, not, ◌&&◌, ◌||◌, List, [], ◌∷◌, decimal, Option, Some, None, ◌⊎◌, inl, inr, refl, sym, ◌∙◌, ap, subst, arith, if◌then◌else◌}
+use Rattle.std.proofs.Common.{◌≡◌, ℕ, ◌+◌, ◌≤◌, ◌<◌, nat_lt, Bool, true, false, ◌==◌, not, ◌&&◌, ◌||◌, List, [], ◌∷◌, decimal, Option, Some, None, ◌⊎◌, inl, inr, refl, sym, ◌∙◌, ap, subst, arith, if◌then◌else◌}
 use Rattle.std.specs.Str.{bytes_eq}
+use Rattle.std.proofs.lemmas.Bool.{ltb-true}
 use Rattle.ikeless_tree.specs.declared.association.SadEntry.{SadEntry}
 use Rattle.ikeless_tree.specs.declared.command.Peer.{Peer}
 use Rattle.ikeless_tree.specs.declared.order.Order.{Order}
@@ -13,7 +14,8 @@ use Rattle.hist_acts.specs.Sessions.{answer_at, handled, is_session, order_at, t
 use Rattle.hist_halves.specs.Halves.{is_half, is_lapsed, is_live, was_put}
 use Rattle.hist_world.specs.Orders.{in_half, inbounds, is_doomed, is_left, is_made, is_off, is_put, is_removal, ordered, out_half, site}
 use Rattle.hist_world.specs.Law.{IsAnswer, IsLawful, MayPutIn, MayPutOut, MayRemoveIn, MayRemoveOut}
-use Rattle.hist_world.proofs.Basics.{no, both-left, both-right, eq-nat, or-left, or-split, or-true, name-is, name-self, half-is, half-true, spot-is, some-is, if-cases}
+use Rattle.hist_world.specs.Kept.{Last}
+use Rattle.hist_world.proofs.Basics.{no, both-left, both-right, or-left, or-split, or-true, name-is, half-is, half-true, spot-is, some-is, if-cases}
 use Rattle.hist_world.proofs.Sessions.{next-at, next-is, told-order}
 use Rattle.hist_world.proofs.Orders.{in-out, in-serial, other, out-serial, was}
 use Rattle.hist_world.proofs.Removal.{asked, left-off, off-dead}
@@ -55,14 +57,14 @@ put-order-is x (Some asks.Read) q = absurd (no q)
 put-order-is x (Some (asks.Policy l)) q = absurd (no q)
 put-order-is x None q = absurd (no q)
 
-accepted : {A : Type 0} (n : ℕ) → n ≡ 201 → (400 ≤ n) ⊎ A → A
+accepted : {A : Type 0} (n : ℕ) → n < 400 → (400 ≤ n) ⊎ A → A
 accepted n e (inl p) = absurd (omega (arith, e, p))
 accepted n e (inr a) = a
 
-made-new : (gs : List Peer) (f : List ℕ) (t j : ℕ) (x : List ℕ) (a : Answer) (h : List Act) → IsLawful gs h → answer_at f t j h ≡ Some a → (is_put x (order_at f t j h) && (a.status == 201)) ≡ true → was_put (site x h) x h ≡ true
+made-new : (gs : List Peer) (f : List ℕ) (t j : ℕ) (x : List ℕ) (a : Answer) (h : List Act) → IsLawful gs h → answer_at f t j h ≡ Some a → (is_put x (order_at f t j h) && nat_lt a.status 400) ≡ true → was_put (site x h) x h ≡ true
 made-new gs f t j x a h l p q =
-    let o = put-order-is x (order_at f t j h) (both-left (is_put x (order_at f t j h)) (a.status == 201) q) in
-    let n = eq-nat a.status 201 (both-right (is_put x (order_at f t j h)) (a.status == 201) q) in
+    let o = put-order-is x (order_at f t j h) (both-left (is_put x (order_at f t j h)) (nat_lt a.status 400) q) in
+    let n = ltb-true a.status 400 (both-right (is_put x (order_at f t j h)) (nat_lt a.status 400) q) in
     let w = accepted {A = was_put f o.0.name h ≡ true} a.status n (told-put gs f t j o.0 a h l p o.2) in
     let v : was_put f x h ≡ true = subst (λ z. was_put f z h ≡ true) o.1 w in
     subst (λ z. was_put z x h ≡ true) (sym (was gs f x h l v).1) v
@@ -73,7 +75,7 @@ made-older x f d h q p = rw q p
 pub made-put : (gs : List Peer) (x : List ℕ) (h : List Act) → IsLawful gs h → is_made x h ≡ true → was_put (site x h) x h ≡ true
 made-put gs x [] l q = absurd (no q)
 made-put gs x (acts.Answered f t j a ∷ h) l q =
-    or-split {A = was_put (site x h) x h ≡ true} (is_put x (order_at f t j h) && (a.status == 201)) (is_made x h) (made-new gs f t j x a h l.1 l.0.4) (made-put gs x h l.1) q
+    or-split {A = was_put (site x h) x h ≡ true} (is_put x (order_at f t j h) && nat_lt a.status 400) (is_made x h) (made-new gs f t j x a h l.1 l.0.4) (made-put gs x h l.1) q
 made-put gs x (acts.Put f d ∷ h) l q = or-true (is_half f d.name (site x h) x) (was_put (site x h) x h) (made-put gs x h l.1 q)
 made-put gs x (acts.Order f t j (asks.Put d) ∷ h) l q =
     let i = made-put gs x h l.1 q in
@@ -85,9 +87,6 @@ pub first-in : (gs : List Peer) (t : List ℕ) (h : List Act) → IsLawful gs h 
 first-in gs t h l o = made-put gs (in_half t) h l (pair gs t h l o).8
 
 -- ---- the inbound half is ordered removed only where the outbound one is gone for good
-abbrev pub Last : List ℕ → List Act → Type 0
-Last t h = (ordered (out_half t) h ≡ false) ⊎ (is_off (out_half t) h ≡ true)
-
 last-in : (gs : List Peer) (t : List ℕ) (h : List Act) → IsLawful gs h → (ordered (out_half t) h ≡ false) ⊎ (is_left (out_half t) h ≡ true) → Last t h
 last-in gs t h l (inl p) = inl p
 last-in gs t h l (inr p) = inr (left-off gs (out_half t) h l p)

@@ -1,5 +1,5 @@
 -- No number is sealed twice under one key.
-use Rattle.std.proofs.Common.{◌≡◌, ℕ, ◌+◌, ◌≤◌, ◌<◌, ◌^◌, Bool, true, false, ◌==◌, ◌&&◌, ◌||◌, List, [], ◌∷◌, Option, Some, None, refl, sym, ◌∙◌, ap, subst, arith, if◌then◌else◌}
+use Rattle.std.proofs.Common.{◌≡◌, ℕ, ◌+◌, ◌≤◌, true, false, ◌&&◌, List, [], ◌∷◌, Some, refl, sym, ◌∙◌, ap, subst, arith, if◌then◌else◌}
 use Rattle.std.specs.Int.{w64, to_be_bytes}
 use Rattle.std.specs.Str.{bytes_eq}
 use Rattle.ikeless_tree.specs.declared.association.SadEntry.{SadEntry}
@@ -12,16 +12,12 @@ use Rattle.hist_halves.specs.Halves.{is_half, put_of, sent, was_put}
 use Rattle.hist_world.specs.Orders.{aes_part, in_half, order_of, ordered, out_half, site}
 use Rattle.hist_world.specs.Carried.{Sends, aes_in, keying_of, next_of, was_sealed}
 use Rattle.hist_world.specs.Law.{IsLawful, MaySend}
-use Rattle.hist_world.proofs.Basics.{no, both-left, both-right, half-is, half-true, if-new, if-old, more, name-is, not-true, or-split, some-is}
+use Rattle.hist_world.specs.Kept.{Under}
+use Rattle.hist_world.proofs.Basics.{no, both-left, both-right, half-is, half-true, if-old, more, name-is, not-true, or-split, some-is}
 use Rattle.hist_world.proofs.Orders.{put-order, put-was}
 use Rattle.hist_world.proofs.Once.{put-once}
 use Rattle.hist_world.proofs.Pairs.{keys-differ, outbound, pair}
 use Rattle.hist_world.proofs.Frames.{esp-iv, iv-once}
-
--- the key and IV were used by an outbound half that has the key, with a number up to its count
-abbrev pub Under : List ℕ → List ℕ → List Act → Type 0
-Under c iv h =
-    (g x : List ℕ) × (e : SadEntry) × (k : ℕ) × (put_of g x h ≡ Some e) × (aes_part e.key ≡ c) × (iv ≡ to_be_bytes w64 k) × (k < 2 ^ 32) × (k ≤ sent g x h) × (is_inbound x ≡ false)
 
 -- the half that was put isn't the one that is put now
 pub not-now : (gs : List Peer) (g f x : List ℕ) (d e : SadEntry) (h : List Act) → was_put g d.name h ≡ false → put_of g x h ≡ Some e → is_half f d.name g x ≡ false

@@ -8,3 +8,11 @@ pub mod Pairs
 pub mod Halves
 pub mod Frames
 pub mod Keys
+pub mod Live
+pub mod Carried
+pub mod Window
+pub mod Safe
+pub mod Numbers
+pub mod Invariant
+pub mod Ended
+pub mod Blocks

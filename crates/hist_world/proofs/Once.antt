@@ -1,22 +1,24 @@
 -- A half is put once.
-use Rattle.std.proofs.Common.{◌≡◌, ℕ, ◌+◌, ◌≤◌, Bool, true, false, ◌==◌, ◌&&◌, ◌||◌, List, [], ◌∷◌, Option, Some, ◌⊎◌, inl, inr, refl, sym, ◌∙◌, ap, subst, arith, if◌then◌else◌}
+use Rattle.std.proofs.Common.{◌≡◌, ℕ, ◌+◌, ◌≤◌, Bool, true, false, ◌&&◌, ◌||◌, List, [], ◌∷◌, Some, ◌⊎◌, inl, inr, refl, sym, ◌∙◌, ap, subst, arith, if◌then◌else◌}
 use Rattle.std.specs.Str.{bytes_eq}
 use Rattle.ikeless_tree.specs.declared.association.SadEntry.{SadEntry}
 use Rattle.ikeless_tree.specs.declared.command.Peer.{Peer}
 use Rattle.ikeless_tree.specs.declared.order.Order.{Order}
 use Rattle.ikeless_tree.specs.declared.order.Order.TheVariants as asks
 use Rattle.ikeless_tree.specs.declared.order.Answer.{Answer}
+use Rattle.ikeless_tree.specs.declared.reply.DropWhy.{DropWhy}
 use Rattle.ikeless_tree.specs.declared.reply.GoneWhy.TheVariants as gone
 use Rattle.hist_acts.specs.declared.act.Act.{Act}
 use Rattle.hist_acts.specs.declared.act.Act.TheVariants as acts
-use Rattle.hist_acts.specs.Sessions.{handled, is_session, next_request, order_at, taken}
-use Rattle.hist_halves.specs.Halves.{is_half, was_put}
+use Rattle.hist_acts.specs.Sessions.{handled, is_session, next_request, taken}
+use Rattle.hist_halves.specs.Halves.{was_put}
 use Rattle.hist_gateway.specs.Safe.{ClearIsLet}
-use Rattle.hist_world.specs.Orders.{order_of, ordered, place_of, session_of, site}
+use Rattle.hist_world.specs.Orders.{place_of, session_of, site}
 use Rattle.hist_world.specs.Law.{IsAnswer, IsLawful, MayDrop, MayGive, MayHappen, MayPass, MaySend, is_ready}
-use Rattle.hist_world.proofs.Basics.{no, or-split, not-true, name-is, more, session-self}
+use Rattle.hist_world.specs.Kept.{IsBehind, Placed}
+use Rattle.hist_world.proofs.Basics.{no, not-true, name-is, more, session-self}
 use Rattle.hist_world.proofs.Sessions.{next-at, next-is}
-use Rattle.hist_world.proofs.Orders.{Placed, Was, other, place, put-is, was}
+use Rattle.hist_world.proofs.Orders.{other, place, was}
 
 -- the newest act is the Put of this half
 abbrev pub is_mid : List ℕ → List Act → Bool
@@ -47,11 +49,11 @@ pass-mid gs g x (acts.Arrived f o ∷ h) s m = no m
 pass-mid gs g x [] s m = no m
 pass-mid gs g x (a ∷ h) s m = s
 
-drop-mid : (gs : List Peer) (g x : List ℕ) (h : List Act) → MayDrop gs g h → is_mid x h ≡ true → ⊥
-drop-mid gs g x (acts.Let f o ∷ h) s m = no m
-drop-mid gs g x (acts.Arrived f o ∷ h) s m = no m
-drop-mid gs g x [] s m = no m
-drop-mid gs g x (a ∷ h) s m = s
+drop-mid : (gs : List Peer) (g : List ℕ) (why : DropWhy) (x : List ℕ) (h : List Act) → MayDrop gs g why h → is_mid x h ≡ true → ⊥
+drop-mid gs g why x (acts.Let f o ∷ h) s m = no m
+drop-mid gs g why x (acts.Arrived f o ∷ h) s m = no m
+drop-mid gs g why x [] s m = no m
+drop-mid gs g why x (a ∷ h) s m = s
 
 clear-mid : (g o x : List ℕ) (h : List Act) → ClearIsLet h g o → is_mid x h ≡ true → ⊥
 clear-mid g o x h c m = let p : is_mid x (acts.Let g o ∷ c.older) ≡ true = subst (λ z. is_mid x z ≡ true) c.let_before m in no p
@@ -71,7 +73,7 @@ only-handled gs x (acts.Clear g o) h m e = absurd (clear-mid g o x h m e)
 only-handled gs x (acts.Sent g y n o) h m e = absurd (send-mid g y o n x h m e)
 only-handled gs x (acts.Gave g y n p) h m e = absurd (give-mid gs g y p n x h m e)
 only-handled gs x (acts.Pass g o) h m e = absurd (pass-mid gs g x h m e)
-only-handled gs x (acts.Drop g why) h m e = absurd (drop-mid gs g x h m e)
+only-handled gs x (acts.Drop g why) h m e = absurd (drop-mid gs g why x h m e)
 only-handled gs x (acts.Took k) h m e = absurd (ready-mid x h m e)
 only-handled gs x (acts.Now t) h m e = absurd (ready-mid x h m e)
 only-handled gs x (acts.Boot g) h m e = absurd (ready-mid x h m e)
@@ -90,16 +92,13 @@ answer-mid g x (asks.Remove y) a (acts.Put f d ∷ h) p m = absurd (no p.0)
 answer-mid g x o a [] p m = absurd (no m)
 answer-mid g x o a (b ∷ h) p m = absurd (no m)
 
-abbrev pub Behind : List ℕ → List Act → Type 0
-Behind x h = place_of x h ≤ handled (site x h) (session_of x h) h
-
 once-now : (f x : List ℕ) (t j : ℕ) (h : List Act) → (site x h ≡ f) → (session_of x h ≡ t) → (place_of x h ≡ j) → j ≡ handled f t h + 1 →
     place_of x h ≤ (if is_session f t (site x h) (session_of x h) then handled (site x h) (session_of x h) h + 1 else handled (site x h) (session_of x h) h)
 once-now f x t j h a b c q =
     let r : is_session f t (site x h) (session_of x h) ≡ true = rw (a, b) (session-self f t) in
     rw r (rw (a, b, c) (omega (arith, q)))
 
-once-handled : (f x : List ℕ) (t j : ℕ) (h : List Act) → (is_mid x h ≡ true → (site x h ≡ f) × (session_of x h ≡ t) × (place_of x h ≡ j)) → j ≡ handled f t h + 1 → (is_mid x h ≡ true) ⊎ Behind x h →
+once-handled : (f x : List ℕ) (t j : ℕ) (h : List Act) → (is_mid x h ≡ true → (site x h ≡ f) × (session_of x h ≡ t) × (place_of x h ≡ j)) → j ≡ handled f t h + 1 → (is_mid x h ≡ true) ⊎ IsBehind x h →
     place_of x h ≤ (if is_session f t (site x h) (session_of x h) then handled (site x h) (session_of x h) h + 1 else handled (site x h) (session_of x h) h)
 once-handled f x t j h pl q (inl m) = let p = pl m in once-now f x t j h p.0 p.1 p.2 q
 once-handled f x t j h pl q (inr n) = more (is_session f t (site x h) (session_of x h)) (place_of x h) (handled (site x h) (session_of x h) h) n
@@ -117,7 +116,7 @@ once-put b true c f e = inl refl
 once-put true false c f e = inr (f e)
 once-put false false c f e = inr (f e)
 
-behind-older : (x f : List ℕ) (t j : ℕ) (d : SadEntry) (h : List Act) → bytes_eq d.name x ≡ false → Behind x h → Behind x (acts.Order f t j (asks.Put d) ∷ h)
+behind-older : (x f : List ℕ) (t j : ℕ) (d : SadEntry) (h : List Act) → bytes_eq d.name x ≡ false → IsBehind x h → IsBehind x (acts.Order f t j (asks.Put d) ∷ h)
 behind-older x f t j d h q n =
     let m : (if bytes_eq d.name x then j else place_of x h) ≤ handled (if bytes_eq d.name x then f else site x h) (if bytes_eq d.name x then t else session_of x h) h = rw q n in
     m
@@ -126,7 +125,7 @@ placed-at : (f x : List ℕ) (t j : ℕ) (e : SadEntry) (h : List Act) → Place
 placed-at f x t j e h p q = subst (λ z. (site z h ≡ f) × (session_of z h ≡ t) × (place_of z h ≡ j)) q (p.1, p.2, p.3)
 
 -- once a half was put, the order of its put is handled
-pub once : (gs : List Peer) (g x : List ℕ) (h : List Act) → IsLawful gs h → was_put g x h ≡ true → (is_mid x h ≡ true) ⊎ Behind x h
+pub once : (gs : List Peer) (g x : List ℕ) (h : List Act) → IsLawful gs h → was_put g x h ≡ true → (is_mid x h ≡ true) ⊎ IsBehind x h
 once gs g x [] l e = absurd (no e)
 once gs g x (acts.Put f d ∷ h) l e = once-put (bytes_eq f g) (bytes_eq d.name x) (was_put g x h) (λ q. settled x h l.0.0 (once gs g x h l.1 q)) e
 once gs g x (acts.Handled f t j r ∷ h) l e =
@@ -142,7 +141,7 @@ once gs g x (acts.Order f t j (asks.Put d) ∷ h) l e =
     inr (behind-older x f t j d h q (settled x h l.0.0 (once gs g x h l.1 e)))
 once gs g x (a ∷ h) l e = not-mid x h (λ m. no (only-handled gs x a h l.0 m)) (once gs g x h l.1 e)
 
-pub too-far : (f x : List ℕ) (t : ℕ) (h : List Act) → (site x h ≡ f) → (session_of x h ≡ t) → (place_of x h ≡ handled f t h + 1) → Behind x h → ⊥
+pub too-far : (f x : List ℕ) (t : ℕ) (h : List Act) → (site x h ≡ f) → (session_of x h ≡ t) → (place_of x h ≡ handled f t h + 1) → IsBehind x h → ⊥
 too-far f x t h a b c n = let q : handled f t h + 1 ≤ handled f t h = rw (sym c) (let m : place_of x h ≤ handled f t h = rw (sym a, sym b) n in m) in omega (arith, q)
 
 -- no half is put twice

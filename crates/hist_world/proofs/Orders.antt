@@ -1,5 +1,5 @@
 -- Orders of one half: where its put was ordered, and that it is ordered once.
-use Rattle.std.proofs.Common.{◌≡◌, ℕ, ◌+◌, ◌≤◌, ◌<◌, ◌^◌, Bool, true, false, ◌==◌, ◌&&◌, ◌||◌, List, [], ◌∷◌, ◌++◌, decimal, drop, Option, Some, ◌⊎◌, inl, inr, refl, sym, ◌∙◌, ap, subst, arith, if◌then◌else◌}
+use Rattle.std.proofs.Common.{◌≡◌, ℕ, ◌+◌, ◌≤◌, ◌<◌, ◌^◌, Bool, true, false, ◌==◌, ◌&&◌, ◌||◌, List, [], ◌∷◌, decimal, drop, Option, Some, ◌⊎◌, inl, inr, refl, sym, ◌∙◌, ap, subst, arith, if◌then◌else◌}
 use Rattle.std.specs.Str.{bytes_eq}
 use Rattle.std.proofs.lemmas.Fmt.{decimal_injective}
 use Rattle.ikeless_tree.specs.declared.association.SadEntry.{SadEntry}
@@ -8,12 +8,13 @@ use Rattle.ikeless_tree.specs.declared.order.Order.{Order}
 use Rattle.ikeless_tree.specs.declared.order.Order.TheVariants as asks
 use Rattle.hist_acts.specs.declared.act.Act.{Act}
 use Rattle.hist_acts.specs.declared.act.Act.TheVariants as acts
-use Rattle.hist_acts.specs.Sessions.{handled, is_session, next_request, order_at, taken}
+use Rattle.hist_acts.specs.Sessions.{handled, is_session, order_at, taken}
 use Rattle.hist_halves.specs.Sealed.{is_inbound}
 use Rattle.hist_halves.specs.Halves.{is_half, put_of, was_put}
-use Rattle.hist_world.specs.Orders.{in_half, inbounds, order_of, ordered, out_half, place_of, session_of, site}
+use Rattle.hist_world.specs.Orders.{in_half, inbounds, order_of, ordered, out_half, site}
 use Rattle.hist_world.specs.Law.{IsLawful, MayPutIn, MayPutOut}
-use Rattle.hist_world.proofs.Basics.{no, or-split, or-true, or-left, not-true, name-is, name-true, name-not, name-self, half-is, spot-is, more, if-old, if-cases, some-is}
+use Rattle.hist_world.specs.Kept.{Placed, PutIs}
+use Rattle.hist_world.proofs.Basics.{no, or-split, not-true, name-is, name-not, name-self, half-is, spot-is, more, if-cases, some-is}
 use Rattle.hist_world.proofs.Sessions.{next-is}
 
 -- ---- names of halves
@@ -63,8 +64,6 @@ pub other : (gs : List Peer) (x f : List ℕ) (e : SadEntry) (h : List Act) → 
 other gs x f e h l m q = name-not e.name x (λ p. let r : ordered e.name h ≡ true = rw p q in no (sym (once-ordered gs f e h l m) ∙ r))
 
 -- ---- what was ordered with this number
-abbrev pub Placed : List ℕ → ℕ → ℕ → SadEntry → List Act → Type 0
-Placed g s k e h = (ordered e.name h ≡ true) × (site e.name h ≡ g) × (session_of e.name h ≡ s) × (place_of e.name h ≡ k) × (order_of e.name h ≡ Some e)
 
 -- an order with this number is this one, or an older one
 pub order-old : (b : Bool) (a d : Order) (o : Option Order) → (a ≡ d → ⊥) → (if b then Some a else o) ≡ Some d → o ≡ Some d
@@ -120,8 +119,6 @@ was gs g x (acts.Order f t j (asks.Put d) ∷ h) l q = let r = was gs g x h l.1 
 was gs g x (a ∷ h) l q = was gs g x h l.1 q
 
 -- ---- what was put is what was ordered
-abbrev pub PutIs : List ℕ → List ℕ → SadEntry → List Act → Type 0
-PutIs g x e h = (e.name ≡ x) × (ordered x h ≡ true) × (site x h ≡ g) × (order_of x h ≡ Some e)
 
 put-new : (f g x : List ℕ) (d : SadEntry) (h : List Act) → (ordered d.name h ≡ true) → (site d.name h ≡ f) → (order_of d.name h ≡ Some d) → is_half f d.name g x ≡ true → PutIs g x d h
 put-new f g x d h a b c q =

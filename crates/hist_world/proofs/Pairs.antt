@@ -1,19 +1,18 @@
 -- The two halves of an association: one key, one SPI, mirrored selectors, two gateways.
-use Rattle.std.proofs.Common.{◌≡◌, ℕ, ◌+◌, ◌≤◌, ◌<◌, ◌^◌, Bool, true, false, ◌==◌, ◌&&◌, ◌||◌, List, [], ◌∷◌, decimal, Option, Some, None, ◌⊎◌, inl, inr, refl, sym, ◌∙◌, ap, subst, arith, if◌then◌else◌}
+use Rattle.std.proofs.Common.{◌≡◌, ℕ, ◌+◌, ◌≤◌, nat_lt, Bool, true, false, ◌&&◌, ◌||◌, List, [], ◌∷◌, decimal, Option, Some, ◌⊎◌, inl, inr, refl, sym, ◌∙◌, ap, subst, arith, if◌then◌else◌}
 use Rattle.std.specs.Str.{bytes_eq}
-use Rattle.std.proofs.lemmas.Fmt.{decimal_injective}
 use Rattle.ikeless_tree.specs.declared.association.SadEntry.{SadEntry}
 use Rattle.ikeless_tree.specs.declared.command.Peer.{Peer}
-use Rattle.ikeless_tree.specs.declared.order.Order.{Order}
 use Rattle.ikeless_tree.specs.declared.order.Order.TheVariants as asks
 use Rattle.hist_acts.specs.declared.act.Act.{Act}
 use Rattle.hist_acts.specs.declared.act.Act.TheVariants as acts
 use Rattle.hist_acts.specs.Sessions.{order_at}
 use Rattle.hist_halves.specs.Sealed.{is_inbound}
-use Rattle.hist_world.specs.Orders.{aes_part, in_half, inbounds, is_doomed, is_key_used, is_made, is_put, mirrored, order_of, ordered, out_half, site}
+use Rattle.hist_world.specs.Orders.{aes_part, in_half, inbounds, is_key_used, is_made, is_put, order_of, ordered, out_half, site}
 use Rattle.hist_world.specs.Law.{IsLawful, MayPutIn, MayPutOut}
-use Rattle.hist_world.proofs.Basics.{no, or-false, or-left, or-split, or-true, name-is, name-not, name-self, name-true, some-is, if-cases, if-new, if-old}
-use Rattle.hist_world.proofs.Orders.{in-out, in-serial, once-ordered, other, out-serial}
+use Rattle.hist_world.specs.Kept.{Pair}
+use Rattle.hist_world.proofs.Basics.{no, or-left, or-split, or-true, name-is, name-not, name-true, some-is, if-cases, if-new, if-old}
+use Rattle.hist_world.proofs.Orders.{in-out, in-serial, other, out-serial}
 
 -- what was ordered has an entry, of its name
 order-some : (b c : Bool) (d e : SadEntry) (o : Option SadEntry) → (o ≡ Some e → c ≡ true) → (if b then Some d else o) ≡ Some e → (b || c) ≡ true
@@ -63,11 +62,6 @@ pub inbound : (gs : List Peer) (x : List ℕ) (h : List Act) → IsLawful gs h �
 inbound gs x h l o b = inbound-by x b (named gs x h l o)
 
 -- ---- both halves
-abbrev pub Pair : List ℕ → List Act → Type 0
-Pair t h =
-    (o : SadEntry) × (i : SadEntry) × (order_of (out_half t) h ≡ Some o) × (order_of (in_half t) h ≡ Some i) × (o.key ≡ i.key) × (o.spi ≡ i.spi)
-    × (i.selector ≡ mirrored o.selector) × (bytes_eq (site (in_half t) h) (site (out_half t) h) ≡ false) × (is_made (in_half t) h ≡ true)
-
 pair-new : (f : List ℕ) (s k : ℕ) (t : List ℕ) (d : SadEntry) (h : List Act) (p : MayPutOut f d h) → p.serial ≡ t → bytes_eq d.name (out_half t) ≡ true → bytes_eq d.name (in_half t) ≡ false → Pair t (acts.Order f s k (asks.Put d) ∷ h)
 pair-new f s k t d h p e q r =
     let o : order_of (in_half t) h ≡ Some p.inbound = subst (λ z. order_of (in_half z) h ≡ Some p.inbound) e p.order in
@@ -101,7 +95,7 @@ pair gs t (acts.Order f s k (asks.Put d) ∷ h) l q =
     pair-older f s k t d h (other gs (out_half t) f d h l.1 l.0.4 r) (other gs (in_half t) f d h l.1 l.0.4 (order-ordered (in_half t) p.1 h p.3)) p) q
 pair gs t (acts.Answered f s k a ∷ h) l q =
     let p = pair gs t h l.1 q in
-    (p.0, p.1, p.2, p.3, p.4, p.5, p.6, p.7, pair-made t (is_put (in_half t) (order_at f s k h) && (a.status == 201)) h p.8)
+    (p.0, p.1, p.2, p.3, p.4, p.5, p.6, p.7, pair-made t (is_put (in_half t) (order_at f s k h) && nat_lt a.status 400) h p.8)
 pair gs t (a ∷ h) l q = pair gs t h l.1 q
 
 -- ---- numbers: an inbound half has the SPI of its serial

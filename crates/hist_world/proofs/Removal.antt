@@ -11,13 +11,14 @@ use Rattle.hist_acts.specs.declared.act.Act.{Act}
 use Rattle.hist_acts.specs.declared.act.Act.TheVariants as acts
 use Rattle.hist_acts.specs.Sessions.{answer_at, handled, is_session, next_request, openings, order_at, taken}
 use Rattle.hist_halves.specs.Halves.{is_half, is_live}
-use Rattle.hist_world.specs.Orders.{is_doomed, is_left, is_off, is_removal, ordered, place_of, session_of, site}
-use Rattle.hist_world.specs.Law.{IsAnswer, IsLawful, is_ready}
+use Rattle.hist_world.specs.Orders.{is_doomed, is_left, is_off, is_removal, place_of, session_of, site}
+use Rattle.hist_world.specs.Law.{IsAnswer, IsLawful}
+use Rattle.hist_world.specs.Kept.{Dead, Never}
 use Rattle.hist_world.proofs.Basics.{no, or-split, or-true, or-left, and-false, name-is, name-self, name-true, half-is, half-true, spot-is, more, some-is, if-cases}
 use Rattle.hist_world.proofs.Sessions.{next-at, next-is, told-order}
 use Rattle.hist_world.proofs.Orders.{order-old, other, place}
-use Rattle.hist_world.proofs.Once.{Behind, too-far}
-use Rattle.hist_world.proofs.Finality.{Later, Never, doomed-ordered, later-new, never-boot, never-later, never-opened, opened-at, remove-at, sess-in}
+use Rattle.hist_world.proofs.Once.{too-far}
+use Rattle.hist_world.proofs.Finality.{Later, doomed-ordered, later-new, never-boot, never-later, never-opened, opened-at, remove-at, sess-in}
 
 -- an order of a removal is at the gateway of the half, behind its put
 abbrev pub Asked : List ℕ → ℕ → ℕ → List ℕ → List Act → Type 0
@@ -85,9 +86,6 @@ never-handled : (x f : List ℕ) (t j : ℕ) (a : Answer) (h : List Act) → Nev
 never-handled x f t j a h n = λ e. more (is_session f t (site x h) (session_of x h)) (place_of x h) (handled (site x h) (session_of x h) h) (n e)
 
 -- once a removal was handled, no put of the half can be handled, and it isn't live
-abbrev pub Dead : List ℕ → List Act → Type 0
-Dead x h = (is_doomed x h ≡ true) × Never x h × (is_live (site x h) x h ≡ false)
-
 dead-new : (gs : List Peer) (f x : List ℕ) (t j : ℕ) (a : Answer) (h : List Act) → IsLawful gs (acts.Handled f t j a ∷ h) → order_at f t j h ≡ Some (asks.Remove x) → Dead x (acts.Handled f t j a ∷ h)
 dead-new gs f x t j a h l o =
     let k = asked gs f t j x h l.1 o in

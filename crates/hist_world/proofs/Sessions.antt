@@ -8,7 +8,7 @@ use Rattle.hist_acts.specs.declared.act.Act.{Act}
 use Rattle.hist_acts.specs.declared.act.Act.TheVariants as acts
 use Rattle.hist_acts.specs.Sessions.{answer_at, answered, handled, is_open, is_session, next_request, openings, order_at, orders, taken, was_cut}
 use Rattle.hist_world.specs.Law.{IsLawful}
-use Rattle.hist_world.proofs.Basics.{no, or-split, self, name-is, session-is, spot-is, more, if-old, if-new, eq-nat, both, some-is, if-cases}
+use Rattle.hist_world.proofs.Basics.{no, or-split, name-is, session-is, spot-is, more, if-old}
 
 taken-opened : (b : Bool) (s t o p : ℕ) → (b ≡ true → s ≡ p + 1) → (b ≡ true → p ≡ o) → (t ≡ 0) ⊎ (t ≡ o) → ((if b then s else t) ≡ 0) ⊎ ((if b then s else t) ≡ (if b then o + 1 else o))
 taken-opened true s t o p e q i = inr (let a = e refl in let c = q refl in omega (arith, a, c))

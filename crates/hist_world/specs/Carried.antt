@@ -68,6 +68,10 @@ IsGenuine gateways g o h =
     (half : SadEntry) (text : List ℕ) → ComesTo gateways g o half h → EspOpens (keying_of half) (esp_of o) text
     → is_sealed (other_half half.name) (esp_of o) h ≡ true
 
+-- the arrival comes to a half and opens under its key
+abbrev pub IsOpened : List Peer → List ℕ → List ℕ → List Act → Type 0
+IsOpened gateways g o h = (half : SadEntry) × (text : List ℕ) × ComesTo gateways g o half h × EspOpens (keying_of half) (esp_of o) text
+
 -- The arrival has the packet p under the half x with the number n: it comes to the half and opens to a packet that has a
 -- view of the version told, and that the half's selector holds as inbound (RFC 4301 section 5.2).
 pub record Delivers (gateways : List Peer) (g o x : List ℕ) (n : ℕ) (p : List ℕ) (h : List Act) : Type 0 where

@@ -7,14 +7,16 @@ use Rattle.ikeless_tree.specs.declared.command.Peer.{Peer}
 use Rattle.ikeless_tree.specs.declared.order.Order.{Order}
 use Rattle.ikeless_tree.specs.declared.order.Order.TheVariants as asks
 use Rattle.ikeless_tree.specs.declared.order.Answer.{Answer}
+use Rattle.ikeless_tree.specs.declared.reply.DropWhy.{DropWhy}
 use Rattle.ikeless_tree.specs.declared.reply.GoneWhy.TheVariants as gone
 use Rattle.hist_acts.specs.declared.act.Act.{Act}
 use Rattle.hist_acts.specs.declared.act.Act.TheVariants as acts
 use Rattle.hist_acts.specs.Sessions.{answer_at, answered, handled, is_open, next_request, openings, orders, taken}
+use Rattle.hist_halves.specs.Sealed.{is_opened}
 use Rattle.hist_halves.specs.Halves.{is_live}
 use Rattle.hist_gateway.specs.Safe.{ClearIsLet}
 use Rattle.hist_world.specs.Orders.{aes_part, in_half, inbounds, is_doomed, is_key_used, is_left, is_made, mirrored, order_of, ordered, out_half, site}
-use Rattle.hist_world.specs.Carried.{Delivers, IsGenuine, IsUndelivered, Sends}
+use Rattle.hist_world.specs.Carried.{Delivers, IsGenuine, IsOpened, IsUndelivered, Sends}
 
 -- ---- orders
 
@@ -26,7 +28,7 @@ pub record MayPutIn (e : SadEntry) (h : List Act) : Type 0 where
   pub spi : e.spi ≡ 256 + (inbounds h + 1)
   pub key : is_key_used (aes_part e.key) h ≡ false
 
--- A put of an outbound half, once, at another gateway: the put of its inbound half was answered with 201, and no removal of
+-- A put of an outbound half, once, at another gateway: the put of its inbound half was answered and not refused, and no removal of
 -- that half was ordered. Both have one key and one SPI, and mirrored selectors.
 pub record MayPutOut (g : List ℕ) (e : SadEntry) (h : List Act) : Type 0 where
   pub serial : List ℕ
@@ -101,10 +103,12 @@ abbrev pub MayPass : List Peer → List ℕ → List Act → Type 0
 MayPass gateways g (acts.Arrived f o ∷ h) = (f ≡ g) × IsGenuine gateways g o h × IsUndelivered gateways g o h
 MayPass gateways g _ = ⊥
 
-abbrev pub MayDrop : List Peer → List ℕ → List Act → Type 0
-MayDrop gateways g (acts.Let f o ∷ h) = f ≡ g
-MayDrop gateways g (acts.Arrived f o ∷ h) = (f ≡ g) × IsGenuine gateways g o h × IsUndelivered gateways g o h
-MayDrop gateways g _ = ⊥
+-- its tag was right where the reason says so
+abbrev pub MayDrop : List Peer → List ℕ → DropWhy → List Act → Type 0
+MayDrop gateways g why (acts.Let f o ∷ h) = f ≡ g
+MayDrop gateways g why (acts.Arrived f o ∷ h) =
+    (f ≡ g) × IsGenuine gateways g o h × IsUndelivered gateways g o h × (is_opened why ≡ true → IsOpened gateways g o h)
+MayDrop gateways g why _ = ⊥
 
 -- ---- the law
 
@@ -122,10 +126,20 @@ MayHappen gateways (acts.Clear g o) h = ClearIsLet h g o
 MayHappen gateways (acts.Sent g x n o) h = MaySend g x n o h
 MayHappen gateways (acts.Gave g x n p) h = MayGive gateways g x n p h
 MayHappen gateways (acts.Pass g o) h = MayPass gateways g h
-MayHappen gateways (acts.Drop g why) h = MayDrop gateways g h
+MayHappen gateways (acts.Drop g why) h = MayDrop gateways g why h
 MayHappen gateways _ h = is_ready h ≡ true
 
 -- each act may happen after those before it
 abbrev pub IsLawful : List Peer → List Act → Type 0
 IsLawful gateways [] = Unit {0}
 IsLawful gateways (a ∷ h) = MayHappen gateways a h × IsLawful gateways h
+
+-- Acts that may happen in their order after a past, each after those before it.
+abbrev pub MayAll : List Peer → List Act → List Act → Type 0
+MayAll gateways h [] = Unit {0}
+MayAll gateways h (a ∷ more) = MayHappen gateways a h × MayAll gateways (a ∷ h) more
+
+-- What happened is whole: each question has its answer, but for a forged arrival at the end.
+abbrev pub IsWhole : List Peer → List Act → Type 0
+IsWhole gateways (acts.Arrived g o ∷ h) = IsGenuine gateways g o h → ⊥
+IsWhole gateways h = is_ready h ≡ true

@@ -2,3 +2,5 @@ pub mod Orders
 pub mod Carried
 pub mod Law
 pub mod Safe
+pub mod Kept
+pub mod Ended

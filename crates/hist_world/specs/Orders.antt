@@ -1,7 +1,7 @@
 -- The two halves of an association, and the orders for each, of this project. An association has a serial number, written
 -- in decimal at the end of both names. Each word looks back over what happened; a past has its newest act first. In each
 -- test the name in the act stands first and the name asked for second.
-use Rattle.std.specs.Prelude.{ℕ, ◌+◌, ◌-◌, ◌==◌, ◌&&◌, ◌||◌, Bool, true, false, List, [], ◌∷◌, ◌++◌, codes, length, take, Option, Some, None, if◌then◌else◌}
+use Rattle.std.specs.Prelude.{ℕ, ◌+◌, ◌-◌, nat_lt, ◌&&◌, ◌||◌, Bool, false, List, [], ◌∷◌, ◌++◌, codes, length, take, Option, Some, None, if◌then◌else◌}
 use Rattle.std.specs.Str.{bytes_eq}
 use Rattle.ikeless_tree.specs.declared.association.SadEntry.{SadEntry}
 use Rattle.ikeless_tree.specs.declared.entry.Selector.{Selector}
@@ -87,10 +87,10 @@ abbrev pub is_removal : List ℕ → Option Order → Bool
 is_removal x (Some (asks.Remove y)) = bytes_eq y x
 is_removal x _ = false
 
--- the put of the half was answered with 201
+-- the put of the half was answered and not refused
 abbrev pub is_made : List ℕ → List Act → Bool
 is_made x [] = false
-is_made x (acts.Answered f s k a ∷ h) = (is_put x (order_at f s k h) && (a.status == 201)) || is_made x h
+is_made x (acts.Answered f s k a ∷ h) = (is_put x (order_at f s k h) && nat_lt a.status 400) || is_made x h
 is_made x (_ ∷ h) = is_made x h
 
 -- a removal of the half was answered

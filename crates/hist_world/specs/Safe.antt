@@ -1,5 +1,5 @@
 -- What is safe, in five parts, each said of an act and what happened before it. A past has its newest act first.
-use Rattle.std.specs.Prelude.{◌≡◌, ℕ, true, false, List, [], ◌∷◌, Option, Some, Ok, ◌⊎◌}
+use Rattle.std.specs.Prelude.{◌≡◌, ℕ, true, false, List, [], ◌∷◌, Some, Ok, ◌⊎◌}
 use Rattle.std.specs.Str.{bytes_eq}
 use Rattle.ip_packet.specs.View.{Packet, view_of}
 use Rattle.ikeless_tree.specs.declared.association.SadEntry.{SadEntry}
@@ -74,3 +74,8 @@ abbrev pub Safe : List Peer → List Act → Type 0
 Safe gateways [] = Unit {0}
 Safe gateways (a ∷ h) =
     IsClearSafe a h × IsKeySafe a h × IsGaveSafe a h × IsSentSafe a h × IsArrivalSafe gateways a h × Safe gateways h
+
+-- nothing that must be given is left without its answer at the end
+abbrev pub IsLastSafe : List Peer → List Act → Type 0
+IsLastSafe gateways (acts.Arrived g o ∷ h) = (serial p : List ℕ) (half : SadEntry) → MustGive gateways g o serial p half h → ⊥
+IsLastSafe gateways _ = Unit {0}
