@@ -16,3 +16,4 @@ pub mod Fitting
 pub mod Homes
 pub mod Accepts
 pub mod Names
+pub mod Waits
