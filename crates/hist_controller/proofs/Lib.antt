@@ -17,3 +17,4 @@ pub mod Homes
 pub mod Accepts
 pub mod Names
 pub mod Waits
+pub mod Few

@@ -110,14 +110,14 @@ waits-cut : (h : List Act) (g s : ℕ) → Waits h → Waits (Cut g s ∷ h)
 waits-cut h g s k =
     record {
       inbound = λ d x i e v.
-        let n = neither (list_any (λ o. is PuttingIn x.serial o || is PuttingOut x.serial o) (queue g h)) (ended x h) e in
-        cut-keeps h x.way.receiver g (PutIn x) (λ o. is PuttingIn x.serial o || is PuttingOut x.serial o) (x.way.receiver == g) refl (rw (eq-own x.serial) refl) n.0 (k.inbound d x i n.1 v);
+          let n = neither (list_any (λ o. is PuttingIn x.serial o || is PuttingOut x.serial o) (queue g h)) (ended x h) e in
+          cut-keeps h x.way.receiver g (PutIn x) (λ o. is PuttingIn x.serial o || is PuttingOut x.serial o) (x.way.receiver == g) refl (rw (eq-own x.serial) refl) n.0 (k.inbound d x i n.1 v);
       outbound = λ d x i e t v.
-        let n = neither (list_any (λ o. is PuttingIn x.serial o || is PuttingOut x.serial o) (queue g h)) (ended x h) e in
-        cut-keeps h x.way.sender g (PutOut x) (λ o. is PuttingIn x.serial o || is PuttingOut x.serial o) (x.way.sender == g) refl (eq-own x.serial) n.0 (k.outbound d x i n.1 t v);
+          let n = neither (list_any (λ o. is PuttingIn x.serial o || is PuttingOut x.serial o) (queue g h)) (ended x h) e in
+          cut-keeps h x.way.sender g (PutOut x) (λ o. is PuttingIn x.serial o || is PuttingOut x.serial o) (x.way.sender == g) refl (eq-own x.serial) n.0 (k.outbound d x i n.1 t v);
       replaced = λ d x y i j e v w.
-        let n = neither (list_any (λ o. is PuttingIn y.serial o || is PuttingOut y.serial o) (queue g h)) (ended y h) w in
-        or-or (list_any (λ o. is PuttingIn x.serial o || is PuttingOut x.serial o) (queue g h)) (ended x h) (k.replaced d x y i j e v n.1);
+          let n = neither (list_any (λ o. is PuttingIn y.serial o || is PuttingOut y.serial o) (queue g h)) (ended y h) w in
+          or-or (list_any (λ o. is PuttingIn x.serial o || is PuttingOut x.serial o) (queue g h)) (ended x h) (k.replaced d x y i j e v n.1);
     }
 
 plain-put : (a b : Bool) → (a || b) ≡ true → (a ≡ true) ⊎ (b ≡ true)
@@ -165,15 +165,15 @@ waits-answered : (p : ℕ) (h : List Act) (g s n : ℕ) (a : Answer) → IsPast 
 waits-answered p h g s n a l m k =
     record {
       inbound = λ d x i e v.
-        let j = old d x i in
-        let u = neither (spoils x g (oldest (queue g h)) a (heard PuttingIn x.serial h) (sends x.serial h)) (ended x h) e in
-        let w = neither (answers_to PuttingIn x.serial (oldest (queue g h))) (heard PuttingIn x.serial h) v in
-        answered-keeps h x.way.receiver g (PutIn x) PuttingIn x.serial (x.way.receiver == g) refl (eq-own x.serial) w.0 (k.inbound d x j u.1 w.1);
+          let j = old d x i in
+          let u = neither (spoils x g (oldest (queue g h)) a (heard PuttingIn x.serial h) (sends x.serial h)) (ended x h) e in
+          let w = neither (answers_to PuttingIn x.serial (oldest (queue g h))) (heard PuttingIn x.serial h) v in
+          answered-keeps h x.way.receiver g (PutIn x) PuttingIn x.serial (x.way.receiver == g) refl (eq-own x.serial) w.0 (k.inbound d x j u.1 w.1);
       outbound = λ d x i e t v.
-        let j = old d x i in
-        let u = neither (spoils x g (oldest (queue g h)) a (heard PuttingIn x.serial h) (sends x.serial h)) (ended x h) e in
-        let w = neither (answers_to PuttingOut x.serial (oldest (queue g h))) (heard PuttingOut x.serial h) v in
-        answered-keeps h x.way.sender g (PutOut x) PuttingOut x.serial (x.way.sender == g) refl (eq-own x.serial) w.0 (k.outbound d x j u.1 t w.1);
+          let j = old d x i in
+          let u = neither (spoils x g (oldest (queue g h)) a (heard PuttingIn x.serial h) (sends x.serial h)) (ended x h) e in
+          let w = neither (answers_to PuttingOut x.serial (oldest (queue g h))) (heard PuttingOut x.serial h) v in
+          answered-keeps h x.way.sender g (PutOut x) PuttingOut x.serial (x.way.sender == g) refl (eq-own x.serial) w.0 (k.outbound d x j u.1 t w.1);
       replaced = λ d x y i j e v w. after-answer d x y (old d x i) (old d y j) e (answers_to PuttingOut y.serial (oldest (queue g h))) refl v (neither (spoils y g (oldest (queue g h)) a (heard PuttingIn y.serial h) (sends y.serial h)) (ended y h) w);
     }
   where

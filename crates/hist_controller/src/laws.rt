@@ -8,9 +8,10 @@ ghost use Rattle.hist_controller.specs.Acts.{Way, Association, Order, PutIn, Put
 ghost use Rattle.hist_controller.specs.Past.{after, session, directions, keys, serials, queue, oldest, in_progress, left, lacks, PuttingIn, PuttingOut, RemovingIn, RemovingOut};
 ghost use Rattle.hist_controller.specs.State.{state_of, did};
 ghost use Rattle.hist_controller.specs.Machine.{acts_of, next, run, place};
-ghost use Rattle.hist_controller.specs.Law.{aes_part, block, history};
+ghost use Rattle.hist_controller.specs.Law.{aes_part, tunnels, block, history};
 ghost use Rattle.hist_controller.specs.Clauses.{Has, IsPast, MayAll, NotIdle};
 ghost use Rattle.hist_controller.specs.Counts.{times, times_at, times_now, in_puts, out_puts, cause_count, KeysRight};
+ghost use Rattle.hist_controller.specs.Halves.{PlainAnswers, halves};
 ghost use Rattle.hist_controller.specs.Numbers.{numbered};
 ghost use Rattle.hist_controller.specs.Orders.{AllBefore, Given, PutOf};
 ghost use Rattle.hist_controller.specs.Ever.{made, AllNotIdle};
@@ -100,6 +101,14 @@ pub fn names_differ()
     ensures inbound { (m n : ℕ) → m < 2 ^ 64 → n < 2 ^ 64 → in_name m ≡ in_name n → m ≡ n }
     ensures outbound { (m n : ℕ) → m < 2 ^ 64 → n < 2 ^ 64 → out_name m ≡ out_name n → m ≡ n }
     ensures both { (m n : ℕ) → in_name m ≡ out_name n → ⊥ }
+{}
+
+/// Where each put is answered with 201 or refused, a direction has two associations left at most, and so a gateway 4,096
+/// halves; and no more tunnels count than the limit says.
+pub fn has_few_halves()
+    ensures left { (n : ℕ) (h : List Act) → IsPast n h → PlainAnswers h → (d : Way) → length (left d h) ≤ 2 }
+    ensures tunnels { (n : ℕ) (h : List Act) → IsPast n h → tunnels h (directions h) ≤ 1024 }
+    ensures halves { (n : ℕ) (h : List Act) → IsPast n h → PlainAnswers h → (g : ℕ) → halves g h (directions h) ≤ 4096 }
 {}
 
 /// The order that is answered is the one with the number and session of the answer; and the causes that speak of the
