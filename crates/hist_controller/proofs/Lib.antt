@@ -18,3 +18,4 @@ pub mod Accepts
 pub mod Names
 pub mod Waits
 pub mod Few
+pub mod Transcript
