@@ -153,7 +153,7 @@ pub record Placing (p : ℕ) (d : Way) : Type 0 where
   pub receiver : d.receiver < p
   pub apart : (d.sender == d.receiver) ≡ false
 
-tunnel-passes : (a b c d e : Bool) → (if not (a && b) then Some refusals.UnknownGateway else if c then Some refusals.SameGateway else if d then Some refusals.TunnelExists else if e then Some refusals.TunnelLimit else None) ≡ None → (a ≡ true) × (b ≡ true) × (c ≡ false) × (d ≡ false) × (e ≡ false)
+pub tunnel-passes : (a b c d e : Bool) → (if not (a && b) then Some refusals.UnknownGateway else if c then Some refusals.SameGateway else if d then Some refusals.TunnelExists else if e then Some refusals.TunnelLimit else None) ≡ None → (a ≡ true) × (b ≡ true) × (c ≡ false) × (d ≡ false) × (e ≡ false)
 tunnel-passes true true false false false q = (refl, refl, refl, refl, refl)
 tunnel-passes true true false false true q = cc
 tunnel-passes true true false true e q = cc

@@ -38,39 +38,39 @@ open-r a c d e q = grind arith
 
 pub may-given : (p : ℕ) (h : List Act) (d : Way) (os : List Act) → Has d (directions h) → Given h d os → MayAll p h os
 may-given p h d _ i (nothing q) = tt
-may-given p h d _ i (out_removed x f l m) = (
+may-given p h d _ i (out_removed x f l m n1) = (
   (
     refl,
     refl,
     open-4 (ended x h) (sends x.serial h) (not (heard RemovingOut x.serial h)) (is_open d.sender h) (is_read d.sender h) m,
-    record { way = d; of = i; association = x; left = l; name = refl; at = refl; free = f; may = m },
+    record { way = d; of = i; association = x; left = l; name = refl; at = refl; free = f; may = m; oldest = n1 },
   ),
   tt,
 )
-may-given p h d _ i (in_removed x f l m) = (
+may-given p h d _ i (in_removed x f l m n1 n2) = (
   (
     refl,
     refl,
     open-3 (ended x h) (not (sends x.serial h) || heard RemovingOut x.serial h) (is_open d.receiver h) (is_read d.receiver h) m,
-    record { way = d; of = i; association = x; left = l; name = refl; at = refl; free = f; may = m },
+    record { way = d; of = i; association = x; left = l; name = refl; at = refl; free = f; may = m; oldest = n1; no_out_remove = n2 },
   ),
   tt,
 )
-may-given p h d _ i (out_was_put x f l m) = (
+may-given p h d _ i (out_was_put x f l m n1 n2 n3) = (
   (
     refl,
     refl,
     open-5 (in_progress h x) (not (sends x.serial h)) (heard PuttingIn x.serial h) (is_open d.sender h) (is_read d.sender h) (ready d.receiver h) m,
-    record { way = d; of = i; left = l; at = refl; free = f; may = m },
+    record { way = d; of = i; left = l; at = refl; free = f; may = m; oldest = n1; no_out_remove = n2; no_in_remove = n3 },
   ),
   tt,
 )
-may-given p h d _ i (in_was_put k ks f s m) = (
+may-given p h d _ i (in_was_put k ks f s m n1 n2 n3) = (
   (
     refl,
     refl,
     open-r (owed d h) (ready d.sender h) (is_open d.receiver h) (is_read d.receiver h) m,
-    record { of = i; at = refl; free = f; may = m; serial = refl; key = ap next_key s },
+    record { of = i; at = refl; free = f; may = m; serial = refl; key = ap next_key s; no_out_remove = n1; no_in_remove = n2; no_out_put = n3 },
   ),
   tt,
 )

@@ -36,7 +36,7 @@ spent-or x h a b s = (or-or a (ended x h) s.0, later s.1)
 spent-order : (x : Association) (h : List Act) (g s n : ℕ) (o : Order) → is PuttingIn x.serial o ≡ false → is PuttingOut x.serial o ≡ false → Spent x h → Spent x (Ordered g s n o ∷ h)
 spent-order x h g s n o e f p = rw (e, f) p
 
-no-in : (h : List Act) (g : ℕ) (o : Order) (x : Association) → MayOrder h g o → x.serial ≤ serials h → is PuttingIn x.serial o ≡ false
+pub no-in : (h : List Act) (g : ℕ) (o : Order) (x : Association) → MayOrder h g o → x.serial ≤ serials h → is PuttingIn x.serial o ≡ false
 no-in h g Read x m e = refl
 no-in h g (Policy l) x m e = refl
 no-in h g (PutIn z) x m e = let q = m.serial in grind arith

@@ -90,10 +90,10 @@ opens-more p (x ∷ xs) ys f g = (f.0, opens-more p xs ys f.1 g)
 
 opens-given : (p : ℕ) (h : List Act) (d : Way) (os : List Act) → Given h d os → OpensFit p os
 opens-given p h d _ (nothing i) = tt
-opens-given p h d _ (out_removed x f l m) = (tt, tt)
-opens-given p h d _ (in_removed x f l m) = (tt, tt)
-opens-given p h d _ (out_was_put x f l m) = (tt, tt)
-opens-given p h d _ (in_was_put k ks f s m) = (tt, tt)
+opens-given p h d _ (out_removed x f l m n1) = (tt, tt)
+opens-given p h d _ (in_removed x f l m n1 n2) = (tt, tt)
+opens-given p h d _ (out_was_put x f l m n1 n2 n3) = (tt, tt)
+opens-given p h d _ (in_was_put k ks f s m n1 n2 n3) = (tt, tt)
 
 opens-pass : (p : ℕ) (h : List Act) (ds : List Way) → OpensFit p (pass h ds)
 opens-pass p h [] = tt

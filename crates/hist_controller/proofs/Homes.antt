@@ -8,7 +8,7 @@ use Rattle.hist_controller.proofs.Serials.{has-more, has-filter, has-if, put-one
 use Rattle.hist_controller.proofs.Turns.{has-left}
 
 -- an association left was put at the receiver of its direction, which is one of the directions
-record Left (h : List Act) (x : Association) : Type 0 where
+pub record Left (h : List Act) (x : Association) : Type 0 where
   pub put : Given (PutIn x) x.way.receiver h
   pub known : Has x.way (directions h)
 
@@ -17,7 +17,7 @@ left-put h g s n o x m e =
     let m' : MayInPut h g x = subst (MayOrder h g) e m in
     record { put = inl (sym e, sym m'.at); known = m'.of }
 
-lefts : (p : ℕ) (h : List Act) → IsPast p h → (d : Way) (x : Association) → Has x (left d h) → Left h x
+pub lefts : (p : ℕ) (h : List Act) → IsPast p h → (d : Way) (x : Association) → Has x (left d h) → Left h x
 lefts p [] l d x i = absurd i
 lefts p (Opened g s ∷ h) l d x i = let k = lefts p h l.1 d x i in record { put = k.put; known = k.known }
 lefts p (Cut g s ∷ h) l d x i = let k = lefts p h l.1 d x i in record { put = k.put; known = k.known }

@@ -86,7 +86,7 @@ rising (Ordered g s n o ∷ h) = rising h
 rising (Accepted c ∷ h) = Rising-more 0 (length (directions h)) (directions h) (born (length (directions h)) c) (grind arith) (rising h) (Rising-born (length (directions h)) c)
 rising (Refused w ∷ h) = rising h
 
-made-no : (c : Placed) (n : ℕ) (d : Way) → d.id < n → made_by c n d ≡ false
+pub made-no : (c : Placed) (n : ℕ) (d : Way) → d.id < n → made_by c n d ≡ false
 made-no (SetPolicy g l) n d e = refl
 made-no (Tunnel t) n d e = grind arith
 made-no (End r) n d e = refl

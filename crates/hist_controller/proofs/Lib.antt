@@ -16,3 +16,6 @@ pub mod Fitting
 pub mod Homes
 pub mod Accepts
 pub mod Names
+pub mod Waits
+pub mod Few
+pub mod Transcript

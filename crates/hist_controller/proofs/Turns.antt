@@ -61,10 +61,10 @@ removes h d x l = any-has (λ (y : Association). y.serial == x.serial) x (left d
 
 own-turn : (h : List Act) (d : Way) (os : List Act) → Given h d os → Idle (after h os) d
 own-turn h d _ (nothing i) = i
-own-turn h d _ (out_removed x f l m) = inl (busy-sender h (session d.sender h) (orders d.sender h + 1) (RemoveOut x.serial) d (removes h d x l))
-own-turn h d _ (in_removed x f l m) = inl (busy-receiver h (session d.receiver h) (orders d.receiver h + 1) (RemoveIn x.serial) d (removes h d x l))
-own-turn h d _ (out_was_put x f l m) = inl (busy-sender h (session d.sender h) (orders d.sender h + 1) (PutOut x) d (of-way h d x l))
-own-turn h d _ (in_was_put k ks f s m) = inl (busy-receiver h (session d.receiver h) (orders d.receiver h + 1) (PutIn (record { serial = serials h + 1; key = k; way = d })) d (eq-own d.id))
+own-turn h d _ (out_removed x f l m n1) = inl (busy-sender h (session d.sender h) (orders d.sender h + 1) (RemoveOut x.serial) d (removes h d x l))
+own-turn h d _ (in_removed x f l m n1 n2) = inl (busy-receiver h (session d.receiver h) (orders d.receiver h + 1) (RemoveIn x.serial) d (removes h d x l))
+own-turn h d _ (out_was_put x f l m n1 n2 n3) = inl (busy-sender h (session d.sender h) (orders d.sender h + 1) (PutOut x) d (of-way h d x l))
+own-turn h d _ (in_was_put k ks f s m n1 n2 n3) = inl (busy-receiver h (session d.receiver h) (orders d.receiver h + 1) (PutIn (record { serial = serials h + 1; key = k; way = d })) d (eq-own d.id))
 
 -- ## the turn of another direction
 
@@ -118,10 +118,10 @@ other-out p h l d e w x i y j = differ y.serial x.serial (y.serial == x.serial) 
 
 other-turn : (p : ℕ) (h : List Act) → IsPast p h → (d e : Way) → (d.id == e.id) ≡ false → (os : List Act) → Given h e os → Idle h d → Idle (after h os) d
 other-turn p h l d e w _ (nothing i) q = q
-other-turn p h l d e w _ (out_removed x f i m) q = idle-stays h e.sender (session e.sender h) (orders e.sender h + 1) (RemoveOut x.serial) d refl refl (λ y j. (refl, refl)) q
-other-turn p h l d e w _ (in_removed x f i m) q = idle-stays h e.receiver (session e.receiver h) (orders e.receiver h + 1) (RemoveIn x.serial) d refl refl (λ y j. (refl, refl)) q
-other-turn p h l d e w _ (out_was_put x f i m) q = idle-stays h e.sender (session e.sender h) (orders e.sender h + 1) (PutOut x) d refl refl (λ y j. (refl, other-out p h l d e w x i y j)) q
-other-turn p h l d e w _ (in_was_put k ks f s m) q =
+other-turn p h l d e w _ (out_removed x f i m n1) q = idle-stays h e.sender (session e.sender h) (orders e.sender h + 1) (RemoveOut x.serial) d refl refl (λ y j. (refl, refl)) q
+other-turn p h l d e w _ (in_removed x f i m n1 n2) q = idle-stays h e.receiver (session e.receiver h) (orders e.receiver h + 1) (RemoveIn x.serial) d refl refl (λ y j. (refl, refl)) q
+other-turn p h l d e w _ (out_was_put x f i m n1 n2 n3) q = idle-stays h e.sender (session e.sender h) (orders e.sender h + 1) (PutOut x) d refl refl (λ y j. (refl, other-out p h l d e w x i y j)) q
+other-turn p h l d e w _ (in_was_put k ks f s m n1 n2 n3) q =
     idle-stays h e.receiver (session e.receiver h) (orders e.receiver h + 1) (PutIn (record { serial = serials h + 1; key = k; way = e })) d (rw w refl) w
     (λ y j. let a = low p h l d y j in ((grind arith), refl)) q
 

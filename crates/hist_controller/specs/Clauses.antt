@@ -5,7 +5,7 @@ use Rattle.ikeless_tree.specs.declared.order.Notice.{Notice}
 use Rattle.ikeless_tree.specs.declared.order.Notice.TheVariants as notices
 use Rattle.hist_controller.specs.Acts.{Way, Association, Order, Read, Policy, PutIn, PutOut, RemoveIn, RemoveOut, Placed, SetPolicy, Act, Opened, Cut, Answered, Heard, Ordered, Accepted, Refused}
 use Rattle.hist_controller.specs.Past.{is_open, session, orders, answers, oldest, queue, newest_list, serials, spare, directions, left, busy}
-use Rattle.hist_controller.specs.Law.{may_out_remove, may_in_remove, may_out_put, may_in_put, is_reading, refusal}
+use Rattle.hist_controller.specs.Law.{may_out_remove, may_in_remove, may_out_put, may_in_put, first, is_reading, refusal}
 
 abbrev pub Has : {A : Type 0} → A → List A → Type 0
 Has x [] = ⊥
@@ -15,6 +15,10 @@ abbrev pub next_key : List (List ℕ) → Option (List ℕ)
 next_key [] = None
 next_key (k ∷ ks) = Some k
 
+-- none of these associations passes the test
+abbrev pub NonePasses : (Association → Bool) → List Association → Type 0
+NonePasses p xs = (x : Association) → Has x xs → p x ≡ false
+
 -- the half in/n of a direction is put, with the oldest key left
 pub record MayInPut (h : List Act) (g : ℕ) (x : Association) : Type 0 where
   pub of : Has x.way (directions h)
@@ -23,10 +27,16 @@ pub record MayInPut (h : List Act) (g : ℕ) (x : Association) : Type 0 where
   pub may : may_in_put h x.way ≡ true
   pub serial : x.serial ≡ serials h + 1
   pub key : next_key (spare h) ≡ Some x.key
+  pub no_out_remove : NonePasses (may_out_remove h x.way) (left x.way h)
+  pub no_in_remove : NonePasses (may_in_remove h x.way) (left x.way h)
+  pub no_out_put : NonePasses (may_out_put h x.way) (left x.way h)
 
 pub record MayOutPut (h : List Act) (g : ℕ) (x : Association) : Type 0 where
   pub way : Way
   pub of : Has way (directions h)
+  pub oldest : first (may_out_put h way) (left way h) ≡ Some x
+  pub no_out_remove : NonePasses (may_out_remove h way) (left way h)
+  pub no_in_remove : NonePasses (may_in_remove h way) (left way h)
   pub left : Has x (left way h)
   pub at : g ≡ way.sender
   pub free : busy way h ≡ false
@@ -36,6 +46,8 @@ pub record MayInRemove (h : List Act) (g n : ℕ) : Type 0 where
   pub way : Way
   pub of : Has way (directions h)
   pub association : Association
+  pub oldest : first (may_in_remove h way) (left way h) ≡ Some association
+  pub no_out_remove : NonePasses (may_out_remove h way) (left way h)
   pub left : Has association (left way h)
   pub name : n ≡ association.serial
   pub at : g ≡ way.receiver
@@ -46,6 +58,7 @@ pub record MayOutRemove (h : List Act) (g n : ℕ) : Type 0 where
   pub way : Way
   pub of : Has way (directions h)
   pub association : Association
+  pub oldest : first (may_out_remove h way) (left way h) ≡ Some association
   pub left : Has association (left way h)
   pub name : n ≡ association.serial
   pub at : g ≡ way.sender
@@ -108,9 +121,9 @@ IsPast p (a ∷ h) = MayFollow p h a × IsPast p h
 
 -- no order of the direction is allowed
 pub record Quiet (h : List Act) (d : Way) : Type 0 where
-  pub no_out_remove : (x : Association) → Has x (left d h) → may_out_remove h d x ≡ false
-  pub no_in_remove : (x : Association) → Has x (left d h) → may_in_remove h d x ≡ false
-  pub no_out_put : (x : Association) → Has x (left d h) → may_out_put h d x ≡ false
+  pub no_out_remove : NonePasses (may_out_remove h d) (left d h)
+  pub no_in_remove : NonePasses (may_in_remove h d) (left d h)
+  pub no_out_put : NonePasses (may_out_put h d) (left d h)
   pub no_in_put : (may_in_put h d ≡ false) ⊎ (spare h ≡ [])
 
 -- a direction without a waiting put or removal of its own has no order that is allowed

@@ -6,6 +6,7 @@ pub mod State
 pub mod Machine
 pub mod Clauses
 pub mod Counts
+pub mod Halves
 pub mod Numbers
 pub mod Orders
 pub mod Ever

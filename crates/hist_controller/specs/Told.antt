@@ -1,5 +1,6 @@
 -- Which acts of a transcript the controller's own acts are.
-use Rattle.std.specs.Prelude.{ℕ, ◌+◌, ◌-◌, ◌==◌, List, [], ◌∷◌, ◌++◌, None, if◌then◌else◌}
+use Rattle.std.specs.Prelude.{◌≡◌, ℕ, ◌+◌, ◌-◌, ◌<◌, ◌==◌, List, [], ◌∷◌, ◌++◌, None, length, if◌then◌else◌}
+use Rattle.std.specs.Str.{bytes_eq}
 use Rattle.ikl_base.specs.declared.address.Addr.{Addr}
 use Rattle.ikl_base.specs.declared.address.Addr.TheVariants.{V4}
 use Rattle.ikl_base.specs.declared.address.Prefix.{Prefix}
@@ -81,3 +82,12 @@ told ps (Refused w) = acts.Refused w ∷ []
 abbrev pub all_told : List Peer → List Act → List happened.Act.Act
 all_told ps [] = []
 all_told ps (a ∷ more) = told ps a ++ all_told ps more
+
+-- a past, its newest act first
+abbrev pub past_told : List Peer → List Act → List happened.Act.Act
+past_told ps [] = []
+past_told ps (a ∷ h) = told ps a ++ past_told ps h
+
+-- peers of different numbers have different names
+abbrev pub Named : List Peer → Type 0
+Named ps = (f g : ℕ) → f < length ps → g < length ps → bytes_eq (name_of ps f) (name_of ps g) ≡ (g == f)

@@ -1,18 +1,23 @@
 // Laws for the crates above: each is the contract of a function with an empty body.
 ghost use Rattle.std.specs.Prelude.{◌≡◌, ℕ, ◌+◌, ◌-◌, ◌^◌, ◌==◌, Bool, true, false, List, [], ◌∷◌, ◌++◌, Option, Some, None, ◌<◌, ◌≤◌, ◌⊎◌, length};
 ghost use Rattle.std.specs.List.{list_all, list_any};
+ghost use Rattle.std.specs.Option.{option_map};
+ghost use Rattle.hist_acts.specs.Sessions as sessions;
+ghost use Rattle.hist_acts.specs.Past as happened;
 ghost use Rattle.ikeless_tree.specs.Check.{is_key_length};
 ghost use Rattle.ikeless_tree.specs.declared.command.Peer.{Peer};
 ghost use Rattle.ikeless_tree.specs.declared.order.Answer.{Answer};
 ghost use Rattle.hist_controller.specs.Acts.{Way, Association, Order, PutIn, PutOut, RemoveIn, RemoveOut, Act, Answered, Event, in_name, out_name};
-ghost use Rattle.hist_controller.specs.Past.{after, session, directions, keys, serials, queue, oldest, in_progress, left, lacks, PuttingIn, PuttingOut, RemovingIn, RemovingOut};
+ghost use Rattle.hist_controller.specs.Past.{after, is_open, session, orders, answers, ready, directions, keys, serials, queue, oldest, in_progress, left, lacks, PuttingIn, PuttingOut, RemovingIn, RemovingOut};
 ghost use Rattle.hist_controller.specs.State.{state_of, did};
 ghost use Rattle.hist_controller.specs.Machine.{acts_of, next, run, place};
-ghost use Rattle.hist_controller.specs.Law.{aes_part, block, history};
+ghost use Rattle.hist_controller.specs.Law.{aes_part, tunnels, block, history};
 ghost use Rattle.hist_controller.specs.Clauses.{Has, IsPast, MayAll, NotIdle};
 ghost use Rattle.hist_controller.specs.Counts.{times, times_at, times_now, in_puts, out_puts, cause_count, KeysRight};
+ghost use Rattle.hist_controller.specs.Halves.{PlainAnswers, halves};
 ghost use Rattle.hist_controller.specs.Numbers.{numbered};
 ghost use Rattle.hist_controller.specs.Orders.{AllBefore, Given, PutOf};
+ghost use Rattle.hist_controller.specs.Told.{name_of, order_told, all_told, past_told, Named};
 ghost use Rattle.hist_controller.specs.Ever.{made, AllNotIdle};
 ghost use Rattle.hist_controller.specs.Table.{Table, first_table, did_table, next_table, seen, Fits, AllFit, EventFits, AllEventsFit};
 
@@ -102,6 +107,14 @@ pub fn names_differ()
     ensures both { (m n : ℕ) → in_name m ≡ out_name n → ⊥ }
 {}
 
+/// Where each put is answered with 201 or refused, a direction has two associations left at most, and so a gateway 4,096
+/// halves; and no more tunnels count than the limit says.
+pub fn has_few_halves()
+    ensures left { (n : ℕ) (h : List Act) → IsPast n h → PlainAnswers h → (d : Way) → length (left d h) ≤ 2 }
+    ensures tunnels { (n : ℕ) (h : List Act) → IsPast n h → tunnels h (directions h) ≤ 1024 }
+    ensures halves { (n : ℕ) (h : List Act) → IsPast n h → PlainAnswers h → (g : ℕ) → halves g h (directions h) ≤ 4096 }
+{}
+
 /// The order that is answered is the one with the number and session of the answer; and the causes that speak of the
 /// associations left say the same of all that were ever put.
 pub fn reads_plainly()
@@ -117,4 +130,16 @@ pub fn fits_a_table()
     ensures step { (ps : List Peer) (t : Table) (h : List Act) (e : Event) → IsPast (length ps) h → AllFit (length ps) h → length t.gateways ≡ length ps → seen t ≡ state_of h → EventFits (length ps) e →
         (seen (next_table ps t e) ≡ state_of (after h (block ps h e))) × (length (next_table ps t e).gateways ≡ length ps) × AllFit (length ps) (after h (block ps h e)) }
     ensures history { (ps : List Peer) (es : List Event) → AllEventsFit (length ps) es → AllFit (length ps) (after [] (history ps [] es)) }
+{}
+
+/// The controller's words of its sessions say the same as the words of the transcript in which its acts are told, where the
+/// peers have different names.
+pub fn tells_a_transcript()
+    ensures past { (ps : List Peer) (h xs : List Act) → past_told ps (after h xs) ≡ happened.after (past_told ps h) (all_told ps xs) }
+    ensures openings { (ps : List Peer) (h : List Act) → Named ps → AllFit (length ps) h → (g : ℕ) → g < length ps → sessions.openings (name_of ps g) (past_told ps h) ≡ session g h }
+    ensures open { (ps : List Peer) (h : List Act) → Named ps → AllFit (length ps) h → (g : ℕ) → g < length ps → sessions.is_open (name_of ps g) (past_told ps h) ≡ is_open g h }
+    ensures orders { (ps : List Peer) (n : ℕ) (h : List Act) → IsPast n h → Named ps → AllFit (length ps) h → (g : ℕ) → g < length ps → sessions.orders (name_of ps g) (session g h) (past_told ps h) ≡ orders g h }
+    ensures answered { (ps : List Peer) (n : ℕ) (h : List Act) → IsPast n h → Named ps → AllFit (length ps) h → (g : ℕ) → g < length ps → sessions.answered (name_of ps g) (session g h) (past_told ps h) ≡ answers g h }
+    ensures read { (ps : List Peer) (n : ℕ) (h : List Act) → IsPast n h → Named ps → AllFit (length ps) h → (g : ℕ) → g < length ps → sessions.is_read (name_of ps g) (past_told ps h) ≡ ready g h }
+    ensures order { (ps : List Peer) (h : List Act) → Named ps → AllFit (length ps) h → (g s n : ℕ) → g < length ps → sessions.order_at (name_of ps g) s n (past_told ps h) ≡ option_map (order_told ps) (numbered g s n h) }
 {}

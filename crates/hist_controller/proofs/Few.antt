@@ -1,0 +1,383 @@
+-- A direction has two associations left at most, and a gateway 4,096 halves.
+use Rattle.std.proofs.Common.{◌≡◌, ℕ, ◌+◌, ◌*◌, ◌<◌, ◌≤◌, Bool, true, false, ◌==◌, not, ◌&&◌, ◌||◌, nat_le, nat_lt, List, [], ◌∷◌, ◌++◌, Option, Some, None, ◌⊎◌, inl, inr, length, refl, sym, subst, ◌∙◌, ap, arith, if◌then◌else◌, append-nil}
+use Rattle.std.proofs.lemmas.Grind.{common_steps}
+use Rattle.std.specs.List.{filter, list_any}
+use Rattle.ikeless_tree.specs.declared.order.Answer.{Answer}
+use Rattle.hist_controller.specs.Acts.{Way, Association, Order, Read, Policy, PutIn, PutOut, RemoveIn, RemoveOut, Placed, PlacedTunnel, SetPolicy, Tunnel, End, Rekey, Keys, Act, Opened, Cut, Answered, Heard, Ordered, Accepted, Refused}
+use Rattle.hist_controller.specs.Past.{oldest, queue, ready, serials, directions, born, two_of, made_by, ends, over, owed, wanted, PuttingIn, PuttingOut, RemovingIn, RemovingOut, answers_to, sends, heard, ended, put_in, left, is_own, busy}
+use Rattle.hist_controller.specs.Law.{may_out_remove, may_in_remove, may_out_put, may_in_put, has_tunnel, is_none, counts, tunnels, refusal}
+use Rattle.hist_controller.specs.Clauses.{Has, MayOrder, IsPast, MayInPut}
+use Rattle.hist_controller.specs.Halves.{PlainAnswers, touches, halves}
+use Rattle.hist_controller.proofs.KeptState.{Rising, rising, made-no, eq-own}
+use Rattle.hist_controller.proofs.Serials.{has-more, has-filter, has-if, put-one, put-serial, of-way, low, one-way}
+use Rattle.hist_controller.proofs.Turns.{has-left}
+use Rattle.hist_controller.proofs.Befores.{any-yes}
+use Rattle.hist_controller.proofs.Removed.{neither}
+use Rattle.hist_controller.proofs.Accepts.{tunnel-passes}
+use Rattle.hist_controller.proofs.Homes.{own-way}
+use Rattle.hist_controller.proofs.Waits.{Waits, waits}
+
+-- ## serials climb
+
+abbrev Climbs : List Association → Type 0
+Climbs [] = Unit {0}
+Climbs (x ∷ xs) = ((y : Association) → Has y xs → x.serial < y.serial) × Climbs xs
+
+climbs-keep : (q : Association → Bool) (x : Association) (xs : List Association) (b : Bool) → ((y : Association) → Has y xs → x.serial < y.serial) → Climbs (filter q xs) → Climbs (if b then x ∷ filter q xs else filter q xs)
+climbs-keep q x xs true f c = (λ y i. f y (has-filter q y xs i), c)
+climbs-keep q x xs false f c = c
+
+climbs-filter : (q : Association → Bool) (xs : List Association) → Climbs xs → Climbs (filter q xs)
+climbs-filter q [] c = c
+climbs-filter q (x ∷ xs) c = climbs-keep q x xs (q x) c.0 (climbs-filter q xs c.1)
+
+climbs-more : (xs ys : List Association) → Climbs xs → Climbs ys → ((x y : Association) → Has x xs → Has y ys → x.serial < y.serial) → Climbs (xs ++ ys)
+climbs-more [] ys c d f = d
+climbs-more (x ∷ xs) ys c d f = (λ y i. both y (has-more y xs ys i), climbs-more xs ys c.1 d (λ z y i j. f z y (inr i) j))
+  where
+    both : (y : Association) → Has y xs ⊎ Has y ys → x.serial < y.serial
+    both y (inl i) = c.0 y i
+    both y (inr j) = f x y (inl refl) j
+
+climbs-if : (b : Bool) (xs : List Association) → Climbs xs → Climbs (if b then [] else xs)
+climbs-if true xs c = tt
+climbs-if false xs c = c
+
+climbs-one : (b : Bool) (x : Association) → Climbs (if b then x ∷ [] else [])
+climbs-one true x = (λ y i. absurd i, tt)
+climbs-one false x = tt
+
+climbs-put : (d : Way) (o : Order) → Climbs (put_in d o)
+climbs-put d Read = tt
+climbs-put d (Policy l) = tt
+climbs-put d (PutIn x) = climbs-one (d.id == x.way.id) x
+climbs-put d (PutOut x) = tt
+climbs-put d (RemoveIn n) = tt
+climbs-put d (RemoveOut n) = tt
+
+climbs : (p : ℕ) (h : List Act) → IsPast p h → (d : Way) → Climbs (left d h)
+climbs p [] l d = tt
+climbs p (Opened g s ∷ h) l d = climbs p h l.1 d
+climbs p (Cut g s ∷ h) l d = climbs p h l.1 d
+climbs p (Answered g s n a ∷ h) l d = climbs-filter (λ x. not (answers_to RemovingIn x.serial (oldest (queue g h)))) (left d h) (climbs p h l.1 d)
+climbs p (Heard g s t ∷ h) l d = climbs p h l.1 d
+climbs p (Ordered g s n o ∷ h) l d = climbs-more (left d h) (put_in d o) (climbs p h l.1 d) (climbs-put d o) (λ x y i j.
+    let a = low p h l.1 d x i in
+    let b = put-serial h g o y l.0.3 (put-one d y o j).0 in
+    omega arith)
+climbs p (Accepted c ∷ h) l d = climbs-if (made_by c (length (directions h)) d) (left d h) (climbs p h l.1 d)
+climbs p (Refused w ∷ h) l d = climbs p h l.1 d
+
+-- ## one at most where a new one is put
+
+ready-both : (a b c : Bool) → (a && b && c) ≡ true → (b ≡ true) × (c ≡ true)
+ready-both true true true e = (refl, refl)
+ready-both true true false e = cc
+ready-both true false c e = cc
+ready-both false b c e = cc
+
+-- an ended one would be removed first
+not-over : (e t r b c : Bool) → b ≡ true → c ≡ true → (e && t && not r && b) ≡ false → (e && (not t || r) && c) ≡ false → e ≡ false
+not-over false t r b c p q u v = refl
+not-over true true true b c p q u v = absurd (let w : true ≡ false = sym q ∙ v in cc)
+not-over true true false b c p q u v = absurd (let w : true ≡ false = sym p ∙ u in cc)
+not-over true false r b c p q u v = absurd (let w : true ≡ false = sym q ∙ v in cc)
+
+-- and one whose inbound put was answered would be put outbound first
+goes-on : (e o t i b c : Bool) → e ≡ false → b ≡ true → c ≡ true → o ≡ false → ((not e && not o) && not t && i && b && c) ≡ false → (t ≡ true) ⊎ (i ≡ false)
+goes-on e o true i b c p q r s u = inl refl
+goes-on e o false false b c p q r s u = inr refl
+goes-on e o false true b c p q r s u = absurd (let w : ((not false && not false) && not false && true && true && true) ≡ false = rw (p, q, r, s) at u in let v : true ≡ false = w in cc)
+
+busy-there : (h : List Act) (d : Way) (x : Association) (g : ℕ) (o : Order) → is_own d (left d h) o ≡ true → Has o (queue g h) → (g ≡ d.sender) ⊎ (g ≡ d.receiver) → busy d h ≡ false → ⊥
+busy-there h d x g o y i (inl e) f = any-yes (is_own d (left d h)) (queue d.sender h) o (subst (λ z. Has o (queue z h)) e i) y (neither (list_any (is_own d (left d h)) (queue d.sender h)) (list_any (is_own d (left d h)) (queue d.receiver h)) f).0
+busy-there h d x g o y i (inr e) f = any-yes (is_own d (left d h)) (queue d.receiver h) o (subst (λ z. Has o (queue z h)) e i) y (neither (list_any (is_own d (left d h)) (queue d.sender h)) (list_any (is_own d (left d h)) (queue d.receiver h)) f).1
+
+-- where a new one is put, each that is left is not ended and was put whole
+settled : (p : ℕ) (h : List Act) → IsPast p h → Waits h → (g : ℕ) (z : Association) → MayInPut h g z → (x : Association) → Has x (left z.way h) → (ended x h ≡ false) × (heard PuttingOut x.serial h ≡ true)
+settled p h l k g z m x i =
+    let r = ready-both (owed z.way h) (ready z.way.sender h) (ready z.way.receiver h) m.may in
+    let e = not-over (ended x h) (sends x.serial h) (heard RemovingOut x.serial h) (ready z.way.sender h) (ready z.way.receiver h) r.0 r.1 (m.no_out_remove x i) (m.no_in_remove x i) in
+    (e, answered (heard PuttingOut x.serial h) refl r e)
+  where
+    own : z.way ≡ x.way
+    own = own-way p h l z.way x m.of i
+
+    waits-in : ended x h ≡ false → heard PuttingIn x.serial h ≡ false → ⊥
+    waits-in e v = busy-there h z.way x x.way.receiver (PutIn x) (of-way h z.way x i) (k.inbound z.way x i e v) (inr (ap (λ (d : Way). d.receiver) (sym own))) m.free
+
+    waits-out : ended x h ≡ false → sends x.serial h ≡ true → heard PuttingOut x.serial h ≡ false → ⊥
+    waits-out e t v = busy-there h z.way x x.way.sender (PutOut x) (of-way h z.way x i) (k.outbound z.way x i e t v) (inl (ap (λ (d : Way). d.sender) (sym own))) m.free
+
+    answered : (b : Bool) → heard PuttingOut x.serial h ≡ b → (ready z.way.sender h ≡ true) × (ready z.way.receiver h ≡ true) → ended x h ≡ false → b ≡ true
+    answered true v r e = refl
+    answered false v r e = absurd (elim (goes-on (ended x h) (heard PuttingOut x.serial h) (sends x.serial h) (heard PuttingIn x.serial h) (ready z.way.sender h) (ready z.way.receiver h) e r.0 r.1 v (m.no_out_put x i)) as (λ q. ⊥) [
+      | inl t ↦ waits-out e t v
+      | inr t ↦ waits-in e t
+    ])
+
+single : (xs : List Association) → Climbs xs → ((x y : Association) → Has x xs → Has y xs → x.serial < y.serial → ⊥) → length xs ≤ 1
+single [] c f = omega arith
+single (x ∷ []) c f = omega arith
+single (x ∷ y ∷ xs) c f = absurd (f x y (inl refl) (inr (inl refl)) (c.0 y (inl refl)))
+
+one-left : (p : ℕ) (h : List Act) → IsPast p h → Waits h → (g : ℕ) (z : Association) → MayInPut h g z → length (left z.way h) ≤ 1
+one-left p h l k g z m = single (left z.way h) (climbs p h l z.way) (λ x y i j e.
+    let a = settled p h l k g z m x i in
+    let b = settled p h l k g z m y j in
+    let r = k.replaced z.way x y i j e b.1 b.0 in
+    let u : true ≡ false = sym r ∙ a.0 in
+    cc)
+
+-- ## two at most
+
+filter-length : (q : Association → Bool) (xs : List Association) → length (filter q xs) ≤ length xs
+filter-length q [] = omega arith
+filter-length q (x ∷ xs) = kept (q x) (filter-length q xs)
+  where
+    kept : (b : Bool) → length (filter q xs) ≤ length xs → length (if b then x ∷ filter q xs else filter q xs) ≤ length (x ∷ xs)
+    kept true e = grind arith
+    kept false e = grind arith
+
+length-one : (xs : List Association) (x : Association) → length (xs ++ x ∷ []) ≡ length xs + 1
+length-one [] x = refl
+length-one (z ∷ xs) x = grind (arith, length-one xs x)
+
+-- what is left hangs on the id alone
+left-by-id : (h : List Act) (d e : Way) → d.id ≡ e.id → left d h ≡ left e h
+left-by-id [] d e q = refl
+left-by-id (Opened g s ∷ h) d e q = left-by-id h d e q
+left-by-id (Cut g s ∷ h) d e q = left-by-id h d e q
+left-by-id (Answered g s n a ∷ h) d e q = ap (filter (λ x. not (answers_to RemovingIn x.serial (oldest (queue g h))))) (left-by-id h d e q)
+left-by-id (Heard g s t ∷ h) d e q = left-by-id h d e q
+left-by-id (Ordered g s n o ∷ h) d e q = ap (λ t. t ++ put_in d o) (left-by-id h d e q) ∙ ap (λ t. left e h ++ t) (same-put o)
+  where
+    same-put : (o : Order) → put_in d o ≡ put_in e o
+    same-put Read = refl
+    same-put (Policy l) = refl
+    same-put (PutIn x) = ap (λ n. if n == x.way.id then x ∷ [] else []) q
+    same-put (PutOut x) = refl
+    same-put (RemoveIn n) = refl
+    same-put (RemoveOut n) = refl
+left-by-id (Accepted c ∷ h) d e q = ap (λ t. if made_by c (length (directions h)) d then [] else t) (left-by-id h d e q) ∙ ap (λ b. if b then [] else left e h) (same-made c)
+  where
+    same-made : (c : Placed) → made_by c (length (directions h)) d ≡ made_by c (length (directions h)) e
+    same-made (SetPolicy g l) = refl
+    same-made (Tunnel t) = ap (λ n. nat_le (length (directions h)) n) q
+    same-made (End r) = refl
+    same-made (Rekey r) = refl
+    same-made (Keys k) = refl
+left-by-id (Refused w ∷ h) d e q = left-by-id h d e q
+
+none-if : (b : Bool) (xs : List Association) → length xs ≤ 2 → length (if b then [] else xs) ≤ 2
+none-if true xs e = omega arith
+none-if false xs e = e
+
+few-ordered : (p : ℕ) (h : List Act) → IsPast p h → Waits h → (g : ℕ) (o : Order) → MayOrder h g o → (d : Way) → length (left d h) ≤ 2 → length (left d h ++ put_in d o) ≤ 2
+few-ordered p h l k g Read m d e = rw (append-nil (left d h)) e
+few-ordered p h l k g (Policy q) m d e = rw (append-nil (left d h)) e
+few-ordered p h l k g (PutIn x) m d e = by-way (d.id == x.way.id) refl
+  where
+    by-way : (b : Bool) → (d.id == x.way.id) ≡ b → length (left d h ++ (if b then x ∷ [] else [])) ≤ 2
+    by-way true t =
+        let q : d.id ≡ x.way.id = grind arith in
+        let a = one-left p h l k g x m in
+        let b = ap length (left-by-id h d x.way q) in
+        let c = length-one (left d h) x in
+        omega arith
+    by-way false t = rw (append-nil (left d h)) e
+few-ordered p h l k g (PutOut x) m d e = rw (append-nil (left d h)) e
+few-ordered p h l k g (RemoveIn n) m d e = rw (append-nil (left d h)) e
+few-ordered p h l k g (RemoveOut n) m d e = rw (append-nil (left d h)) e
+
+pub few-left : (p : ℕ) (h : List Act) → IsPast p h → PlainAnswers h → (d : Way) → length (left d h) ≤ 2
+few-left p [] l a d = omega arith
+few-left p (Opened g s ∷ h) l a d = few-left p h l.1 a d
+few-left p (Cut g s ∷ h) l a d = few-left p h l.1 a d
+few-left p (Answered g s n z ∷ h) l a d =
+    let e = few-left p h l.1 a.1 d in
+    let f = filter-length (λ x. not (answers_to RemovingIn x.serial (oldest (queue g h)))) (left d h) in
+    omega arith
+few-left p (Heard g s t ∷ h) l a d = few-left p h l.1 a d
+few-left p (Ordered g s n o ∷ h) l a d = few-ordered p h l.1 (waits p h l.1 a) g o l.0.3 d (few-left p h l.1 a d)
+few-left p (Accepted c ∷ h) l a d = none-if (made_by c (length (directions h)) d) (left d h) (few-left p h l.1 a d)
+few-left p (Refused w ∷ h) l a d = few-left p h l.1 a d
+
+-- ## tunnels
+
+abbrev Pairs : List Way → Type 0
+Pairs [] = Unit {0}
+Pairs (d ∷ []) = ⊥
+Pairs (d ∷ e ∷ ds) = Pairs ds
+
+pairs-more : (xs ys : List Way) → Pairs xs → Pairs ys → Pairs (xs ++ ys)
+pairs-more [] ys a b = b
+pairs-more (d ∷ []) ys a b = absurd a
+pairs-more (d ∷ e ∷ ds) ys a b = pairs-more ds ys a b
+
+pairs-born : (n : ℕ) (c : Placed) → Pairs (born n c)
+pairs-born n (SetPolicy g l) = tt
+pairs-born n (Tunnel t) = tt
+pairs-born n (End r) = tt
+pairs-born n (Rekey r) = tt
+pairs-born n (Keys k) = tt
+
+pairs : (h : List Act) → Pairs (directions h)
+pairs [] = tt
+pairs (Opened g s ∷ h) = pairs h
+pairs (Cut g s ∷ h) = pairs h
+pairs (Answered g s n a ∷ h) = pairs h
+pairs (Heard g s t ∷ h) = pairs h
+pairs (Ordered g s n o ∷ h) = pairs h
+pairs (Accepted c ∷ h) = pairs-more (directions h) (born (length (directions h)) c) (pairs h) (pairs-born (length (directions h)) c)
+pairs (Refused w ∷ h) = pairs h
+
+less-step : (a b c d : Bool) (n m : ℕ) → n ≤ m → (a ≡ true → c ≡ true) → (b ≡ true → d ≡ true) → (if a || b then n + 1 else n) ≤ (if c || d then m + 1 else m)
+less-step true b c d n m e f g = let q = f refl in rw q (omega arith)
+less-step false true true d n m e f g = omega arith
+less-step false true false d n m e f g = let q = g refl in rw q (omega arith)
+less-step false false c d n m e f g = at-least (c || d)
+  where
+    at-least : (b : Bool) → n ≤ (if b then m + 1 else m)
+    at-least true = omega arith
+    at-least false = e
+
+tunnels-less : (k h : List Act) (ds : List Way) → ((d : Way) → Has d ds → counts k d ≡ true → counts h d ≡ true) → tunnels k ds ≤ tunnels h ds
+tunnels-less k h [] f = omega arith
+tunnels-less k h (d ∷ []) f = omega arith
+tunnels-less k h (d ∷ e ∷ ds) f = less-step (counts k d) (counts k e) (counts h d) (counts h e) (tunnels k ds) (tunnels h ds) (tunnels-less k h ds (λ c i. f c (inr (inr i)))) (f d (inl refl)) (f e (inr (inl refl)))
+
+add-if : (b : Bool) (n m k : ℕ) → n ≡ m + k → (if b then n + 1 else n) ≡ (if b then m + 1 else m) + k
+add-if true n m k e = omega arith
+add-if false n m k e = e
+
+tunnels-both : (h : List Act) (xs ys : List Way) → Pairs xs → tunnels h (xs ++ ys) ≡ tunnels h xs + tunnels h ys
+tunnels-both h [] ys a = omega arith
+tunnels-both h (d ∷ []) ys a = absurd a
+tunnels-both h (d ∷ e ∷ ds) ys a = add-if (counts h d || counts h e) (tunnels h (ds ++ ys)) (tunnels h ds) (tunnels h ys) (tunnels-both h ds ys a)
+
+one-more : (b : Bool) → (if b then 0 + 1 else 0) ≤ 1
+one-more true = omega arith
+one-more false = omega arith
+
+upto : (m : ℕ) (xs : List Way) (d : Way) → Rising m xs → Has d xs → d.id < m + length xs
+upto m [] d r i = absurd i
+upto m (x ∷ xs) d r (inl e) = let q : x.id ≡ m = r.0 in let w = ap (λ (z : Way). z.id) e in grind arith
+upto m (x ∷ xs) d r (inr i) = let ih = upto (m + 1) xs d r.1 i in grind arith
+
+none-filter : (q : Association → Bool) (xs : List Association) → not (is_none (filter q xs)) ≡ true → not (is_none xs) ≡ true
+none-filter q [] e = e
+none-filter q (x ∷ xs) e = refl
+
+or-step : (a b c : Bool) → (b ≡ true → c ≡ true) → (a || b) ≡ true → (a || c) ≡ true
+or-step true b c f e = refl
+or-step false b c f e = f e
+
+not-wanted : (a b : Bool) → (a && not b) ≡ true → not b ≡ true
+not-wanted true b e = e
+not-wanted false b e = cc
+
+first-and : (a b c : Bool) → (a && b && c) ≡ true → a ≡ true
+first-and true b c e = refl
+first-and false b c e = cc
+
+counts-put : (h : List Act) (g : ℕ) (x : Association) (d : Way) → Has d (directions h) → MayInPut h g x → (b : Bool) → (d.id == x.way.id) ≡ b → (not (over d h) || not (is_none (left d h ++ (if b then x ∷ [] else [])))) ≡ true → counts h d ≡ true
+counts-put h g x d i m true t e =
+    let w : d ≡ x.way = one-way h d x.way i m.of (grind arith) in
+    let q = not-wanted (wanted x.way h) (over x.way h) (first-and (owed x.way h) (ready x.way.sender h) (ready x.way.receiver h) m.may) in
+    let r : not (over d h) ≡ true = ap (λ z. not (over z h)) w ∙ q in
+    rw r refl
+counts-put h g x d i m false t e = rw (append-nil (left d h)) at e
+
+counts-order : (h : List Act) (g s n : ℕ) (o : Order) (d : Way) → Has d (directions h) → MayOrder h g o → counts (Ordered g s n o ∷ h) d ≡ true → counts h d ≡ true
+counts-order h g s n Read d i m e = rw (append-nil (left d h)) at e
+counts-order h g s n (Policy l) d i m e = rw (append-nil (left d h)) at e
+counts-order h g s n (PutIn x) d i m e = counts-put h g x d i m (d.id == x.way.id) refl e
+counts-order h g s n (PutOut x) d i m e = rw (append-nil (left d h)) at e
+counts-order h g s n (RemoveIn k) d i m e = rw (append-nil (left d h)) at e
+counts-order h g s n (RemoveOut k) d i m e = rw (append-nil (left d h)) at e
+
+counts-old : (a b c : Bool) → (not (a || b) || c) ≡ true → (not b || c) ≡ true
+counts-old true true c e = e
+counts-old true false c e = refl
+counts-old false b c e = e
+
+counts-accepted : (h : List Act) (c : Placed) (d : Way) → Has d (directions h) → counts (Accepted c ∷ h) d ≡ true → counts h d ≡ true
+counts-accepted h c d i e =
+    let u = upto 0 (directions h) d (rising h) i in
+    let q = made-no c (length (directions h)) d (omega arith) in
+    counts-old (ends d.tunnel.reqid c) (over d h) (not (is_none (left d h))) (rw q at e)
+
+limit-passes : (n m k : ℕ) → nat_le 1024 n ≡ false → m ≤ n → k ≤ 1 → m + k ≤ 1024
+limit-passes n m k e f g = let q : n + 1 ≤ 1024 = grind (arith, common_steps) in omega arith
+
+none-new : (h : List Act) (c : Placed) (ds : List Way) → ((d : Way) → Has d ds → Has d (directions h)) → tunnels h ds ≤ 1024 → tunnels (Accepted c ∷ h) (ds ++ []) ≤ 1024
+none-new h c ds f e =
+    let q = tunnels-less (Accepted c ∷ h) h ds (λ d i. counts-accepted h c d (f d i)) in
+    rw (append-nil ds) (omega arith)
+
+-- no more tunnels count than the limit says
+pub few-tunnels : (p : ℕ) (h : List Act) → IsPast p h → tunnels h (directions h) ≤ 1024
+few-tunnels p [] l = omega arith
+few-tunnels p (Opened g s ∷ h) l = let e = few-tunnels p h l.1 in let q = tunnels-less (Opened g s ∷ h) h (directions h) (λ d i v. v) in omega arith
+few-tunnels p (Cut g s ∷ h) l = let e = few-tunnels p h l.1 in let q = tunnels-less (Cut g s ∷ h) h (directions h) (λ d i v. v) in omega arith
+few-tunnels p (Answered g s n a ∷ h) l =
+    let e = few-tunnels p h l.1 in
+    let q = tunnels-less (Answered g s n a ∷ h) h (directions h) (λ d i v. or-step (not (over d h)) _ (not (is_none (left d h))) (none-filter (λ x. not (answers_to RemovingIn x.serial (oldest (queue g h)))) (left d h)) v) in
+    omega arith
+few-tunnels p (Heard g s t ∷ h) l = let e = few-tunnels p h l.1 in let q = tunnels-less (Heard g s t ∷ h) h (directions h) (λ d i v. v) in omega arith
+few-tunnels p (Ordered g s n o ∷ h) l = let e = few-tunnels p h l.1 in let q = tunnels-less (Ordered g s n o ∷ h) h (directions h) (λ d i v. counts-order h g s n o d i l.0.3 v) in omega arith
+few-tunnels p (Accepted (SetPolicy g w) ∷ h) l = none-new h (SetPolicy g w) (directions h) (λ d i. i) (few-tunnels p h l.1)
+few-tunnels p (Accepted (Tunnel t) ∷ h) l =
+    let n = tunnel-passes (nat_lt t.first p) (nat_lt t.second p) (t.first == t.second) (has_tunnel t.spec.reqid h) (nat_le 1024 (tunnels h (directions h))) l.0 in
+    let q = tunnels-less (Accepted (Tunnel t) ∷ h) h (directions h) (λ d i. counts-accepted h (Tunnel t) d i) in
+    let b = tunnels-both (Accepted (Tunnel t) ∷ h) (directions h) (two_of (length (directions h)) t) (pairs h) in
+    rw b (limit-passes (tunnels h (directions h)) (tunnels (Accepted (Tunnel t) ∷ h) (directions h)) (tunnels (Accepted (Tunnel t) ∷ h) (two_of (length (directions h)) t)) n.4 q (one-more _))
+few-tunnels p (Accepted (End r) ∷ h) l = none-new h (End r) (directions h) (λ d i. i) (few-tunnels p h l.1)
+few-tunnels p (Accepted (Rekey r) ∷ h) l = none-new h (Rekey r) (directions h) (λ d i. i) (few-tunnels p h l.1)
+few-tunnels p (Accepted (Keys k) ∷ h) l = none-new h (Keys k) (directions h) (λ d i. i) (few-tunnels p h l.1)
+few-tunnels p (Refused w ∷ h) l = let e = few-tunnels p h l.1 in let q = tunnels-less (Refused w ∷ h) h (directions h) (λ d i v. v) in omega arith
+
+-- ## halves
+
+none-left : (h : List Act) (d : Way) → counts h d ≡ false → length (left d h) ≡ 0
+none-left h d e = empty (left d h) (neither (not (over d h)) (not (is_none (left d h))) e).1
+  where
+    empty : (xs : List Association) → not (is_none xs) ≡ false → length xs ≡ 0
+    empty [] e = refl
+    empty (x ∷ xs) e = cc
+
+four-step : (h : List Act) (a b : Bool) (d e : Way) (n m : ℕ) → length (left d h) ≤ 2 → length (left e h) ≤ 2 → m ≤ 4 * n → (c k : Bool) → counts h d ≡ c → counts h e ≡ k → (if a then length (left d h) + (if b then length (left e h) + m else m) else if b then length (left e h) + m else m) ≤ 4 * (if c || k then n + 1 else n)
+four-step h a b d e n m u v w true k t z = most a b
+  where
+    most : (a b : Bool) → (if a then length (left d h) + (if b then length (left e h) + m else m) else if b then length (left e h) + m else m) ≤ 4 * (n + 1)
+    most true true = omega arith
+    most true false = omega arith
+    most false true = omega arith
+    most false false = omega arith
+four-step h a b d e n m u v w false true t z = most a b
+  where
+    most : (a b : Bool) → (if a then length (left d h) + (if b then length (left e h) + m else m) else if b then length (left e h) + m else m) ≤ 4 * (n + 1)
+    most true true = omega arith
+    most true false = omega arith
+    most false true = omega arith
+    most false false = omega arith
+four-step h a b d e n m u v w false false t z = least a b (none-left h d t) (none-left h e z)
+  where
+    least : (a b : Bool) → length (left d h) ≡ 0 → length (left e h) ≡ 0 → (if a then length (left d h) + (if b then length (left e h) + m else m) else if b then length (left e h) + m else m) ≤ 4 * n
+    least true true q r = omega arith
+    least true false q r = omega arith
+    least false true q r = omega arith
+    least false false q r = omega arith
+
+four-each : (p : ℕ) (h : List Act) → IsPast p h → PlainAnswers h → (g : ℕ) (ds : List Way) → Pairs ds → halves g h ds ≤ 4 * tunnels h ds
+four-each p h l a g [] q = omega arith
+four-each p h l a g (d ∷ []) q = absurd q
+four-each p h l a g (d ∷ e ∷ ds) q = four-step h (touches g d) (touches g e) d e (tunnels h ds) (halves g h ds) (few-left p h l a d) (few-left p h l a e) (four-each p h l a g ds q) (counts h d) (counts h e) refl refl
+
+-- a gateway never has more halves than its database holds
+pub few-halves : (p : ℕ) (h : List Act) → IsPast p h → PlainAnswers h → (g : ℕ) → halves g h (directions h) ≤ 4096
+few-halves p h l a g =
+    let e = four-each p h l a g (directions h) (pairs h) in
+    let q = few-tunnels p h l in
+    omega arith

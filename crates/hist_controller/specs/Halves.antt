@@ -1,0 +1,23 @@
+-- How many halves a controller has at a gateway.
+use Rattle.std.specs.Prelude.{◌≡◌, ℕ, ◌+◌, Bool, true, ◌==◌, ◌||◌, nat_le, List, [], ◌∷◌, Option, Some, None, length, if◌then◌else◌}
+use Rattle.hist_controller.specs.Acts.{Way, Order, PutIn, PutOut, Act, Answered}
+use Rattle.hist_controller.specs.Past.{oldest, queue, left}
+
+-- a put is answered with 201, or refused
+abbrev pub is_plain : Option Order → ℕ → Bool
+is_plain (Some (PutIn x)) status = (status == 201) || nat_le 400 status
+is_plain (Some (PutOut x)) status = (status == 201) || nat_le 400 status
+is_plain (_) status = true
+
+abbrev pub PlainAnswers : List Act → Type 0
+PlainAnswers [] = Unit {0}
+PlainAnswers (Answered g s n a ∷ h) = (is_plain (oldest (queue g h)) a.status ≡ true) × PlainAnswers h
+PlainAnswers (_ ∷ h) = PlainAnswers h
+
+abbrev pub touches : ℕ → Way → Bool
+touches g d = (d.sender == g) || (d.receiver == g)
+
+-- each association left has a half at most at each of its two gateways
+abbrev pub halves : ℕ → List Act → List Way → ℕ
+halves g h [] = 0
+halves g h (d ∷ ds) = if touches g d then length (left d h) + halves g h ds else halves g h ds
