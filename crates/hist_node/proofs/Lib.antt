@@ -5,3 +5,4 @@ pub mod StepsLemmas
 pub mod MayLemmas
 pub mod SafeLemmas
 pub mod Shown
+pub mod AnswersLemmas

@@ -11,3 +11,4 @@ pub mod State
 pub mod May
 pub mod Machine
 pub mod Safe
+pub mod Answers

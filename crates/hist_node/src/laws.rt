@@ -1,12 +1,15 @@
 // Laws for the crates above: each is the contract of a function with an empty body, or one that only calls such functions.
-ghost use Rattle.std.specs.Prelude.{◌≡◌, ℕ, List, [], ◌∷◌};
+ghost use Rattle.std.specs.Prelude.{◌≡◌, ℕ, true, false, List, [], ◌∷◌, Result};
 ghost use Rattle.std.specs.List.{list_any};
 ghost use Rattle.std.specs.Str.{bytes_eq};
 ghost use Rattle.hist_acts.specs.declared.act.Act.{Act};
 ghost use Rattle.hist_acts.specs.Past.{after};
 ghost use Rattle.hist_halves.specs.Halves.{live, is_live};
 ghost use Rattle.hist_node.specs.Stands.{acquire_stands};
-ghost use Rattle.hist_node.specs.Block.{Gateway, Event, gw_block, gw_history};
+ghost use Rattle.hist_node.specs.Block.{Gateway, Event, Let, Arrive, Clock, Handle, gw_block, gw_history};
+ghost use Rattle.hist_node.specs.Answers.{answers_let, answers_arrival, is_answer, has_one_answer};
+ghost use Rattle.hist_node.specs.Handle.{Fault};
+ghost use Rattle.reply_table.specs.declared.ask.Ask.{Ask};
 ghost use Rattle.hist_node.specs.State.{state_of, did, acquires};
 ghost use Rattle.hist_node.specs.Machine.{acts_of, next, run};
 ghost use Rattle.hist_node.specs.May.{has_half, IsNewHalf, AllMay};
@@ -53,3 +56,12 @@ pub fn is_every_history_safe()
 {
     changes_fit();
 }
+
+/// A packet from inside has exactly one answer: it leaves in clear or sealed, or it is dropped. A datagram from outside has exactly
+/// one: it is given opened or passes in clear, or it is dropped. No other event has one.
+pub fn answers()
+    ensures packet { (c : Gateway) (h : List Act) (o : List ℕ) → has_one_answer answers_let (gw_block c h (Let o)) ≡ true }
+    ensures datagram { (c : Gateway) (h : List Act) (o : List ℕ) → has_one_answer answers_arrival (gw_block c h (Arrive o)) ≡ true }
+    ensures clock { (c : Gateway) (h : List Act) (t : ℕ) → list_any is_answer (gw_block c h (Clock t)) ≡ false }
+    ensures request { (c : Gateway) (h : List Act) (request : Result Ask Fault) → list_any is_answer (gw_block c h (Handle request)) ≡ false }
+{}

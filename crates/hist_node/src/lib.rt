@@ -3,4 +3,4 @@
 
 mod laws;
 
-pub use laws::{blocks_follow, is_every_history_safe, keeps, readings, steps};
+pub use laws::{answers, blocks_follow, is_every_history_safe, keeps, readings, steps};
