@@ -16,3 +16,4 @@ pub mod Numbers
 pub mod Invariant
 pub mod Ended
 pub mod Blocks
+pub mod Shown
