@@ -333,6 +333,88 @@ shown-never-ordered : history peers [] never_ordered ≡
 unfolding start never_ordered in_name out_name k1 k2 k3 k4 digits
 shown-never-ordered = refl
 
+-- an expiry from the wrong gateway is no cause, an overflow from the sender is one, and an expiry of the association before
+-- the one put last is none
+outrun : List Event
+outrun =
+    Told (commands.Keys k3) ∷ Told (commands.Keys k4) ∷ Notices 0 (notices.Expire (codes "in/1") true spent) ∷ Notices 0 (notices.SeqOverflow (codes "out/1"))
+    ∷ Notices 1 (notices.Expire (codes "in/1") false spent) ∷ Answers 1 (plain 201) ∷ Answers 0 (plain 201) ∷ Answers 0 (plain 204) ∷ Answers 1 (plain 204) ∷ []
+
+shown-outrun : history peers (after [] up) outrun ≡
+    Accepted (Keys k3) ∷ Accepted (Keys k4) ∷ Heard 0 1 (notices.Expire (codes "in/1") true spent)
+    ∷ Heard 0 1 (notices.SeqOverflow (codes "out/1")) ∷ Ordered 1 1 5 (PutIn (half 3 k3 ab))
+    ∷ Heard 1 1 (notices.Expire (codes "in/1") false spent)
+    ∷ Answered 1 1 5 (plain 201) ∷ Ordered 0 1 5 (PutOut (half 3 k3 ab))
+    ∷ Answered 0 1 5 (plain 201) ∷ Ordered 0 1 6 (RemoveOut 1)
+    ∷ Answered 0 1 6 (plain 204) ∷ Ordered 1 1 6 (RemoveIn 1)
+    ∷ Answered 1 1 6 (plain 204) ∷ []
+unfolding begun up outrun in_name out_name k1 k2 k3 k4 digits
+shown-outrun = refl
+
+abbrev other_list : List SpdEntry
+other_list = record { name = codes "o1"; direction = directions.Out; reqid = 11; window = 64; selector = flow; action = actions.Protect } ∷ []
+
+-- an acquire of an entry with another reqid is no cause, an expiry of an ended association is none, and an acquire while an
+-- ended one waits for its removal is one
+renewed_late : List Event
+unfolding asked_for
+renewed_late =
+    Told (commands.Policy (codes "a") other_list) ∷ Told (commands.Keys k1) ∷ Told (commands.Keys k2) ∷ Told (commands.Keys k3) ∷ Told (commands.Tunnel asked_for) ∷ Opens 0 ∷ Opens 1 ∷ Answers 0 (reading []) ∷ Answers 0 (plain 204) ∷ Answers 1 (reading [])
+    ∷ Notices 0 (notices.Acquire (codes "o1") flow) ∷ policy_a ∷ Notices 0 (notices.Acquire (codes "o1") flow) ∷ Answers 1 denied
+    ∷ Notices 1 (notices.Expire (codes "in/1") true spent) ∷ Answers 1 absent ∷ Notices 0 (notices.Acquire (codes "o1") flow) ∷ Answers 1 denied
+    ∷ Notices 0 (notices.Acquire (codes "o1") flow) ∷ Answers 1 absent ∷ []
+
+shown-renew-late : history peers [] renewed_late ≡
+    Accepted (SetPolicy 0 other_list) ∷ Accepted (Keys k1) ∷ Accepted (Keys k2) ∷ Accepted (Keys k3) ∷ Accepted (Tunnel (at asked_for))
+    ∷ Opened 0 1 ∷ Ordered 0 1 1 Read ∷ Ordered 0 1 2 (Policy other_list) ∷ Opened 1 1 ∷ Ordered 1 1 1 Read
+    ∷ Answered 0 1 1 (reading []) ∷ Answered 0 1 2 (plain 204) ∷ Answered 1 1 1 (reading [])
+    ∷ Heard 0 1 (notices.Acquire (codes "o1") flow)
+    ∷ Accepted (SetPolicy 0 list_a) ∷ Ordered 0 1 3 (Policy list_a)
+    ∷ Heard 0 1 (notices.Acquire (codes "o1") flow) ∷ Ordered 1 1 2 (PutIn (half 1 k1 asked_ab))
+    ∷ Answered 1 1 2 denied ∷ Ordered 1 1 3 (RemoveIn 1)
+    ∷ Heard 1 1 (notices.Expire (codes "in/1") true spent)
+    ∷ Answered 1 1 3 absent
+    ∷ Heard 0 1 (notices.Acquire (codes "o1") flow) ∷ Ordered 1 1 4 (PutIn (half 2 k2 asked_ab))
+    ∷ Answered 1 1 4 denied ∷ Ordered 1 1 5 (RemoveIn 2)
+    ∷ Heard 0 1 (notices.Acquire (codes "o1") flow)
+    ∷ Answered 1 1 5 absent ∷ Ordered 1 1 6 (PutIn (half 3 k3 asked_ab))
+    ∷ []
+unfolding renewed_late asked_for in_name out_name k1 k2 k3 k4 digits
+shown-renew-late = refl
+
+-- a refused outbound put ends its association, whose halves are removed
+refused_put : List Event
+refused_put = Answers 0 denied ∷ Answers 0 absent ∷ Answers 1 (plain 201) ∷ Answers 1 (plain 204) ∷ []
+
+shown-refused-put : history peers (after [] begun) refused_put ≡
+    Answered 0 1 4 denied ∷ Ordered 0 1 5 (RemoveOut 1)
+    ∷ Answered 0 1 5 absent ∷ Ordered 1 1 5 (RemoveIn 1)
+    ∷ Answered 1 1 4 (plain 201) ∷ Answered 1 1 5 (plain 204)
+    ∷ []
+unfolding begun refused_put in_name out_name k1 k2 k3 k4 digits
+shown-refused-put = refl
+
+abbrev again_ab : Way
+again_ab = record { id = 2; tunnel = t; sender = 0; receiver = 1; near = behind_a; far = behind_b }
+
+abbrev again_ba : Way
+again_ba = record { id = 3; tunnel = t; sender = 1; receiver = 0; near = behind_b; far = behind_a }
+
+-- no key is put for an ended tunnel, and a later one with its reqid has causes of its own
+ended_early : List Event
+ended_early =
+    Told (commands.Tunnel t) ∷ Opens 0 ∷ Opens 1 ∷ Answers 0 (reading []) ∷ Answers 1 (reading []) ∷ Told (commands.End 10)
+    ∷ Told (commands.Keys k1) ∷ Told (commands.Tunnel t) ∷ Told (commands.Keys k2) ∷ Told (commands.Keys k3) ∷ []
+
+shown-ended-early : history peers [] ended_early ≡
+    Accepted (Tunnel (at t)) ∷ Opened 0 1 ∷ Ordered 0 1 1 Read ∷ Opened 1 1 ∷ Ordered 1 1 1 Read ∷ Answered 0 1 1 (reading []) ∷ Answered 1 1 1 (reading [])
+    ∷ Accepted (End 10) ∷ Accepted (Keys k1)
+    ∷ Accepted (Tunnel (at t)) ∷ Ordered 1 1 2 (PutIn (half 1 k1 again_ab))
+    ∷ Accepted (Keys k2) ∷ Ordered 0 1 2 (PutIn (half 2 k2 again_ba)) ∷ Accepted (Keys k3)
+    ∷ []
+unfolding ended_early in_name out_name k1 k2 k3 k4 digits
+shown-ended-early = refl
+
 -- ## as a transcript has them
 
 entry_of : List ℕ → ℕ → Prefix → Prefix → List ℕ → List ℕ → List ℕ → SadEntry
