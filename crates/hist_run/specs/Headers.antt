@@ -1,0 +1,11 @@
+-- The headers that a script can have: gateways with names and addresses of their own, of one family.
+use Rattle.std.specs.Prelude.{ℕ, ◌<◌, ◌^◌, length}
+use Rattle.ip_packet.specs.Outer.{AreOneFamily}
+use Rattle.hist_acts.specs.declared.event.Header.{Header}
+use Rattle.hist_controller.specs.Told.{Named, address_of}
+
+pub record IsHeader (header : Header) : Type 0 where
+  pub numbers : header.seq_last < 2 ^ 32
+  pub named : Named header.gateways
+  pub family : (f g : ℕ) → f < length header.gateways → g < length header.gateways
+      → AreOneFamily (address_of header.gateways f) (address_of header.gateways g)
