@@ -1,5 +1,5 @@
 -- What the acts of a gateway say of the past before them.
-use Rattle.std.specs.Prelude.{◌≡◌, ℕ, ◌+◌, ◌==◌, ◌&&◌, nat_le, Bool, true, false, List, [], ◌∷◌, length, Some, Ok}
+use Rattle.std.specs.Prelude.{◌≡◌, ℕ, ◌+◌, ◌==◌, ◌&&◌, nat_le, nat_lt, not, Bool, true, false, List, [], ◌∷◌, length, Some, Ok}
 use Rattle.std.specs.List.{list_any}
 use Rattle.std.specs.Str.{bytes_eq}
 use Rattle.ip_packet.specs.View.{Packet, view_of}
@@ -19,10 +19,11 @@ use Rattle.hist_acts.specs.declared.act.Act.{Act}
 use Rattle.hist_acts.specs.declared.act.Act.TheVariants as acts
 use Rattle.hist_acts.specs.Past.{force}
 use Rattle.hist_halves.specs.Sealed.{is_inbound, by_spi, number_of}
-use Rattle.hist_halves.specs.Halves.{live, sent, taken}
+use Rattle.hist_halves.specs.Halves.{live, is_live, put_of, sent, taken}
 use Rattle.hist_node.specs.Datagram.{datagram}
+use Rattle.hist_node.specs.Block.{Gateway}
 use Rattle.hist_node.specs.Let.{newest}
-use Rattle.hist_node.specs.Arrive.{is_told_version}
+use Rattle.hist_node.specs.Arrive.{is_sealed_for, is_told_version}
 
 -- one of these halves has this name
 abbrev pub has_half : List ℕ → List SadEntry → Bool
@@ -124,3 +125,64 @@ MayFollow seq_last h _ = Unit {0}
 abbrev pub AllMay : ℕ → List Act → List Act → Type 0
 AllMay seq_last h [] = Unit {0}
 AllMay seq_last h (a ∷ more) = MayFollow seq_last h a × AllMay seq_last (a ∷ h) more
+
+-- each act of a past may follow those before it
+abbrev pub IsLawful : ℕ → List Act → Type 0
+IsLawful seq_last [] = Unit {0}
+IsLawful seq_last (a ∷ h) = MayFollow seq_last h a × IsLawful seq_last h
+
+-- ---- what the live halves of a lawful past are
+
+-- no two halves have one name, and no two inbound ones one SPI
+abbrev pub are_apart : List SadEntry → Bool
+are_apart [] = true
+are_apart (e ∷ es) = not (has_half e.name es) && are_apart es
+
+abbrev pub has_inbound_spi : ℕ → List SadEntry → Bool
+has_inbound_spi spi es = list_any (λ x. is_inbound x.name && (x.spi == spi)) es
+
+abbrev pub have_own_spis : List SadEntry → Bool
+have_own_spis [] = true
+have_own_spis (e ∷ es) = not (is_inbound e.name && has_inbound_spi e.spi es) && have_own_spis es
+
+-- the halves are those that were installed last under their names
+abbrev pub ArePut : List ℕ → List Act → List SadEntry → Type 0
+ArePut g h [] = Unit {0}
+ArePut g h (e ∷ es) = (put_of g e.name h ≡ Some e) × ArePut g h es
+
+pub record AreHalves (g : List ℕ) (h : List Act) : Type 0 where
+  pub put : ArePut g h (live g h)
+  pub apart : are_apart (live g h) ≡ true
+  pub own_spis : have_own_spis (live g h) ≡ true
+  pub few : nat_le (length (live g h)) 4096 ≡ true
+
+-- a live outbound half for the packet
+pub record IsHalfFor (g : List ℕ) (h : List Act) (reqid : ℕ) (v : Packet) (e : SadEntry) : Type 0 where
+  pub live : is_live g e.name h ≡ true
+  pub put : put_of g e.name h ≡ Some e
+  pub outbound : is_inbound e.name ≡ false
+  pub own_reqid : (e.reqid == reqid) ≡ true
+  pub holds : holds_packet e.selector Out v ≡ true
+
+-- a live inbound half with the SPI
+pub record IsHalfOf (g : List ℕ) (h : List Act) (spi : ℕ) (e : SadEntry) : Type 0 where
+  pub live : is_live g e.name h ≡ true
+  pub put : put_of g e.name h ≡ Some e
+  pub inbound : is_inbound e.name ≡ true
+  pub own_spi : (e.spi == spi) ≡ true
+
+-- ---- what must be given
+
+-- The datagram is ESP for the gateway's own address with the SPI of a live inbound half, its number is fresh, it opens to a packet of
+-- the version told, and the half's selector holds that packet.
+pub record IsDelivery (c : Gateway) (h : List Act) (o : List ℕ) (outer inner : Packet) (e : SadEntry) (text : List ℕ) (next : ℕ) (p : List ℕ) : Type 0 where
+  pub view : view_of o ≡ Ok outer
+  pub own : is_sealed_for c.address outer ≡ true
+  pub whole : nat_lt (length outer.payload) 34 ≡ false
+  pub spi : by_spi (spi_of outer.payload) (live c.name h) ≡ Some e
+  pub fresh : verdict_over e.window (taken c.name e.name h) (number_of e (taken c.name e.name h) outer.payload) ≡ verdicts.Fresh
+  pub opened : esp.opened (keying e.spi e.key) outer.payload ≡ Some text
+  pub packet : esp.packet_of text ≡ Some (record { next = next; octets = p })
+  pub inner_view : view_of p ≡ Ok inner
+  pub version : is_told_version next p ≡ true
+  pub held : holds_packet e.selector In inner ≡ true
