@@ -12,8 +12,9 @@ use Rattle.hist_acts.specs.Past.{after}
 use Rattle.hist_halves.specs.Sealed.{is_inbound, by_spi}
 use Rattle.hist_halves.specs.Halves.{is_half, live, put_of, without}
 use Rattle.hist_node.specs.Let.{seals, newer, newest}
-use Rattle.hist_node.specs.May.{has_half, AllMay, IsLawful, IsInstallable, are_apart, has_inbound_spi, have_own_spis, ArePut, AreHalves, IsHalfFor, IsHalfOf}
-use Rattle.hist_node.proofs.KeepsLemmas.{same-is, same-refl, same-sym}
+use Rattle.hist_node.specs.Block.{Gateway}
+use Rattle.hist_node.specs.May.{has_half, AllMay, IsLawful, IsInstallable, AreInstalled, are_apart, has_inbound_spi, have_own_spis, ArePut, AreHalves, IsHalfFor, IsHalfOf}
+use Rattle.hist_node.proofs.KeepsLemmas.{same-refl, same-sym}
 use Rattle.hist_node.proofs.ReadingsLemmas.{any-end, live-is, without-half}
 
 -- ---- Booleans
@@ -188,9 +189,9 @@ true-le m n p = grind arith
 room-le : (n : ℕ) → nat_le 4096 n ≡ false → n + 1 ≤ 4096
 room-le n p = grind arith
 
-halves-put : (q : ℕ) (g f : List ℕ) (x : SadEntry) (h : List Act) (b : Bool) → bytes_eq f g ≡ b → IsInstallable (live f h) x → AreHalves g h → AreHalves g (acts.Put f x ∷ h)
-halves-put q g f x h true at may k =
-    let here : IsInstallable (live g h) x = subst (λ n. IsInstallable (live n h) x) (same-is f g at) may in
+halves-put : (g f : List ℕ) (x : SadEntry) (h : List Act) (b : Bool) → bytes_eq f g ≡ b → (bytes_eq f g ≡ true → IsInstallable (live g h) x) → AreHalves g h → AreHalves g (acts.Put f x ∷ h)
+halves-put g f x h true at may k =
+    let here : IsInstallable (live g h) x = may at in
     let there : live g (acts.Put f x ∷ h) ≡ live g h ++ x ∷ [] = rw at refl in
     let e = length-end (live g h) x in
     let room = room-le (length (live g h)) here.room in
@@ -200,7 +201,7 @@ halves-put q g f x h true at may k =
       own_spis = rw there (own-more x (live g h) here.spi k.own_spis);
       few = rw there (le-true (length (live g h ++ x ∷ [])) 4096 (omega (arith, e, room)));
     }
-halves-put q g f x h false at may k = quiet-act g h (acts.Put f x ∷ h) (rw at refl) (λ e. rw at refl) k
+halves-put g f x h false at may k = quiet-act g h (acts.Put f x ∷ h) (rw at refl) (λ e. rw at refl) k
 
 halves-gone : (g f y : List ℕ) (w : GoneWhy) (h : List Act) (b : Bool) → bytes_eq f g ≡ b → AreHalves g h → AreHalves g (acts.Gone f y w ∷ h)
 halves-gone g f y w h true at k =
@@ -220,12 +221,12 @@ halves-boot g f h true at k =
     record { put = rw there tt; apart = rw there refl; own_spis = rw there refl; few = rw there refl }
 halves-boot g f h false at k = quiet-act g h (acts.Boot f ∷ h) (rw at refl) (λ e. refl) k
 
-pub halves-are : (q : ℕ) (g : List ℕ) (h : List Act) → IsLawful q h → AreHalves g h
-halves-are q g [] l = record { put = tt; apart = refl; own_spis = refl; few = refl }
-halves-are q g (acts.Put f x ∷ h) l = halves-put q g f x h (bytes_eq f g) refl l.0 (halves-are q g h l.1)
-halves-are q g (acts.Gone f y w ∷ h) l = halves-gone g f y w h (bytes_eq f g) refl (halves-are q g h l.1)
-halves-are q g (acts.Boot f ∷ h) l = halves-boot g f h (bytes_eq f g) refl (halves-are q g h l.1)
-halves-are q g (a ∷ h) l = quiet-act g h (a ∷ h) refl (λ e. refl) (halves-are q g h l.1)
+pub halves-are : (g : List ℕ) (h : List Act) → AreInstalled g h → AreHalves g h
+halves-are g [] l = record { put = tt; apart = refl; own_spis = refl; few = refl }
+halves-are g (acts.Put f x ∷ h) l = halves-put g f x h (bytes_eq f g) refl l.0 (halves-are g h l.1)
+halves-are g (acts.Gone f y w ∷ h) l = halves-gone g f y w h (bytes_eq f g) refl (halves-are g h l.1)
+halves-are g (acts.Boot f ∷ h) l = halves-boot g f h (bytes_eq f g) refl (halves-are g h l.1)
+halves-are g (a ∷ h) l = quiet-act g h (a ∷ h) refl (λ e. refl) (halves-are g h l.1)
 
 -- ---- a half that is found
 
@@ -278,17 +279,17 @@ newest-has : (g : List ℕ) (h : List Act) (r : ℕ) (v : Packet) (es : List Sad
 newest-has g h r v [] e are f = cc
 newest-has g h r v (x ∷ es) e are f = newest-step g h r v x es e (newest r v es) refl (seals r v x) refl are f (newest-has g h r v es e are.1)
 
-pub half-for : (q : ℕ) (g : List ℕ) (h : List Act) (r : ℕ) (v : Packet) (e : SadEntry) → IsLawful q h → newest r v (live g h) ≡ Some e → IsHalfFor g h r v e
-half-for q g h r v e l f =
-    let are = halves-are q g h l in
+pub half-for : (g : List ℕ) (h : List Act) (r : ℕ) (v : Packet) (e : SadEntry) → AreInstalled g h → newest r v (live g h) ≡ Some e → IsHalfFor g h r v e
+half-for g h r v e l f =
+    let are = halves-are g h l in
     let n = newest-has g h r v (live g h) e are.put f in
     let s = and-both (not (is_inbound e.name)) ((e.reqid == r) && holds_packet e.selector Out v) n.0 in
     let t = and-both (e.reqid == r) (holds_packet e.selector Out v) s.1 in
     record { live = sym (live-is g e.name h) ∙ n.1; put = n.2; outbound = not-true (is_inbound e.name) s.0; own_reqid = t.0; holds = t.1 }
 
-pub half-of-spi : (q : ℕ) (g : List ℕ) (h : List Act) (spi : ℕ) (e : SadEntry) → IsLawful q h → by_spi spi (live g h) ≡ Some e → IsHalfOf g h spi e
-half-of-spi q g h spi e l f =
-    let are = halves-are q g h l in
+pub half-of-spi : (g : List ℕ) (h : List Act) (spi : ℕ) (e : SadEntry) → AreInstalled g h → by_spi spi (live g h) ≡ Some e → IsHalfOf g h spi e
+half-of-spi g h spi e l f =
+    let are = halves-are g h l in
     let p : SadEntry → Bool = λ x. is_inbound x.name && (x.spi == spi) in
     let n = found-has p (live g h) e f in
     let s = and-both (is_inbound e.name) (e.spi == spi) n.0 in
@@ -296,6 +297,6 @@ half-of-spi q g h spi e l f =
 
 -- ---- histories
 
-pub lawful-after : (q : ℕ) (h xs : List Act) → IsLawful q h → AllMay q h xs → IsLawful q (after h xs)
+pub lawful-after : (q : Gateway) (h xs : List Act) → IsLawful q h → AllMay q h xs → IsLawful q (after h xs)
 lawful-after q h [] l m = l
 lawful-after q h (a ∷ xs) l m = lawful-after q (a ∷ h) xs (m.0, l) m.1

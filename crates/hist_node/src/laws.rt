@@ -12,7 +12,7 @@ ghost use Rattle.hist_node.specs.Handle.{Fault};
 ghost use Rattle.reply_table.specs.declared.ask.Ask.{Ask};
 ghost use Rattle.hist_node.specs.State.{state_of, did, acquires};
 ghost use Rattle.hist_node.specs.Machine.{acts_of, next, run};
-ghost use Rattle.hist_node.specs.May.{has_half, IsNewHalf, AllMay, IsLawful, AreHalves, IsHalfFor, IsHalfOf, IsDelivery};
+ghost use Rattle.hist_node.specs.May.{has_half, IsNewHalf, AllMay, IsLawful, AreInstalled, AreHalves, IsHalfFor, IsHalfOf, IsDelivery};
 ghost use Rattle.hist_node.specs.Let.{newest};
 ghost use Rattle.hist_node.specs.Arrive.{uses};
 ghost use Rattle.hist_node.specs.Datagram.{datagram, next_header};
@@ -54,9 +54,9 @@ pub fn steps()
 
 /// Each act of a block says of the past before it what such an act may say, so each history of one gateway is lawful act by act.
 pub fn blocks_follow()
-    ensures acts { (c : Gateway) (h : List Act) (e : Event) → AllMay c.seq_last h (gw_block c h e) }
-    ensures block { (c : Gateway) (h : List Act) (e : Event) → IsLawful c.seq_last h → IsLawful c.seq_last (after h (gw_block c h e)) }
-    ensures history { (c : Gateway) (events : List Event) → IsLawful c.seq_last (after [] (gw_history c [] events)) }
+    ensures acts { (c : Gateway) (h : List Act) (e : Event) → AllMay c h (gw_block c h e) }
+    ensures block { (c : Gateway) (h : List Act) (e : Event) → IsLawful c h → IsLawful c (after h (gw_block c h e)) }
+    ensures history { (c : Gateway) (events : List Event) → IsLawful c (after [] (gw_history c [] events)) }
 {
     changes_fit();
 }
@@ -65,20 +65,24 @@ pub fn blocks_follow()
 /// installation, and gives none that it took before. So does every past that is lawful act by act.
 pub fn is_every_history_safe()
     ensures history { (c : Gateway) (events : List Event) → Safe (after [] (gw_history c [] events)) }
-    ensures lawful { (seq_last : ℕ) (h : List Act) → IsLawful seq_last h → Safe h }
+    ensures lawful { (c : Gateway) (h : List Act) → IsLawful c h → Safe h }
 {
     changes_fit();
 }
 
-/// The live halves of a lawful past: each is what was installed last under its name, no two have one name, no two inbound ones one
-/// SPI, and there are at most 4,096. So are the half that seals a packet and the one that an SPI names.
+/// The live halves of a gateway where each half that was installed might be: each is what was installed last under its name, no two
+/// have one name, no two inbound ones one SPI, and there are at most 4,096. So are the half that seals a packet and the one that an
+/// SPI names. Each block, and so each lawful past, installs only such halves, at any gateway.
 pub fn halves()
-    ensures kept { (seq_last : ℕ) (g : List ℕ) (h : List Act) → IsLawful seq_last h → AreHalves g h }
-    ensures outbound { (seq_last : ℕ) (g : List ℕ) (h : List Act) (reqid : ℕ) (v : Packet) (e : SadEntry) → IsLawful seq_last h →
+    ensures kept { (g : List ℕ) (h : List Act) → AreInstalled g h → AreHalves g h }
+    ensures outbound { (g : List ℕ) (h : List Act) (reqid : ℕ) (v : Packet) (e : SadEntry) → AreInstalled g h →
         newest reqid v (live g h) ≡ Some e → IsHalfFor g h reqid v e }
-    ensures inbound { (seq_last : ℕ) (g : List ℕ) (h : List Act) (spi : ℕ) (e : SadEntry) → IsLawful seq_last h →
-        by_spi spi (live g h) ≡ Some e → IsHalfOf g h spi e }
-{}
+    ensures inbound { (g : List ℕ) (h : List Act) (spi : ℕ) (e : SadEntry) → AreInstalled g h → by_spi spi (live g h) ≡ Some e → IsHalfOf g h spi e }
+    ensures blocks { (c : Gateway) (g : List ℕ) (h : List Act) (e : Event) → AreInstalled g h → AreInstalled g (after h (gw_block c h e)) }
+    ensures lawful { (c : Gateway) (g : List ℕ) (h : List Act) → IsLawful c h → AreInstalled g h }
+{
+    changes_fit();
+}
 
 /// The ESP octets of a datagram that is sent are those of its packet, under the half's keying with its number.
 pub fn sealed()
