@@ -6,3 +6,5 @@ pub mod MayLemmas
 pub mod SafeLemmas
 pub mod Shown
 pub mod AnswersLemmas
+pub mod HalvesLemmas
+pub mod DeliveryLemmas

@@ -6,13 +6,16 @@ use Rattle.replay_win.specs.Marks.{is_among, is_below, greatest, verdict_by, ver
 use Rattle.hist_acts.specs.declared.act.Act.{Act}
 use Rattle.hist_acts.specs.declared.act.Act.TheVariants as acts
 use Rattle.hist_acts.specs.Past.{after}
+use Rattle.ikeless_tree.specs.declared.association.SadEntry.{SadEntry}
+use Rattle.hist_halves.specs.Sealed.{number_of}
 use Rattle.hist_halves.specs.Halves.{is_half, sent, taken}
 use Rattle.hist_node.specs.Block.{Gateway, Event, gw_block, gw_history}
-use Rattle.hist_node.specs.May.{MayFollow, AllMay}
+use Rattle.hist_node.specs.May.{MayFollow, IsLawful}
 use Rattle.hist_node.specs.Safe.{numbers, Safe}
 use Rattle.hist_node.proofs.KeepsLemmas.{same-is}
 use Rattle.hist_node.proofs.MayLemmas.{AllFit, may-block}
 use Rattle.hist_node.proofs.StepsLemmas.{after-append}
+use Rattle.hist_node.proofs.HalvesLemmas.{lawful-after}
 
 -- ---- numbers are at most the count
 
@@ -63,7 +66,7 @@ fresh-is size ns s e = fresh-by size (greatest ns) s (is_among s ns) (s == 0) (i
 
 -- ---- each act
 
-good : (q : ℕ) (h : List Act) (a : Act) → MayFollow q h a → Good h → Good (a ∷ h)
+good : (q : Gateway) (h : List Act) (a : Act) → MayFollow q h a → Good h → Good (a ∷ h)
 good q h (acts.Clear f o) m k = record { few = k.few; safe = (m, k.safe) }
 good q h (acts.Pass f o) m k = record { few = k.few; safe = (m, k.safe) }
 good q h (acts.Put f e) m k = record { few = λ g x. few-put (is_half f e.name g x) (sent g x h) (numbers g x h) (k.few g x); safe = (tt, k.safe) }
@@ -71,18 +74,31 @@ good q h (acts.Sent f y n o) m k = record {
   few = λ g x. few-sent (is_half f y g x) (sent g x h) n (numbers g x h) (k.few g x) (same-sent h f y g x n m.number);
   safe = (subst (λ t. is_among t (numbers f y h) ≡ false) (sym m.number) (unused (sent f y h) (numbers f y h) (k.few f y)), k.safe);
 }
-good q h (acts.Gave f y n o) m k = record { few = k.few; safe = (fresh-is m.half.window (taken f y h) n m.fresh, k.safe) }
+good q h (acts.Gave f y n o) m k =
+    let e : SadEntry = m.opens.half in
+    let b : List ℕ = m.opens.outer.payload in
+    let own : verdict_over e.window (taken f y h) (number_of e (taken f y h) b) ≡ verdicts.Fresh = subst (λ x. verdict_over e.window (taken f x h) (number_of e (taken f x h) b) ≡ verdicts.Fresh) (sym m.name) m.opens.fresh in
+    let fresh : verdict_over e.window (taken f y h) n ≡ verdicts.Fresh = subst (λ s. verdict_over e.window (taken f y h) s ≡ verdicts.Fresh) (sym m.number) own in
+    record { few = k.few; safe = (fresh-is e.window (taken f y h) n fresh, k.safe) }
 good q h a m k = record { few = k.few; safe = (tt, k.safe) }
 
-good-all : (q : ℕ) (h xs : List Act) → AllMay q h xs → Good h → Good (after h xs)
-good-all q h [] m k = k
-good-all q h (a ∷ xs) m k = good-all q (a ∷ h) xs m.1 (good q h a m.0 k)
+good-lawful : (q : Gateway) (h : List Act) → IsLawful q h → Good h
+good-lawful q [] l = record { few = λ g x. tt; safe = tt }
+good-lawful q (a ∷ h) l = good q h a l.0 (good-lawful q h l.1)
 
-good-history : AllFit → (c : Gateway) (h : List Act) (es : List Event) → Good h → Good (after h (gw_history c h es))
-good-history fits c h [] k = k
-good-history fits c h (e ∷ es) k =
-    rw (after-append h (gw_block c h e) (gw_history c (after h (gw_block c h e)) es))
-    (good-history fits c (after h (gw_block c h e)) es (good-all c.seq_last h (gw_block c h e) (may-block fits c h e) k))
+pub safe-lawful : (q : Gateway) (h : List Act) → IsLawful q h → Safe h
+safe-lawful q h l = (good-lawful q h l).safe
+
+pub lawful-block : AllFit → (c : Gateway) (h : List Act) (e : Event) → IsLawful c h → IsLawful c (after h (gw_block c h e))
+lawful-block fits c h e l = lawful-after c h (gw_block c h e) l (may-block fits c h e)
+
+lawful-on : AllFit → (c : Gateway) (h : List Act) (es : List Event) → IsLawful c h → IsLawful c (after h (gw_history c h es))
+lawful-on fits c h [] l = l
+lawful-on fits c h (e ∷ es) l =
+    rw (after-append h (gw_block c h e) (gw_history c (after h (gw_block c h e)) es)) (lawful-on fits c (after h (gw_block c h e)) es (lawful-block fits c h e l))
+
+pub lawful-history : AllFit → (c : Gateway) (es : List Event) → IsLawful c (after [] (gw_history c [] es))
+lawful-history fits c es = lawful-on fits c [] es tt
 
 pub safe-history : AllFit → (c : Gateway) (es : List Event) → Safe (after [] (gw_history c [] es))
-safe-history fits c es = (good-history fits c [] es (record { few = λ g x. tt; safe = tt })).safe
+safe-history fits c es = safe-lawful c (after [] (gw_history c [] es)) (lawful-history fits c es)

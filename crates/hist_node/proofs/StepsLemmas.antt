@@ -16,7 +16,7 @@ keeps-all g h (a ∷ more) new = rw (sym (keeps g h a new.0)) (keeps-all g (a �
 
 pub next-is : Judges → AllFit → (c : Gateway) (h : List Act) (e : Event) → state_of c.name (after h (gw_block c h e)) ≡ next c (state_of c.name h) e
 next-is judges fits c h e =
-    rw (acts-are judges c h e) (keeps-all c.name h (gw_block c h e) (new-halves c.seq_last c.name h (gw_block c h e) (may-block fits c h e)))
+    rw (acts-are judges c h e) (keeps-all c.name h (gw_block c h e) (new-halves c c.name h (gw_block c h e) (may-block fits c h e)))
 
 pub run-is : Judges → AllFit → (c : Gateway) (h : List Act) (es : List Event) → run c (state_of c.name h) es ≡ gw_history c h es
 run-is judges fits c h [] = refl

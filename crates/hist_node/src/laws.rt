@@ -1,10 +1,10 @@
 // Laws for the crates above: each is the contract of a function with an empty body, or one that only calls such functions.
-ghost use Rattle.std.specs.Prelude.{◌≡◌, ℕ, true, false, List, [], ◌∷◌, Result};
+ghost use Rattle.std.specs.Prelude.{◌≡◌, ℕ, true, false, List, [], ◌∷◌, Some, Result};
 ghost use Rattle.std.specs.List.{list_any};
 ghost use Rattle.std.specs.Str.{bytes_eq};
 ghost use Rattle.hist_acts.specs.declared.act.Act.{Act};
 ghost use Rattle.hist_acts.specs.Past.{after};
-ghost use Rattle.hist_halves.specs.Halves.{live, is_live};
+ghost use Rattle.hist_halves.specs.Halves.{live, is_live, taken};
 ghost use Rattle.hist_node.specs.Stands.{acquire_stands};
 ghost use Rattle.hist_node.specs.Block.{Gateway, Event, Let, Arrive, Clock, Handle, gw_block, gw_history};
 ghost use Rattle.hist_node.specs.Answers.{answers_let, answers_arrival, is_answer, has_one_answer};
@@ -12,9 +12,19 @@ ghost use Rattle.hist_node.specs.Handle.{Fault};
 ghost use Rattle.reply_table.specs.declared.ask.Ask.{Ask};
 ghost use Rattle.hist_node.specs.State.{state_of, did, acquires};
 ghost use Rattle.hist_node.specs.Machine.{acts_of, next, run};
-ghost use Rattle.hist_node.specs.May.{has_half, IsNewHalf, AllMay};
+ghost use Rattle.hist_node.specs.May.{has_half, IsNewHalf, AllMay, IsLawful, AreInstalled, AreHalves, IsHalfFor, IsHalfOf, IsDelivery};
+ghost use Rattle.hist_node.specs.Let.{newest};
+ghost use Rattle.hist_node.specs.Arrive.{uses};
+ghost use Rattle.hist_node.specs.Datagram.{datagram, next_header};
+ghost use Rattle.hist_halves.specs.Sealed.{by_spi, esp_of, number_of};
+ghost use Rattle.hist_acts.specs.declared.act.Act.TheVariants as acts;
+ghost use Rattle.ikeless_tree.specs.declared.association.SadEntry.{SadEntry};
+ghost use Rattle.ip_packet.specs.View.{Packet};
+ghost use Rattle.ip_packet.specs.Outer.{AreOneFamily};
+ghost use Rattle.esp_frame.specs.Esp.{esp, keying};
 ghost use Rattle.hist_node.specs.Safe.{Safe};
 
+use ip_packet::sealed_view;
 use replay_win::verdicts;
 use reply_table::changes_fit;
 
@@ -42,20 +52,53 @@ pub fn steps()
     changes_fit();
 }
 
-/// Each act of a block says of the past before it what such an act may say.
+/// Each act of a block says of the past before it what such an act may say, so each history of one gateway is lawful act by act.
 pub fn blocks_follow()
-    ensures { (c : Gateway) (h : List Act) (e : Event) → AllMay c.seq_last h (gw_block c h e) }
+    ensures acts { (c : Gateway) (h : List Act) (e : Event) → AllMay c h (gw_block c h e) }
+    ensures block { (c : Gateway) (h : List Act) (e : Event) → IsLawful c h → IsLawful c (after h (gw_block c h e)) }
+    ensures history { (c : Gateway) (events : List Event) → IsLawful c (after [] (gw_history c [] events)) }
 {
     changes_fit();
 }
 
 /// Whatever comes to a gateway, it lets out and in in clear only what a bypass entry in force lets, sends no number twice under one
-/// installation, and gives none that it took before.
+/// installation, and gives none that it took before. So does every past that is lawful act by act.
 pub fn is_every_history_safe()
-    ensures { (c : Gateway) (events : List Event) → Safe (after [] (gw_history c [] events)) }
+    ensures history { (c : Gateway) (events : List Event) → Safe (after [] (gw_history c [] events)) }
+    ensures lawful { (c : Gateway) (h : List Act) → IsLawful c h → Safe h }
 {
     changes_fit();
 }
+
+/// The live halves of a gateway where each half that was installed might be: each is what was installed last under its name, no two
+/// have one name, no two inbound ones one SPI, and there are at most 4,096. So are the half that seals a packet and the one that an
+/// SPI names. Each block, and so each lawful past, installs only such halves, at any gateway.
+pub fn halves()
+    ensures kept { (g : List ℕ) (h : List Act) → AreInstalled g h → AreHalves g h }
+    ensures outbound { (g : List ℕ) (h : List Act) (reqid : ℕ) (v : Packet) (e : SadEntry) → AreInstalled g h →
+        newest reqid v (live g h) ≡ Some e → IsHalfFor g h reqid v e }
+    ensures inbound { (g : List ℕ) (h : List Act) (spi : ℕ) (e : SadEntry) → AreInstalled g h → by_spi spi (live g h) ≡ Some e → IsHalfOf g h spi e }
+    ensures blocks { (c : Gateway) (g : List ℕ) (h : List Act) (e : Event) → AreInstalled g h → AreInstalled g (after h (gw_block c h e)) }
+    ensures lawful { (c : Gateway) (g : List ℕ) (h : List Act) → IsLawful c h → AreInstalled g h }
+{
+    changes_fit();
+}
+
+/// The ESP octets of a datagram that is sent are those of its packet, under the half's keying with its number.
+pub fn sealed()
+    ensures { (e : SadEntry) (n : ℕ) (v : Packet) (o : List ℕ) → AreOneFamily e.local e.remote →
+        esp_of (datagram e n v o) ≡ esp (keying e.spi e.key) n (next_header o) o }
+{
+    sealed_view();
+}
+
+/// A datagram that must be given is given: it is ESP for the gateway's own address with the SPI of a live inbound half, its number is
+/// fresh, it opens to a packet of the version told, and the half's selector holds that packet.
+pub fn delivers()
+    ensures { (c : Gateway) (h : List Act) (o : List ℕ) (outer inner : Packet) (e : SadEntry) (text p : List ℕ) (next : ℕ) →
+        IsDelivery c h o outer inner e text next p →
+        gw_block c h (Arrive o) ≡ acts.Arrived c.name o ∷ uses c.name (acts.Arrived c.name o ∷ h) e (acts.Gave c.name e.name (number_of e (taken c.name e.name h) outer.payload) p) }
+{}
 
 /// A packet from inside has exactly one answer: it leaves in clear or sealed, or it is dropped. A datagram from outside has exactly
 /// one: it is given opened or passes in clear, or it is dropped. No other event has one.

@@ -3,4 +3,6 @@
 
 mod laws;
 
-pub use laws::{answers, blocks_follow, is_every_history_safe, keeps, readings, steps};
+pub use laws::{
+    answers, blocks_follow, delivers, halves, is_every_history_safe, keeps, readings, sealed, steps,
+};
