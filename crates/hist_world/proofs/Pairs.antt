@@ -1,17 +1,19 @@
 -- The two halves of an association: one key, one SPI, mirrored selectors, two gateways.
-use Rattle.std.proofs.Common.{◌≡◌, ℕ, ◌+◌, ◌≤◌, nat_lt, Bool, true, false, ◌&&◌, ◌||◌, List, [], ◌∷◌, decimal, Option, Some, ◌⊎◌, inl, inr, refl, sym, ◌∙◌, ap, subst, arith, if◌then◌else◌}
+use Rattle.std.proofs.Common.{◌==◌, ◌≡◌, ℕ, ◌+◌, ◌≤◌, nat_lt, Bool, true, false, ◌&&◌, ◌||◌, List, [], ◌∷◌, decimal, Option, Some, ◌⊎◌, inl, inr, refl, sym, ◌∙◌, ap, subst, arith, if◌then◌else◌}
 use Rattle.std.specs.Str.{bytes_eq}
 use Rattle.ikeless_tree.specs.declared.association.SadEntry.{SadEntry}
 use Rattle.ikeless_tree.specs.declared.command.Peer.{Peer}
 use Rattle.ikeless_tree.specs.declared.order.Order.TheVariants as asks
 use Rattle.hist_acts.specs.declared.act.Act.{Act}
 use Rattle.hist_acts.specs.declared.act.Act.TheVariants as acts
-use Rattle.hist_acts.specs.Sessions.{order_at}
+use Rattle.hist_acts.specs.Sessions.{is_session, order_at, orders}
 use Rattle.hist_halves.specs.Sealed.{is_inbound}
-use Rattle.hist_world.specs.Orders.{aes_part, in_half, inbounds, is_key_used, is_made, is_put, order_of, ordered, out_half, site}
+use Rattle.hist_world.specs.Orders.{aes_part, in_half, inbounds, is_key_used, is_made, is_put, order_of, ordered, out_half, place_of, session_of, site}
 use Rattle.hist_world.specs.Law.{IsLawful, MayPutIn, MayPutOut}
 use Rattle.hist_world.specs.Kept.{Pair}
-use Rattle.hist_world.proofs.Basics.{no, or-left, or-split, or-true, name-is, name-not, name-true, some-is, if-cases, if-new, if-old}
+use Rattle.hist_world.proofs.Sessions.{count-at, not-new}
+use Rattle.hist_world.proofs.Finality.{num-in}
+use Rattle.hist_world.proofs.Basics.{both, self, session-self, no, or-left, or-split, or-true, name-is, name-not, name-true, some-is, if-cases, if-new, if-old}
 use Rattle.hist_world.proofs.Orders.{in-out, in-serial, other, out-serial}
 
 -- what was ordered has an entry, of its name
@@ -32,6 +34,33 @@ order-name x e (acts.Order f s k (asks.Put d) ∷ h) q =
       | inr r ↦ order-name x e h r
     ]
 order-name x e (a ∷ h) q = order-name x e h q
+
+-- and stands as the order with its number, in its session, at its gateway
+stands-new : (f x : List ℕ) (t j : ℕ) (d : SadEntry) (h : List Act) (b : Bool) → b ≡ true →
+    order_at (if b then f else site x h) (if b then t else session_of x h) (if b then j else place_of x h) (acts.Order f t j (asks.Put d) ∷ h) ≡ Some (asks.Put d)
+stands-new f x t j d h true q = if-new (is_session f t f t && (j == j)) (Some (asks.Put d)) (order_at f t j h) (both (is_session f t f t) (j == j) (session-self f t) (self j))
+stands-new f x t j d h false q = absurd (no q)
+
+stands-old : (f x : List ℕ) (t j : ℕ) (d e : SadEntry) (h : List Act) (b : Bool) → b ≡ false → (is_session f t (site x h) (session_of x h) && (j == place_of x h)) ≡ false → order_at (site x h) (session_of x h) (place_of x h) h ≡ Some (asks.Put e) →
+    order_at (if b then f else site x h) (if b then t else session_of x h) (if b then j else place_of x h) (acts.Order f t j (asks.Put d) ∷ h) ≡ Some (asks.Put e)
+stands-old f x t j d e h true q r o = absurd (no (sym q))
+stands-old f x t j d e h false q r o = if-old (is_session f t (site x h) (session_of x h) && (j == place_of x h)) (Some (asks.Put d)) (order_at (site x h) (session_of x h) (place_of x h) h) r ∙ o
+
+not-this : (gs : List Peer) (f x : List ℕ) (t j : ℕ) (h : List Act) → IsLawful gs h → ordered x h ≡ true → j ≡ orders f t h + 1 → (is_session f t (site x h) (session_of x h) && (j == place_of x h)) ≡ false
+not-this gs f x t j h l o e =
+    not-new (is_session f t (site x h) (session_of x h) && (j == place_of x h)) (place_of x h) (orders (site x h) (session_of x h) h) (count-at orders f t j (site x h) (session_of x h) (place_of x h) h e) (num-in gs x h l o)
+
+pub order-stands : (gs : List Peer) (x : List ℕ) (e : SadEntry) (h : List Act) → IsLawful gs h → order_of x h ≡ Some e → order_at (site x h) (session_of x h) (place_of x h) h ≡ Some (asks.Put e)
+order-stands gs x e [] l q = absurd (grind arith)
+order-stands gs x e (acts.Order f t j (asks.Put d) ∷ h) l q =
+    elim (if-cases (bytes_eq d.name x) d e (order_of x h) q) as (λ z. order_at (if bytes_eq d.name x then f else site x h) (if bytes_eq d.name x then t else session_of x h) (if bytes_eq d.name x then j else place_of x h) (acts.Order f t j (asks.Put d) ∷ h) ≡ Some (asks.Put e)) [
+      | inl r ↦ stands-new f x t j d h (bytes_eq d.name x) r.0 ∙ ap (λ (z : SadEntry). Some (asks.Put z)) r.1
+      | inr r ↦ let o = order-ordered x e h r in stands-old f x t j d e h (bytes_eq d.name x) (other gs x f d h l.1 l.0.4 o) (not-this gs f x t j h l.1 o l.0.3) (order-stands gs x e h l.1 r)
+    ]
+order-stands gs x e (acts.Order f t j a ∷ h) l q =
+    let o = order-ordered x e h q in
+    if-old (is_session f t (site x h) (session_of x h) && (j == place_of x h)) (Some a) (order_at (site x h) (session_of x h) (place_of x h) h) (not-this gs f x t j h l.1 o l.0.3) ∙ order-stands gs x e h l.1 q
+order-stands gs x e (a ∷ h) l q = order-stands gs x e h l.1 q
 
 -- a half that was ordered has the name of one of the two
 abbrev pub Named : List ℕ → Type 0

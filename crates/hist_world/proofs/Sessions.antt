@@ -111,7 +111,7 @@ handled-ordered gs g s (acts.Handled f u j r ∷ h) l =
 handled-ordered gs g s (acts.Order f u j a ∷ h) l = more (is_session f u g s) (handled g s h) (orders g s h) (handled-ordered gs g s h l.1)
 handled-ordered gs g s (a ∷ h) l = handled-ordered gs g s h l.1
 
-not-new : (b : Bool) (k n : ℕ) → (b ≡ true → k ≡ n + 1) → k ≤ n → b ≡ false
+pub not-new : (b : Bool) (k n : ℕ) → (b ≡ true → k ≡ n + 1) → k ≤ n → b ≡ false
 not-new true k n q p = absurd (let r = q refl in omega (arith, r, p))
 not-new false k n q p = refl
 

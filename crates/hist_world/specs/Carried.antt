@@ -26,6 +26,14 @@ next_of p = if version p == 4 then 4 else 41
 abbrev pub keying_of : SadEntry → Keying
 keying_of e = keying e.spi e.key
 
+-- The half seals the packet p with the number n to the octets b, and opens octets to a text. Halves with numbers of 64 bits
+-- will differ here and in `number_of`.
+abbrev pub HalfSeals : SadEntry → ℕ → List ℕ → List ℕ → Type 0
+HalfSeals half n p b = b ≡ esp (keying_of half) n (next_of p) p
+
+abbrev pub HalfOpens : SadEntry → List ℕ → List ℕ → Type 0
+HalfOpens half b text = EspOpens (keying_of half) b text
+
 abbrev pub address_in : Option Peer → Option Addr
 address_in None = None
 address_in (Some p) = Some p.address
@@ -48,7 +56,7 @@ pub record Sends (g x : List ℕ) (n : ℕ) (p o : List ℕ) (h : List Act) : Ty
   pub holds : holds_packet half.selector Out packet ≡ true
   pub number : n ≡ sent g x h + 1
   pub small : n < 2 ^ 32
-  pub sealed : esp_of o ≡ esp (keying_of half) n (next_of p) p
+  pub sealed : HalfSeals half n p (esp_of o)
 
 -- ---- arriving
 
@@ -65,12 +73,12 @@ pub record ComesTo (gateways : List Peer) (g o : List ℕ) (half : SadEntry) (h 
 -- The arrival isn't forged: if it comes to a half and opens under its key, its ESP octets were sent under the other half.
 abbrev pub IsGenuine : List Peer → List ℕ → List ℕ → List Act → Type 0
 IsGenuine gateways g o h =
-    (half : SadEntry) (text : List ℕ) → ComesTo gateways g o half h → EspOpens (keying_of half) (esp_of o) text
+    (half : SadEntry) (text : List ℕ) → ComesTo gateways g o half h → HalfOpens half (esp_of o) text
     → is_sealed (other_half half.name) (esp_of o) h ≡ true
 
 -- the arrival comes to a half and opens under its key
 abbrev pub IsOpened : List Peer → List ℕ → List ℕ → List Act → Type 0
-IsOpened gateways g o h = (half : SadEntry) × (text : List ℕ) × ComesTo gateways g o half h × EspOpens (keying_of half) (esp_of o) text
+IsOpened gateways g o h = (half : SadEntry) × (text : List ℕ) × ComesTo gateways g o half h × HalfOpens half (esp_of o) text
 
 -- The arrival has the packet p under the half x with the number n: it comes to the half and opens to a packet that has a
 -- view of the version told, and that the half's selector holds as inbound (RFC 4301 section 5.2).
@@ -80,7 +88,7 @@ pub record Delivers (gateways : List Peer) (g o x : List ℕ) (n : ℕ) (p : Lis
   pub name : half.name ≡ x
   pub number : n ≡ number_of half (taken g x h) (esp_of o)
   pub text : List ℕ
-  pub opens : EspOpens (keying_of half) (esp_of o) text
+  pub opens : HalfOpens half (esp_of o) text
   pub inner : Inner text (next_of p) p
   pub packet : Packet
   pub view : view_of p ≡ Ok packet

@@ -7,14 +7,13 @@ use Rattle.ikeless_tree.specs.declared.association.SadEntry.{SadEntry}
 use Rattle.ikeless_tree.specs.declared.entry.Direction.TheVariants.{Out}
 use Rattle.ikeless_tree.specs.declared.order.Order.TheVariants as asks
 use Rattle.spd_match.specs.Match.{holds_packet}
-use Rattle.esp_frame.specs.Esp.{esp}
 use Rattle.replay_win.specs.Marks.{is_among}
 use Rattle.hist_acts.specs.declared.act.Act.{Act}
 use Rattle.hist_acts.specs.Sessions.{answered, handled, is_open, openings, order_at, orders, taken, was_cut}
 use Rattle.hist_halves.specs.Halves as halves
-use Rattle.hist_halves.specs.Sealed.{is_inbound, other_half}
+use Rattle.hist_halves.specs.Sealed.{by_spi, is_inbound, other_half}
 use Rattle.hist_world.specs.Orders.{aes_part, in_half, is_doomed, is_left, is_made, is_off, mirrored, order_of, ordered, out_half, place_of, session_of, site}
-use Rattle.hist_world.specs.Carried.{keying_of, next_of, was_given, was_sealed, was_sent}
+use Rattle.hist_world.specs.Carried.{HalfSeals, was_given, was_sealed, was_sent}
 
 -- the put of the half is handled, or passed over
 abbrev pub IsBehind : List ℕ → List Act → Type 0
@@ -55,7 +54,7 @@ Last t h = (ordered (out_half t) h ≡ false) ⊎ (is_off (out_half t) h ≡ tru
 abbrev pub Carried : List ℕ → List ℕ → ℕ → List ℕ → List ℕ → List Act → Type 0
 Carried g x n b p h =
     (o : SadEntry) × (packet : Packet) × (order_of x h ≡ Some o) × (site x h ≡ g) × (is_inbound x ≡ false) × (n < 2 ^ 32)
-    × (b ≡ esp (keying_of o) n (next_of p) p) × (view_of p ≡ Ok packet) × (holds_packet o.selector Out packet ≡ true)
+    × HalfSeals o n p b × (view_of p ≡ Ok packet) × (holds_packet o.selector Out packet ≡ true)
 
 -- a number that was given is among those taken under the half
 abbrev pub Given : List ℕ → ℕ → List Act → Type 0
@@ -74,6 +73,7 @@ pub record Kept (h : List Act) : Type 0 where
   pub handled_ordered : (g : List ℕ) (s : ℕ) → handled g s h ≤ orders g s h
   -- keys
   pub ordered_once : (g : List ℕ) (s k : ℕ) (e : SadEntry) → order_at g s k h ≡ Some (asks.Put e) → Placed g s k e h
+  pub order_stands : (x : List ℕ) (e : SadEntry) → order_of x h ≡ Some e → order_at (site x h) (session_of x h) (place_of x h) h ≡ Some (asks.Put e)
   pub put_as_ordered : (g x : List ℕ) (e : SadEntry) → halves.put_of g x h ≡ Some e → PutIs g x e h
   pub own_key : (t : List ℕ) → ordered (out_half t) h ≡ true → Pair t h
   pub keys_differ : (t u : List ℕ) (d e : SadEntry) → order_of (in_half t) h ≡ Some d → order_of (in_half u) h ≡ Some e → aes_part d.key ≡ aes_part e.key → t ≡ u
@@ -86,6 +86,9 @@ pub record Kept (h : List Act) : Type 0 where
   pub inbound_first : (t : List ℕ) → ordered (out_half t) h ≡ true → halves.was_put (site (in_half t) h) (in_half t) h ≡ true
   pub outbound_last : (t : List ℕ) → is_doomed (in_half t) h ≡ true → Last t h
   pub stays : (g x : List ℕ) → halves.was_put g x h ≡ true → (halves.is_live g x h ≡ true) ⊎ ((halves.is_lapsed g x h ≡ true) ⊎ (is_doomed x h ≡ true))
+  pub spi_names : (g : List ℕ) (spi : ℕ) (e : SadEntry) → by_spi spi (halves.live g h) ≡ Some e →
+      (halves.put_of g e.name h ≡ Some e) × (halves.is_live g e.name h ≡ true) × (is_inbound e.name ≡ true) × (e.spi ≡ spi)
+  pub spi_finds : (g t : List ℕ) (spi : ℕ) (e : SadEntry) → halves.is_live g (in_half t) h ≡ true → halves.put_of g (in_half t) h ≡ Some e → e.spi ≡ spi → by_spi spi (halves.live g h) ≡ Some e
   -- window
   pub carried : (g x : List ℕ) (n : ℕ) (b p : List ℕ) → was_sent g x n b p h ≡ true → Carried g x n b p h
   pub given : (x : List ℕ) (n : ℕ) → was_given x n h ≡ true → Given x n h
