@@ -24,6 +24,7 @@ use Rattle.hist_node.specs.Stands.{acquire_stands, overflow_given}
 use Rattle.hist_node.specs.Datagram.{datagram, fault_why, flow_of, next_header, outer_of, wrapped}
 use Rattle.hist_node.specs.Look.{look, tells}
 use Rattle.hist_node.specs.Let.{by_action, by_entry, by_half, by_view, let_acts, newer, newest, seals, sends, unless}
+use Rattle.hist_node.specs.Block.{Gateway}
 use Rattle.hist_node.specs.May.{AllMay, IsLetOut, IsSealedLet, MayFollow}
 use Rattle.hist_world.specs.Carried.{Sends, keying_of}
 use Rattle.hist_world.specs.Law.{IsLawful, MayAll, MayHappen, is_ready}
@@ -83,15 +84,15 @@ below q n p l = grind (arith, p, l)
 let-octets : (f g o p : List ℕ) (h older : List Act) → acts.Let f o ∷ h ≡ acts.Let g p ∷ older → (f ≡ g) × (o ≡ p) × (h ≡ older)
 let-octets f g o p h older e = grind (arith, e)
 
-sends-may : (gs : List Peer) (q : ℕ) (g o x d : List ℕ) (n : ℕ) (h : List Act) → IsLawful gs h → AllOneFamily (live g h) → q < 2 ^ 32
-    → IsSealedLet q (acts.Let g o ∷ h) g x n d → Sends g x n o d h
-sends-may gs q g o x d n h l family low s =
+sends-may : (gs : List Peer) (c : Gateway) (g o x d : List ℕ) (n : ℕ) (h : List Act) → IsLawful gs h → AllOneFamily (live g h) → c.seq_last < 2 ^ 32
+    → IsSealedLet c (acts.Let g o ∷ h) g x n d → Sends g x n o d h
+sends-may gs c g o x d n h l family low s =
     let b = let-octets g g o s.octets h s.let_before.older s.let_before.before in
     let new = newest-is s.entry.reqid s.packet (live g h) s.half s.newest in
     let st = stands gs g s.half h l new.0 in
     let fits = holds-of (is_inbound s.half.name) (s.half.reqid == s.entry.reqid) (holds_packet s.half.selector Out s.packet) new.1 in
     let m : n ≡ sent g x h + 1 = s.number in
-    let small : sent g x h + 1 < 2 ^ 32 = below q (sent g x h) s.in_limit low in
+    let small : sent g x h + 1 < 2 ^ 32 = below c.seq_last (sent g x h) s.in_limit low in
     record {
       half = s.half;
       put = subst (λ (z : List ℕ). put_of g z h ≡ Some s.half) (sym s.name) st.0;
@@ -166,24 +167,24 @@ clear-may h f o s = record {
   bypass = record { packet = s.packet; entry = s.entry; view = s.let_before.view; first = s.let_before.first; action = s.let_before.action };
 }
 
-answer-may : (gs : List Peer) (q : ℕ) (g o : List ℕ) (h : List Act) (a : Act) → IsLawful gs h → AllOneFamily (live g h) → q < 2 ^ 32
-    → LetAnswer g a → MayFollow q (acts.Let g o ∷ h) a → MayHappen gs a (acts.Let g o ∷ h) × (is_ready (a ∷ acts.Let g o ∷ h) ≡ true)
-answer-may gs q g o h (acts.Clear f p) l family low fits m = (clear-may (acts.Let g o ∷ h) f p m, refl)
-answer-may gs q g o h (acts.Sent f x n d) l family low fits m =
-    let m2 : IsSealedLet q (acts.Let g o ∷ h) g x n d = subst (λ (z : List ℕ). IsSealedLet q (acts.Let g o ∷ h) z x n d) fits m in
-    ((sym fits, subst (λ (z : List ℕ). Sends z x n o d h) (sym fits) (sends-may gs q g o x d n h l family low m2)), refl)
-answer-may gs q g o h (acts.Drop f w) l family low fits m = (sym fits, refl)
-answer-may gs q g o h a l family low fits m = absurd fits
+answer-may : (gs : List Peer) (c : Gateway) (g o : List ℕ) (h : List Act) (a : Act) → IsLawful gs h → AllOneFamily (live g h) → c.seq_last < 2 ^ 32
+    → LetAnswer g a → MayFollow c (acts.Let g o ∷ h) a → MayHappen gs a (acts.Let g o ∷ h) × (is_ready (a ∷ acts.Let g o ∷ h) ≡ true)
+answer-may gs c g o h (acts.Clear f p) l family low fits m = (clear-may (acts.Let g o ∷ h) f p m, refl)
+answer-may gs c g o h (acts.Sent f x n d) l family low fits m =
+    let m2 : IsSealedLet c (acts.Let g o ∷ h) g x n d = subst (λ (z : List ℕ). IsSealedLet c (acts.Let g o ∷ h) z x n d) fits m in
+    ((sym fits, subst (λ (z : List ℕ). Sends z x n o d h) (sym fits) (sends-may gs c g o x d n h l family low m2)), refl)
+answer-may gs c g o h (acts.Drop f w) l family low fits m = (sym fits, refl)
+answer-may gs c g o h a l family low fits m = absurd fits
 
 -- the answer to a packet and what follows it
-pub let-may : (gs : List Peer) (q : ℕ) (g o : List ℕ) (h : List Act) → IsLawful gs h → AllOneFamily (live g h) → q < 2 ^ 32
-    → AllMay q (acts.Let g o ∷ h) (let_acts g q (acts.Let g o ∷ h) o)
-    → MayAll gs (acts.Let g o ∷ h) (let_acts g q (acts.Let g o ∷ h) o) × (is_ready (after (acts.Let g o ∷ h) (let_acts g q (acts.Let g o ∷ h) o)) ≡ true)
-let-may gs q g o h l family low all =
+pub let-may : (gs : List Peer) (c : Gateway) (g o : List ℕ) (h : List Act) → IsLawful gs h → AllOneFamily (live g h) → c.seq_last < 2 ^ 32
+    → AllMay c (acts.Let g o ∷ h) (let_acts g c.seq_last (acts.Let g o ∷ h) o)
+    → MayAll gs (acts.Let g o ∷ h) (let_acts g c.seq_last (acts.Let g o ∷ h) o) × (is_ready (after (acts.Let g o ∷ h) (let_acts g c.seq_last (acts.Let g o ∷ h) o)) ≡ true)
+let-may gs c g o h l family low all =
     let w : List Act = acts.Let g o ∷ h in
-    let s = let-shape g o q w in
-    let all2 : AllMay q w (s.first ∷ s.rest) = subst (AllMay q w) s.parts all in
-    let a = answer-may gs q g o h s.first l family low s.fits all2.0 in
+    let s = let-shape g o c.seq_last w in
+    let all2 : AllMay c w (s.first ∷ s.rest) = subst (AllMay c w) s.parts all in
+    let a = answer-may gs c g o h s.first l family low s.fits all2.0 in
     let f = follow gs (s.first ∷ w) s.rest a.1 s.follow in
     let P : List Act → Type 0 = λ xs. MayAll gs w xs × (is_ready (after w xs) ≡ true) in
     subst P (sym s.parts) ((a.0, f.0), f.1)

@@ -1,2 +1,3 @@
 pub mod Followers
 pub mod Lets
+pub mod Arrives
