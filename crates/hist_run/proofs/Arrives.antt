@@ -33,7 +33,9 @@ use Rattle.hist_node.specs.Datagram.{fault_why, is_address}
 use Rattle.hist_node.specs.Look.{look, tells}
 use Rattle.hist_node.specs.Let.{unless}
 use Rattle.hist_node.specs.Arrive.{arrive_acts, by_action, by_entry, by_half, by_inner, by_number, by_packet, by_text, by_verdict, by_view, drops, esp_acts, is_sealed_for, is_told_version, uses}
-use Rattle.hist_node.specs.May.{AllMay, IsOpenedArrival, MayFollow}
+use Rattle.hist_node.specs.Block.{Gateway}
+use Rattle.hist_node.specs.May.{AllMay, IsDelivery, IsOpenedArrival, MayDrop, MayFollow, OpensArrival}
+use Rattle.hist_node.proofs.DeliveryLemmas.{delivers-is}
 use Rattle.hist_world.specs.Carried.{ComesTo, Delivers, IsGenuine, IsOpened, IsUndelivered, address_of, keying_of, next_of}
 use Rattle.hist_world.specs.Law.{MayAll, MayHappen, is_ready}
 use Rattle.hist_world.proofs.Basics.{no, both, both-left, both-right, eq-nat, name-is, name-self}
@@ -131,3 +133,194 @@ genuine gs g o own h at no-forgery = λ half text c opens.
     let opens_here : does_open (esp.opened (keying half.spi half.key) (esp_of o)) ≡ true = ap does_open (opened_finds (keying half.spi half.key) (esp_of o) text opens) in
     genuine-of (is_fresh (verdict_over half.window (taken g half.name h) (number_of half (taken g half.name h) (esp_of o))))
       (does_open (esp.opened (keying half.spi half.key) (esp_of o))) (is_sealed (other_half half.name) (esp_of o) h) v5 fresh opens_here
+
+-- ---- what is given
+
+to-delivery : (gs : List Peer) (c : Gateway) (o x : List ℕ) (n : ℕ) (p : List ℕ) (h : List Act) → address_of gs c.name ≡ Some c.address
+    → (d : Delivers gs c.name o x n p h) → IsDelivery c h o d.comes.packet d.packet d.half d.text (next_of p) p
+to-delivery gs c o x n p h at d =
+    let v : Packet = d.comes.packet in
+    let b = esp-is o v d.comes.view in
+    let same : c.address ≡ v.dst = let s : Some c.address ≡ Some v.dst = sym at ∙ d.comes.own in grind (arith, s) in
+    let e : SadEntry = d.half in
+    record {
+      view = d.comes.view;
+      own = both (v.proto == 50) (is_address v.dst c.address) (grind (arith, d.comes.proto)) (subst (λ (z : Addr). is_address z c.address ≡ true) same (own-address c.address));
+      whole = subst (λ (z : List ℕ). nat_lt (length z) 34 ≡ false) b (long (esp_of o) d.opens.0);
+      spi = ap (λ (z : List ℕ). by_spi (spi_of z) (live c.name h)) (sym b) ∙ d.comes.found;
+      fresh = ap (λ (z : List ℕ). verdict_over e.window (taken c.name e.name h) (number_of e (taken c.name e.name h) z)) (sym b) ∙ d.comes.fresh;
+      opened = ap (λ (z : List ℕ). esp.opened (keying e.spi e.key) z) (sym b) ∙ opened_finds (keying e.spi e.key) (esp_of o) d.text d.opens;
+      packet = packet_finds d.text p (next_of p) d.inner;
+      inner_view = d.view;
+      version = told (version p) (view-version p d.packet d.view);
+      held = d.holds;
+    }
+
+-- the octets and the past of the arrival that is answered
+same-arrival : (f g o p : List ℕ) (h older : List Act) → acts.Arrived f o ∷ h ≡ acts.Arrived g p ∷ older → (f ≡ g) × (o ≡ p) × (h ≡ older)
+same-arrival f g o p h older e = grind (arith, e)
+
+proto-is : (v : Packet) (own : Addr) → is_sealed_for own v ≡ true → v.proto ≡ 50
+proto-is v own e = eq-nat v.proto 50 (both-left (v.proto == 50) (is_address v.dst own) e)
+
+dst-is : (v : Packet) (own : Addr) → is_sealed_for own v ≡ true → own ≡ v.dst
+dst-is v own e = sym (same-address v.dst own (both-right (v.proto == 50) (is_address v.dst own) e))
+
+-- an arrival that opens comes to a half
+opens-comes : (gs : List Peer) (c : Gateway) (o : List ℕ) (h : List Act) → address_of gs c.name ≡ Some c.address → (a : OpensArrival c (acts.Arrived c.name o ∷ h) c.name)
+    → ComesTo gs c.name o a.half h × EspOpens (keying_of a.half) (esp_of o) a.text
+opens-comes gs c o h at a =
+    let s = same-arrival c.name c.name o a.octets h a.older a.before in
+    let view : view_of o ≡ Ok a.outer = ap view_of s.1 ∙ a.view in
+    let own : address_of gs c.name ≡ Some a.outer.dst = at ∙ ap Some (dst-is a.outer c.address a.own) in
+    let us : ToUs gs c.name o a.outer = record { view = view; proto = proto-is a.outer c.address a.own; own = own } in
+    let k : Keying = keying a.half.spi a.half.key in
+    (comes-to gs c.name o h a.outer a.half us a.spi a.fresh,
+    subst (λ (z : List ℕ). EspOpens k z a.text) (sym (esp-is o a.outer view)) (opens-to k a.outer.payload a.text a.opened))
+
+gives : (gs : List Peer) (c : Gateway) (o x : List ℕ) (n : ℕ) (p : List ℕ) (h : List Act) → address_of gs c.name ≡ Some c.address
+    → IsOpenedArrival c (acts.Arrived c.name o ∷ h) c.name x n p → Delivers gs c.name o x n p h
+gives gs c o x n p h at a =
+    let q = opens-comes gs c o h at a.opens in
+    let s = same-arrival c.name c.name o a.opens.octets h a.opens.older a.opens.before in
+    let view : view_of o ≡ Ok a.opens.outer = ap view_of s.1 ∙ a.opens.view in
+    let m : a.next ≡ next_of p = next-is a.next (version p) a.version in
+    let i : Inner a.opens.text a.next p = inner-of a.opens.text (record { next = a.next; octets = p }) a.packet in
+    record {
+      half = a.opens.half;
+      comes = q.0;
+      name = sym a.name;
+      number = a.number ∙ ap (λ (z : List ℕ). number_of a.opens.half (taken c.name x h) z) (sym (esp-is o a.opens.outer view));
+      text = a.opens.text;
+      opens = q.1;
+      inner = subst (λ (z : ℕ). Inner a.opens.text z p) m i;
+      packet = a.inner;
+      view = a.inner_view;
+      holds = a.held;
+    }
+
+-- ---- the shape of the answer
+
+abbrev ArriveAnswer : List ℕ → Act → Type 0
+ArriveAnswer g (acts.Gave f x n p) = f ≡ g
+ArriveAnswer g (acts.Pass f o) = f ≡ g
+ArriveAnswer g (acts.Drop f w) = f ≡ g
+ArriveAnswer g _ = ⊥
+
+inner-answer : (g : List ℕ) (e : SadEntry) (n next : ℕ) (p : List ℕ) (r : Result Packet NotPacket) → ArriveAnswer g (by_inner g e n next p r)
+inner-answer g e n next p (Err fault) = refl
+inner-answer g e n next p (Ok v) = told-answer (is_told_version next p) (holds_packet e.selector In v) where
+    told-answer : (t b : Bool) → ArriveAnswer g (if not t then acts.Drop g why.Inner else if b then acts.Gave g e.name n p else acts.Drop g why.Selector)
+    told-answer true true = refl
+    told-answer true false = refl
+    told-answer false b = refl
+
+packet-answer : (g : List ℕ) (e : SadEntry) (n : ℕ) (found : Option esp.Packet) → ArriveAnswer g (by_packet g e n found)
+packet-answer g e n None = refl
+packet-answer g e n (Some p) = dummy-answer (p.next == 59) (inner-answer g e n p.next p.octets (view_of p.octets)) where
+    dummy-answer : (b : Bool) → ArriveAnswer g (by_inner g e n p.next p.octets (view_of p.octets)) → ArriveAnswer g (if b then acts.Drop g why.Dummy else by_inner g e n p.next p.octets (view_of p.octets))
+    dummy-answer true a = refl
+    dummy-answer false a = a
+
+text-shape : (g : List ℕ) (h : List Act) (e : SadEntry) (n : ℕ) (found : Option (List ℕ)) → Shaped (ArriveAnswer g) (by_text g h e n found)
+text-shape g h e n None = shaped (ArriveAnswer g) (acts.Drop g why.Auth) [] refl refl
+text-shape g h e n (Some x) =
+    let a : Act = by_packet g e n (esp.packet_of x) in
+    shaped (ArriveAnswer g) a (look g (a ∷ h) (e ∷ [])) (packet-answer g e n (esp.packet_of x)) (look-follows g (a ∷ h) (e ∷ []))
+
+verdict-shape : (g : List ℕ) (h : List Act) (b : List ℕ) (e : SadEntry) (n : ℕ) (v : Verdict) → Shaped (ArriveAnswer g) (by_verdict g h b e n v)
+verdict-shape g h b e n verdicts.Zero = shaped (ArriveAnswer g) (acts.Drop g why.Zero) [] refl refl
+verdict-shape g h b e n verdicts.Old = shaped (ArriveAnswer g) (acts.Drop g why.Old) [] refl refl
+verdict-shape g h b e n verdicts.Seen = shaped (ArriveAnswer g) (acts.Drop g why.Seen) [] refl refl
+verdict-shape g h b e n verdicts.Fresh = text-shape g h e n (esp.opened (keying e.spi e.key) b)
+
+half-shape : (g : List ℕ) (h : List Act) (b : List ℕ) (found : Option SadEntry) → Shaped (ArriveAnswer g) (by_half g h b found)
+half-shape g h b None =
+    let told : List Act = tells g h (notices.BadSpi (spi_of b)) in
+    shaped (ArriveAnswer g) (acts.Drop g why.BadSpi) (unless (bad_spi_stands g (spi_of b) h) told) refl (unless-follows (bad_spi_stands g (spi_of b) h) told refl)
+half-shape g h b (Some e) =
+    let n : ℕ = number_of e (taken g e.name h) b in
+    verdict-shape g h b e n (verdict_over e.window (taken g e.name h) n)
+
+esp-shape : (g : List ℕ) (h : List Act) (b : List ℕ) → Shaped (ArriveAnswer g) (esp_acts g h b)
+esp-shape g h b =
+    shaped-if (ArriveAnswer g) (nat_lt (length b) 34) (drops g why.Short) (by_half g h b (by_spi (spi_of b) (live g h)))
+    (shaped (ArriveAnswer g) (acts.Drop g why.Short) [] refl refl) (half-shape g h b (by_spi (spi_of b) (live g h)))
+
+action-shape : (g o : List ℕ) (a : Action) → ArriveAnswer g (by_action g o a)
+action-shape g o actions.Protect = refl
+action-shape g o actions.Bypass = refl
+action-shape g o actions.Discard = refl
+
+entry-shape : (g o : List ℕ) (found : Option SpdEntry) → ArriveAnswer g (by_entry g o found)
+entry-shape g o None = refl
+entry-shape g o (Some p) = action-shape g o p.action
+
+view-shape : (g : List ℕ) (own : Addr) (h : List Act) (o : List ℕ) (r : Result Packet NotPacket) → Shaped (ArriveAnswer g) (by_view g own h o r)
+view-shape g own h o (Err fault) = shaped (ArriveAnswer g) (acts.Drop g (fault_why fault)) [] refl refl
+view-shape g own h o (Ok v) =
+    shaped-if (ArriveAnswer g) (is_sealed_for own v) (esp_acts g h v.payload) (by_entry g o (first_entry (force g h) In v) ∷ [])
+    (esp-shape g h v.payload) (shaped (ArriveAnswer g) (by_entry g o (first_entry (force g h) In v)) [] (entry-shape g o (first_entry (force g h) In v)) refl)
+
+arrive-shape : (g : List ℕ) (own : Addr) (h : List Act) (o : List ℕ) → Shaped (ArriveAnswer g) (arrive_acts g own h o)
+unfolding arrive_acts
+arrive-shape g own h o = view-shape g own h o (view_of o)
+
+-- ---- the answer may happen
+
+first-is : (a b : Act) (xs ys : List Act) → a ∷ xs ≡ b ∷ ys → a ≡ b
+first-is a b xs ys e = grind (arith, e)
+
+rest-is : (a b : Act) (xs ys : List Act) → a ∷ xs ≡ b ∷ ys → xs ≡ ys
+rest-is a b xs ys e = grind (arith, e)
+
+-- what has a packet is given
+given-first : (gs : List Peer) (c : Gateway) (o x : List ℕ) (n : ℕ) (p : List ℕ) (h : List Act) (a : Act) (rest : List Act) → address_of gs c.name ≡ Some c.address
+    → arrive_acts c.name c.address (acts.Arrived c.name o ∷ h) o ≡ a ∷ rest → Delivers gs c.name o x n p h → (m : ℕ) × (y : List ℕ) × (a ≡ acts.Gave c.name y m p)
+given-first gs c o x n p h a rest at parts d =
+    let e : SadEntry = d.half in
+    let m : ℕ = number_of e (taken c.name e.name h) d.comes.packet.payload in
+    let g : Act = acts.Gave c.name e.name m p in
+    let w = delivers-is c h o d.comes.packet d.packet e d.text p (next_of p) (to-delivery gs c o x n p h at d) in
+    let after_it = rest-is (acts.Arrived c.name o) (acts.Arrived c.name o) (arrive_acts c.name c.address (acts.Arrived c.name o ∷ h) o) (uses c.name (acts.Arrived c.name o ∷ h) e g) w in
+    (m, e.name, first-is a g rest (look c.name (g ∷ acts.Arrived c.name o ∷ h) (e ∷ [])) (sym parts ∙ after_it))
+
+drop-not : (f g x : List ℕ) (w : DropWhy) (n : ℕ) (p : List ℕ) → acts.Drop f w ≡ acts.Gave g x n p → ⊥
+drop-not f g x w n p e = grind (arith, e)
+
+pass-not : (f o g x : List ℕ) (n : ℕ) (p : List ℕ) → acts.Pass f o ≡ acts.Gave g x n p → ⊥
+pass-not f o g x n p e = grind (arith, e)
+
+opened-drop : (gs : List Peer) (c : Gateway) (o : List ℕ) (h : List Act) (b : Bool) → address_of gs c.name ≡ Some c.address → MayDrop c (acts.Arrived c.name o ∷ h) c.name b → b ≡ true → IsOpened gs c.name o h
+opened-drop gs c o h true at m e = let q = opens-comes gs c o h at m in (m.half, m.text, q.0, q.1)
+opened-drop gs c o h false at m e = absurd (no e)
+
+answer-may : (gs : List Peer) (c : Gateway) (o : List ℕ) (h : List Act) (a : Act) (rest : List Act) → address_of gs c.name ≡ Some c.address → IsGenuine gs c.name o h
+    → arrive_acts c.name c.address (acts.Arrived c.name o ∷ h) o ≡ a ∷ rest → ArriveAnswer c.name a → MayFollow c (acts.Arrived c.name o ∷ h) a
+    → MayHappen gs a (acts.Arrived c.name o ∷ h) × (is_ready (a ∷ acts.Arrived c.name o ∷ h) ≡ true)
+answer-may gs c o h (acts.Gave f x n p) rest at real parts fits m =
+    let m2 : IsOpenedArrival c (acts.Arrived c.name o ∷ h) c.name x n p = subst (λ (z : List ℕ). IsOpenedArrival c (acts.Arrived c.name o ∷ h) z x n p) fits m in
+    let P : List ℕ → Type 0 = λ z. (c.name ≡ z) × IsGenuine gs z o h × Delivers gs z o x n p h in
+    (subst P (sym fits) (refl, real, gives gs c o x n p h at m2), refl)
+answer-may gs c o h (acts.Pass f q) rest at real parts fits m =
+    let P : List ℕ → Type 0 = λ z. (c.name ≡ z) × IsGenuine gs z o h × IsUndelivered gs z o h in
+    (subst P (sym fits) (refl, real, λ x n p d. let g = given-first gs c o x n p h (acts.Pass f q) rest at parts d in pass-not f q c.name g.1 g.0 p g.2), refl)
+answer-may gs c o h (acts.Drop f w) rest at real parts fits m =
+    let m2 : MayDrop c (acts.Arrived c.name o ∷ h) c.name (is_opened w) = subst (λ (z : List ℕ). MayDrop c (acts.Arrived c.name o ∷ h) z (is_opened w)) fits m in
+    let P : List ℕ → Type 0 = λ z. (c.name ≡ z) × IsGenuine gs z o h × IsUndelivered gs z o h × (is_opened w ≡ true → IsOpened gs z o h) in
+    (subst P (sym fits) (refl, real, (λ x n p d. let g = given-first gs c o x n p h (acts.Drop f w) rest at parts d in drop-not f c.name g.1 w g.0 p g.2), opened-drop gs c o h (is_opened w) at m2), refl)
+answer-may gs c o h a rest at real parts fits m = absurd fits
+
+-- the answer to a datagram that isn't forged, and what follows it
+pub arrive-may : (gs : List Peer) (c : Gateway) (o : List ℕ) (h : List Act) → address_of gs c.name ≡ Some c.address → IsGenuine gs c.name o h
+    → AllMay c (acts.Arrived c.name o ∷ h) (arrive_acts c.name c.address (acts.Arrived c.name o ∷ h) o)
+    → MayAll gs (acts.Arrived c.name o ∷ h) (arrive_acts c.name c.address (acts.Arrived c.name o ∷ h) o)
+    × (is_ready (after (acts.Arrived c.name o ∷ h) (arrive_acts c.name c.address (acts.Arrived c.name o ∷ h) o)) ≡ true)
+arrive-may gs c o h at real all =
+    let w : List Act = acts.Arrived c.name o ∷ h in
+    let s = arrive-shape c.name c.address w o in
+    let all2 : AllMay c w (s.first ∷ s.rest) = subst (AllMay c w) s.parts all in
+    let a = answer-may gs c o h s.first s.rest at real s.parts s.fits all2.0 in
+    let f = follow gs (s.first ∷ w) s.rest a.1 s.follow in
+    let P : List Act → Type 0 = λ xs. MayAll gs w xs × (is_ready (after w xs) ≡ true) in
+    subst P (sym s.parts) ((a.0, f.0), f.1)
