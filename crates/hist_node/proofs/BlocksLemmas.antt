@@ -240,7 +240,7 @@ max-zero n = omega arith
 abbrev row-with : SadEntry → Limits → ℕ → SadRow
 row-with e c top = record { entry = e; state = record { current = c; top = top } }
 
-row-is : (g : List ℕ) (h : List Act) (e : SadEntry) → row_from (clock h) (half_of g h e) ≡ row_of g h e
+pub row-is : (g : List ℕ) (h : List Act) (e : SadEntry) → row_from (clock h) (half_of g h e) ≡ row_of g h e
 row-is g h e =
     let t = top-is (no_marks e.window) (taken g e.name h) in
     ap (λ top. row-with e (counts g e.name h) (if is_inbound e.name then top else sent g e.name h)) (t ∙ max-zero (greatest (taken g e.name h)))

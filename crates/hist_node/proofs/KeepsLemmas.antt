@@ -157,16 +157,16 @@ opened-away g f s h e at = rw at refl
 boot-away : (g f : List ℕ) (h : List Act) (e : SadEntry) → bytes_eq f g ≡ false → half_of g (acts.Boot f ∷ h) e ≡ half_of g h e
 boot-away g f h e at = rw at refl
 
-put-half : (g f : List ℕ) (x : SadEntry) (h : List Act) (e : SadEntry) → is_half f x.name g e.name ≡ false →
+pub put-half : (g f : List ℕ) (x : SadEntry) (h : List Act) (e : SadEntry) → is_half f x.name g e.name ≡ false →
     half_of g (acts.Put f x ∷ h) e ≡ half_of g h e
 put-half g f x h e away = rw away refl
 
-put-fresh : (g f : List ℕ) (x : SadEntry) (h : List Act) → bytes_eq f g ≡ true → half_of g (acts.Put f x ∷ h) x ≡ fresh (clock h) x
+pub put-fresh : (g f : List ℕ) (x : SadEntry) (h : List Act) → bytes_eq f g ≡ true → half_of g (acts.Put f x ∷ h) x ≡ fresh (clock h) x
 put-fresh g f x h at = rw (at, same-refl x.name) refl
 
 -- ---- lists of halves
 
-or-parts : (a b : Bool) → (a || b) ≡ false → (a ≡ false) × (b ≡ false)
+pub or-parts : (a b : Bool) → (a || b) ≡ false → (a ≡ false) × (b ≡ false)
 or-parts true b e = cc
 or-parts false b e = (refl, e)
 
@@ -178,7 +178,7 @@ and-false : (a b : Bool) → a ≡ false → (a && b) ≡ false
 and-false true b e = cc
 and-false false b e = refl
 
-no-half : (g f : List ℕ) (x e : SadEntry) → bytes_eq e.name x.name ≡ false → is_half f x.name g e.name ≡ false
+pub no-half : (g f : List ℕ) (x e : SadEntry) → bytes_eq e.name x.name ≡ false → is_half f x.name g e.name ≡ false
 no-half g f x e away = let s = same-sym x.name e.name in both-false (bytes_eq f g) (bytes_eq x.name e.name) (s ∙ away)
 
 put-halves : (g f : List ℕ) (x : SadEntry) (h : List Act) (es : List SadEntry) → bytes_eq f g ≡ true → has_half x.name es ≡ false →

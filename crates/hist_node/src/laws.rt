@@ -1,5 +1,5 @@
 // Laws for the crates above: each is the contract of a function with an empty body, or one that only calls such functions.
-ghost use Rattle.std.specs.Prelude.{◌≡◌, ℕ, true, false, List, [], ◌∷◌, Some, Result};
+ghost use Rattle.std.specs.Prelude.{◌≡◌, ℕ, true, false, List, [], ◌∷◌, Some, Ok, Result};
 ghost use Rattle.std.specs.List.{list_any};
 ghost use Rattle.std.specs.Str.{bytes_eq};
 ghost use Rattle.hist_acts.specs.declared.act.Act.{Act};
@@ -10,6 +10,8 @@ ghost use Rattle.hist_node.specs.Block.{Gateway, Event, Let, Arrive, Clock, Hand
 ghost use Rattle.hist_node.specs.Answers.{answers_let, answers_arrival, is_answer, has_one_answer};
 ghost use Rattle.hist_node.specs.Handle.{Fault};
 ghost use Rattle.reply_table.specs.declared.ask.Ask.{Ask};
+ghost use Rattle.reply_table.specs.Reply.{reply};
+ghost use Rattle.hist_node.specs.Rows.{tree_of};
 ghost use Rattle.hist_node.specs.State.{state_of, did, acquires};
 ghost use Rattle.hist_node.specs.Machine.{acts_of, next, run};
 ghost use Rattle.hist_node.specs.May.{has_half, IsNewHalf, AllMay, IsLawful, AreInstalled, AreHalves, IsHalfFor, IsHalfOf, IsDelivery};
@@ -99,6 +101,14 @@ pub fn delivers()
         IsDelivery c h o outer inner e text next p →
         gw_block c h (Arrive o) ≡ acts.Arrived c.name o ∷ uses c.name (acts.Arrived c.name o ∷ h) e (acts.Gave c.name e.name (number_of e (taken c.name e.name h) outer.payload) p) }
 {}
+
+/// The databases after a request are those that the reply table gives: the list in force, and the live halves with their counts.
+pub fn requests_change()
+    ensures { (c : Gateway) (h : List Act) (ask : Ask) →
+        tree_of c.name (after h (gw_block c h (Handle (Ok ask)))) ≡ (reply (tree_of c.name h) ask).tree }
+{
+    changes_fit();
+}
 
 /// A packet from inside has exactly one answer: it leaves in clear or sealed, or it is dropped. A datagram from outside has exactly
 /// one: it is given opened or passes in clear, or it is dropped. No other event has one.
