@@ -1,11 +1,9 @@
 -- The databases after a request are those of its reply.
-use Rattle.std.proofs.Common.{◌≡◌, ℕ, ◌+◌, ◌-◌, Bool, true, false, not, List, [], ◌∷◌, ◌++◌, map, filter, Ok, refl, sym, ◌∙◌, ap, arith, if◌then◌else◌}
-use Rattle.std.specs.List.{list_any}
+use Rattle.std.proofs.Common.{◌≡◌, ℕ, ◌+◌, ◌-◌, Bool, true, false, List, [], ◌∷◌, ◌++◌, map, Ok, refl, sym, ◌∙◌, ap, arith, if◌then◌else◌}
 use Rattle.std.specs.Str.{bytes_eq}
 use Rattle.ikeless_tree.specs.declared.association.SadEntry.{SadEntry}
 use Rattle.ikeless_tree.specs.declared.association.SadRow.{SadRow}
 use Rattle.ikeless_tree.specs.declared.association.Tree.{Tree}
-use Rattle.ikeless_tree.specs.declared.entry.SpdEntry.{SpdEntry}
 use Rattle.ikeless_tree.specs.declared.reply.GoneWhy.TheVariants as gone
 use Rattle.reply_table.specs.declared.ask.Ask.{Ask}
 use Rattle.reply_table.specs.declared.ask.Change.{Change}
@@ -13,7 +11,7 @@ use Rattle.reply_table.specs.declared.ask.Change.TheVariants as changes
 use Rattle.reply_table.specs.Reply as table
 use Rattle.hist_acts.specs.declared.act.Act.{Act}
 use Rattle.hist_acts.specs.declared.act.Act.TheVariants as acts
-use Rattle.hist_acts.specs.Past.{after, clock, force}
+use Rattle.hist_acts.specs.Past.{after, clock}
 use Rattle.hist_acts.specs.Sessions as sessions
 use Rattle.hist_halves.specs.Sealed.{is_inbound}
 use Rattle.hist_halves.specs.Halves.{live, without}
@@ -22,7 +20,7 @@ use Rattle.hist_node.specs.Rows.{row_of, tree_of}
 use Rattle.hist_node.specs.Handle.{answer_of, change_acts, requests}
 use Rattle.hist_node.specs.Block.{Gateway, Handle, gw_block}
 use Rattle.hist_node.specs.May.{has_half}
-use Rattle.hist_node.specs.State.{half_of, fresh}
+use Rattle.hist_node.specs.State.{fresh}
 use Rattle.hist_node.specs.Machine.{row_from}
 use Rattle.hist_node.proofs.KeepsLemmas.{same-refl, put-half, put-fresh, no-half, or-parts}
 use Rattle.hist_node.proofs.BlocksLemmas.{row-is}
