@@ -38,7 +38,8 @@ use Rattle.hist_node.specs.Let.{seals, newer, newest, unless, sends, by_half, by
 use Rattle.hist_node.specs.Arrive as arrive
 use Rattle.hist_node.specs.Handle.{Fault, handle_acts, reply_acts, requests}
 use Rattle.hist_node.specs.Block.{Gateway, Event, Let, Arrive, Clock, Handle, Session_taken, gw_block, clock_acts}
-use Rattle.hist_node.specs.State.{Half, half_of, state_of, sent_under, given_under, opened_under, send, take_number, number_in}
+use Rattle.hist_node.specs.State.{Half, half_of, state_of, sent_under, given_under, opened_under, send, take_number}
+use Rattle.hist_node.specs.Uses.{number_in}
 use Rattle.hist_node.specs.Machine.{goings_of, expiries_of, look_of, newer_of, newest_of, sends_of, out_by_half, out_by_action, out_by_entry, out_by_view, uses_of, in_by_text, in_by_verdict, in_by_half, half_by_spi, in_esp, in_by_view, row_from, tree_from, handles, ticks, acts_of}
 use Rattle.hist_node.proofs.KeepsLemmas.{same-refl, sent-split, gave-split, opened-split}
 use Rattle.hist_node.proofs.ReadingsLemmas.{acquires-is}
@@ -240,7 +241,7 @@ max-zero n = omega arith
 abbrev row-with : SadEntry → Limits → ℕ → SadRow
 row-with e c top = record { entry = e; state = record { current = c; top = top } }
 
-row-is : (g : List ℕ) (h : List Act) (e : SadEntry) → row_from (clock h) (half_of g h e) ≡ row_of g h e
+pub row-is : (g : List ℕ) (h : List Act) (e : SadEntry) → row_from (clock h) (half_of g h e) ≡ row_of g h e
 row-is g h e =
     let t = top-is (no_marks e.window) (taken g e.name h) in
     ap (λ top. row-with e (counts g e.name h) (if is_inbound e.name then top else sent g e.name h)) (t ∙ max-zero (greatest (taken g e.name h)))

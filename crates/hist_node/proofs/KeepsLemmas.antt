@@ -24,7 +24,8 @@ use Rattle.hist_node.specs.Uses.{names_half}
 use Rattle.ikeless_tree.specs.declared.order.Answer.{Answer}
 use Rattle.ikeless_tree.specs.declared.order.Notice.TheVariants as notices
 use Rattle.hist_node.specs.Stands.{with_spi, bad_spis}
-use Rattle.hist_node.specs.State.{number_in, entries_of, with_put, with_session, with_notice, wanted_after, with_acquire, acquires}
+use Rattle.hist_node.specs.State.{entries_of, with_put, with_session, with_notice, wanted_after, with_acquire, acquires}
+use Rattle.hist_node.specs.Uses.{number_in}
 
 -- ---- lists
 
@@ -106,7 +107,7 @@ gave-away : (g f y o : List ℕ) (n : ℕ) (h : List Act) (e : SadEntry) → byt
 gave-away g f y o n h e at = rw at refl
 
 -- the number of the arrival for a half is the field
-abbrev number_for : List ℕ → List SadEntry → Option (List ℕ) → Option ℕ
+abbrev pub number_for : List ℕ → List SadEntry → Option (List ℕ) → Option ℕ
 number_for x es o = if is_for x es o then Some (number_in o) else None
 
 found-number : (x numbers o : List ℕ) (found : Option SadEntry) →
@@ -119,7 +120,7 @@ number-at : (g x numbers f o : List ℕ) (h : List Act) (b : Bool) → bytes_eq 
 number-at g x numbers f o h true at = rw at (found-number x numbers o (by_spi (spi_of (esp_of o)) (live g h)))
 number-at g x numbers f o h false at = rw at refl
 
-number-is : (g x numbers : List ℕ) (h : List Act) → arrival_number g x numbers h ≡ number_for x (live g h) (arrival g h)
+pub number-is : (g x numbers : List ℕ) (h : List Act) → arrival_number g x numbers h ≡ number_for x (live g h) (arrival g h)
 number-is g x numbers [] = refl
 number-is g x numbers (acts.Arrived f o ∷ h) = number-at g x numbers f o h (bytes_eq f g) refl
 number-is g x numbers (a ∷ h) = refl
@@ -157,16 +158,16 @@ opened-away g f s h e at = rw at refl
 boot-away : (g f : List ℕ) (h : List Act) (e : SadEntry) → bytes_eq f g ≡ false → half_of g (acts.Boot f ∷ h) e ≡ half_of g h e
 boot-away g f h e at = rw at refl
 
-put-half : (g f : List ℕ) (x : SadEntry) (h : List Act) (e : SadEntry) → is_half f x.name g e.name ≡ false →
+pub put-half : (g f : List ℕ) (x : SadEntry) (h : List Act) (e : SadEntry) → is_half f x.name g e.name ≡ false →
     half_of g (acts.Put f x ∷ h) e ≡ half_of g h e
 put-half g f x h e away = rw away refl
 
-put-fresh : (g f : List ℕ) (x : SadEntry) (h : List Act) → bytes_eq f g ≡ true → half_of g (acts.Put f x ∷ h) x ≡ fresh (clock h) x
+pub put-fresh : (g f : List ℕ) (x : SadEntry) (h : List Act) → bytes_eq f g ≡ true → half_of g (acts.Put f x ∷ h) x ≡ fresh (clock h) x
 put-fresh g f x h at = rw (at, same-refl x.name) refl
 
 -- ---- lists of halves
 
-or-parts : (a b : Bool) → (a || b) ≡ false → (a ≡ false) × (b ≡ false)
+pub or-parts : (a b : Bool) → (a || b) ≡ false → (a ≡ false) × (b ≡ false)
 or-parts true b e = cc
 or-parts false b e = (refl, e)
 
@@ -178,7 +179,7 @@ and-false : (a b : Bool) → a ≡ false → (a && b) ≡ false
 and-false true b e = cc
 and-false false b e = refl
 
-no-half : (g f : List ℕ) (x e : SadEntry) → bytes_eq e.name x.name ≡ false → is_half f x.name g e.name ≡ false
+pub no-half : (g f : List ℕ) (x e : SadEntry) → bytes_eq e.name x.name ≡ false → is_half f x.name g e.name ≡ false
 no-half g f x e away = let s = same-sym x.name e.name in both-false (bytes_eq f g) (bytes_eq x.name e.name) (s ∙ away)
 
 put-halves : (g f : List ℕ) (x : SadEntry) (h : List Act) (es : List SadEntry) → bytes_eq f g ≡ true → has_half x.name es ≡ false →

@@ -8,3 +8,4 @@ pub mod Shown
 pub mod AnswersLemmas
 pub mod HalvesLemmas
 pub mod DeliveryLemmas
+pub mod TreeLemmas

@@ -252,7 +252,7 @@ may-arrive q g o h = may-arrived q (acts.Arrived g o ∷ h) h g o (view_of o) re
 
 -- ---- a request
 
-any-map : (p : SadRow → Bool) (f : SadEntry → SadRow) (es : List SadEntry) → list_any p (map f es) ≡ list_any (λ e. p (f e)) es
+pub any-map : (p : SadRow → Bool) (f : SadEntry → SadRow) (es : List SadEntry) → list_any p (map f es) ≡ list_any (λ e. p (f e)) es
 any-map p f [] = refl
 any-map p f (e ∷ es) = ap (λ t. p (f e) || t) (any-map p f es)
 

@@ -1,5 +1,5 @@
 -- Words that gather a list say what their plain readings say.
-use Rattle.std.proofs.Common.{◌≡◌, ℕ, Bool, true, false, not, ◌&&◌, ◌||◌, List, [], ◌∷◌, ◌++◌, refl, sym, ◌∙◌, ap, arith, if◌then◌else◌}
+use Rattle.std.proofs.Common.{◌≡◌, ℕ, Bool, true, false, not, ◌&&◌, ◌||◌, List, [], ◌∷◌, ◌++◌, refl, sym, ◌∙◌, ap, arith, if◌then◌else◌, ◌==◌, Some, None}
 use Rattle.std.specs.List.{list_any}
 use Rattle.std.specs.Str.{bytes_eq}
 use Rattle.ikeless_tree.specs.declared.entry.SpdEntry.{SpdEntry}
@@ -9,12 +9,14 @@ use Rattle.ikeless_tree.specs.declared.order.Notice.TheVariants as notices
 use Rattle.hist_acts.specs.declared.act.Act.{Act}
 use Rattle.hist_acts.specs.declared.act.Act.TheVariants as acts
 use Rattle.hist_acts.specs.Past.{force}
-use Rattle.hist_halves.specs.Sealed.{is_inbound}
-use Rattle.hist_halves.specs.Halves.{is_half, live, is_live, without}
-use Rattle.hist_node.specs.Stands.{has_reqid, is_acquire_of, acquire_stands}
+use Rattle.hist_halves.specs.Sealed.{is_inbound, is_opened}
+use Rattle.replay_win.specs.Marks.{is_among}
+use Rattle.hist_node.specs.Uses.{arrival, is_for, number_in, was_taken}
+use Rattle.hist_halves.specs.Halves.{is_half, live, is_live, taken, with_number, without}
+use Rattle.hist_node.specs.Stands.{has_reqid, is_acquire_of, acquire_stands, soft_given, soft_stands, overflow_given, overflow_stands}
 use Rattle.hist_node.specs.State.{acquires, unwanted, with_acquire}
 use Rattle.hist_node.specs.May.{has_half}
-use Rattle.hist_node.proofs.KeepsLemmas.{same-is}
+use Rattle.hist_node.proofs.KeepsLemmas.{number-is, same-is}
 
 pub any-end : {A : Type 0} (p : A → Bool) (xs : List A) (x : A) → list_any p (xs ++ x ∷ []) ≡ (p x || list_any p xs)
 any-end p [] x = grind arith
@@ -129,3 +131,38 @@ acquires-is g name (acts.Put f e ∷ h) =
 acquires-is g name (acts.Opened f s ∷ h) = acquires-clear g name f h (bytes_eq f g) refl (acquires-is g name h)
 acquires-is g name (acts.Boot f ∷ h) = acquires-clear g name f h (bytes_eq f g) refl (acquires-is g name h)
 acquires-is g name (a ∷ h) = acquires-is g name h
+
+-- ---- numbers taken
+
+among-end : (s n : ℕ) (ns : List ℕ) → is_among s (ns ++ n ∷ []) ≡ ((s == n) || is_among s ns)
+among-end s n ns = any-end (λ k. s == k) ns n
+
+taken-put : (b : Bool) (s : ℕ) (ns : List ℕ) → is_among s (if b then [] else ns) ≡ (not b && is_among s ns)
+taken-put true s ns = refl
+taken-put false s ns = refl
+
+taken-gave : (b : Bool) (s n : ℕ) (ns : List ℕ) → is_among s (if b then ns ++ n ∷ [] else ns) ≡ ((b && (s == n)) || is_among s ns)
+taken-gave true s n ns = among-end s n ns
+taken-gave false s n ns = refl
+
+taken-drop : (b i : Bool) (s n : ℕ) (ns : List ℕ) → is_among s (if b then with_number ns (if i then Some n else None) else ns) ≡ (((b && i) && (s == n)) || is_among s ns)
+taken-drop true true s n ns = among-end s n ns
+taken-drop true false s n ns = refl
+taken-drop false i s n ns = refl
+
+pub taken-is : (g x : List ℕ) (s : ℕ) (h : List Act) → is_among s (taken g x h) ≡ was_taken g x s h
+taken-is g x s [] = refl
+taken-is g x s (acts.Put f e ∷ h) = rw (sym (taken-is g x s h)) (taken-put (is_half f e.name g x) s (taken g x h))
+taken-is g x s (acts.Gave f y n o ∷ h) = rw (sym (taken-is g x s h)) (taken-gave (is_half f y g x) s n (taken g x h))
+taken-is g x s (acts.Drop f w ∷ h) =
+    rw (sym (taken-is g x s h), number-is g x (taken g x h) h)
+    (taken-drop (bytes_eq f g && is_opened w) (is_for x (live g h) (arrival g h)) s (number_in (arrival g h)) (taken g x h))
+taken-is g x s (a ∷ h) = taken-is g x s h
+
+-- ---- notices of a live half
+
+pub soft-is : (g x : List ℕ) (h : List Act) → is_live g x h ≡ true → soft_stands g x h ≡ soft_given g x h
+soft-is g x h l = rw l refl
+
+pub overflow-is : (g x : List ℕ) (h : List Act) → is_live g x h ≡ true → overflow_stands g x h ≡ overflow_given g x h
+overflow-is g x h l = rw l refl

@@ -6,14 +6,13 @@ use Rattle.ikeless_tree.specs.declared.association.SadEntry.{SadEntry}
 use Rattle.ikeless_tree.specs.declared.order.Notice.{Notice}
 use Rattle.ikeless_tree.specs.declared.order.Notice.TheVariants as notices
 use Rattle.replay_win.specs.Marks.{Marks, marked, no_marks}
-use Rattle.esp_frame.specs.Esp.{seq_of}
 use Rattle.hist_acts.specs.declared.act.Act.{Act}
 use Rattle.hist_acts.specs.declared.act.Act.TheVariants as acts
 use Rattle.hist_acts.specs.Past.{force, clock}
 use Rattle.hist_acts.specs.Sessions as sessions
-use Rattle.hist_halves.specs.Sealed.{is_inbound, esp_of, is_opened}
+use Rattle.hist_halves.specs.Sealed.{is_inbound, is_opened}
 use Rattle.hist_halves.specs.Halves.{live, sent, taken}
-use Rattle.hist_node.specs.Uses.{arrival, is_for, octets_in, installed_at, last_used, octets_used, times_used, cut_32, cut_64}
+use Rattle.hist_node.specs.Uses.{arrival, is_for, number_in, octets_in, installed_at, last_used, octets_used, times_used, cut_32, cut_64}
 use Rattle.hist_node.specs.Stands.{has_reqid, is_soft_of, is_overflow_of, soft_given, overflow_given, with_spi, bad_spis}
 use Rattle.hist_node.specs.Handle.{requests}
 
@@ -300,10 +299,6 @@ sent_under y now size x = if bytes_eq y x.entry.name then send now size x else x
 
 abbrev pub given_under : List ℕ → ℕ → ℕ → ℕ → Half → Half
 given_under y now size n x = if bytes_eq y x.entry.name then take_number now size n x else x
-
-abbrev pub number_in : Option (List ℕ) → ℕ
-number_in None = 0
-number_in (Some o) = seq_of (esp_of o)
 
 -- what was opened counts for its half, though it is dropped
 abbrev pub opened_under : List SadEntry → Option (List ℕ) → ℕ → Half → Half

@@ -1,13 +1,13 @@
 -- The uses of a half and its counts (the lifetimes of RFC 4301 section 4.4.2.1). A past has its newest act first. In each test
 -- the name in the act stands first and the name asked for second.
-use Rattle.std.specs.Prelude.{ℕ, ◌+◌, ◌-◌, ◌&&◌, nat_le, Bool, false, List, [], ◌∷◌, length, Option, Some, None, if◌then◌else◌}
+use Rattle.std.specs.Prelude.{not, ◌||◌, ◌==◌, ℕ, ◌+◌, ◌-◌, ◌&&◌, nat_le, Bool, false, List, [], ◌∷◌, length, Option, Some, None, if◌then◌else◌}
 use Rattle.std.specs.Str.{bytes_eq}
 use Rattle.ikeless_tree.specs.declared.association.Limits.{Limits}
 use Rattle.ikeless_tree.specs.declared.association.SadEntry.{SadEntry}
 use Rattle.hist_acts.specs.declared.act.Act.{Act}
 use Rattle.hist_acts.specs.declared.act.Act.TheVariants as acts
 use Rattle.hist_acts.specs.Past.{clock}
-use Rattle.esp_frame.specs.Esp.{spi_of}
+use Rattle.esp_frame.specs.Esp.{seq_of, spi_of}
 use Rattle.hist_halves.specs.Sealed.{esp_of, by_spi, is_opened}
 use Rattle.hist_halves.specs.Halves.{is_half, live}
 
@@ -85,3 +85,17 @@ counts_at now installed used octets times = record {
 -- the counts of a half since its installation
 abbrev pub counts : List ℕ → List ℕ → List Act → Limits
 counts g x h = counts_at (clock h) (installed_at g x h) (last_used g x h) (octets_used g x h) (times_used g x h)
+
+-- ---- a plain reading
+
+abbrev pub number_in : Option (List ℕ) → ℕ
+number_in None = 0
+number_in (Some o) = seq_of (esp_of o)
+
+-- the number was taken under the half since its installation: with what was given, or with what was dropped after it had opened
+abbrev pub was_taken : List ℕ → List ℕ → ℕ → List Act → Bool
+was_taken g x s [] = false
+was_taken g x s (acts.Put f e ∷ h) = not (is_half f e.name g x) && was_taken g x s h
+was_taken g x s (acts.Gave f y n o ∷ h) = (is_half f y g x && (s == n)) || was_taken g x s h
+was_taken g x s (acts.Drop f w ∷ h) = (is_use g x (acts.Drop f w) h && (s == number_in (arrival g h))) || was_taken g x s h
+was_taken g x s (_ ∷ h) = was_taken g x s h

@@ -1,15 +1,19 @@
 // Laws for the crates above: each is the contract of a function with an empty body, or one that only calls such functions.
-ghost use Rattle.std.specs.Prelude.{◌≡◌, ℕ, true, false, List, [], ◌∷◌, Some, Result};
+ghost use Rattle.std.specs.Prelude.{◌≡◌, ℕ, true, false, List, [], ◌∷◌, Some, Ok, Result};
 ghost use Rattle.std.specs.List.{list_any};
 ghost use Rattle.std.specs.Str.{bytes_eq};
 ghost use Rattle.hist_acts.specs.declared.act.Act.{Act};
 ghost use Rattle.hist_acts.specs.Past.{after};
 ghost use Rattle.hist_halves.specs.Halves.{live, is_live, taken};
-ghost use Rattle.hist_node.specs.Stands.{acquire_stands};
+ghost use Rattle.hist_node.specs.Stands.{acquire_stands, soft_given, soft_stands, overflow_given, overflow_stands};
+ghost use Rattle.hist_node.specs.Uses.{was_taken};
+ghost use Rattle.replay_win.specs.Marks.{is_among};
 ghost use Rattle.hist_node.specs.Block.{Gateway, Event, Let, Arrive, Clock, Handle, gw_block, gw_history};
 ghost use Rattle.hist_node.specs.Answers.{answers_let, answers_arrival, is_answer, has_one_answer};
 ghost use Rattle.hist_node.specs.Handle.{Fault};
 ghost use Rattle.reply_table.specs.declared.ask.Ask.{Ask};
+ghost use Rattle.reply_table.specs.Reply.{reply};
+ghost use Rattle.hist_node.specs.Rows.{tree_of};
 ghost use Rattle.hist_node.specs.State.{state_of, did, acquires};
 ghost use Rattle.hist_node.specs.Machine.{acts_of, next, run};
 ghost use Rattle.hist_node.specs.May.{has_half, IsNewHalf, AllMay, IsLawful, AreInstalled, AreHalves, IsHalfFor, IsHalfOf, IsDelivery};
@@ -36,10 +40,14 @@ pub fn keeps()
 {}
 
 /// The lists are what their words say: a half is among the live ones where its installation stands and neither its end nor a
-/// restart follows, and a policy is among those of the acquires where one of it stands.
+/// restart follows, a policy is among those of the acquires where one of it stands, and a number is among those taken where what
+/// arrived with it was given, or dropped after it had opened. A notice that was given of a live half stands.
 pub fn readings()
     ensures live { (g x : List ℕ) (h : List Act) → has_half x (live g h) ≡ is_live g x h }
     ensures acquires { (g name : List ℕ) (h : List Act) → list_any (λ p. bytes_eq p name) (acquires g h) ≡ acquire_stands g name h }
+    ensures taken { (g x : List ℕ) (s : ℕ) (h : List Act) → is_among s (taken g x h) ≡ was_taken g x s h }
+    ensures soft { (g x : List ℕ) (h : List Act) → is_live g x h ≡ true → soft_stands g x h ≡ soft_given g x h }
+    ensures overflow { (g x : List ℕ) (h : List Act) → is_live g x h ≡ true → overflow_stands g x h ≡ overflow_given g x h }
 {}
 
 /// A step from what is kept of a past gives the one block that the past allows, and leaves what is kept of the past with it.
@@ -99,6 +107,14 @@ pub fn delivers()
         IsDelivery c h o outer inner e text next p →
         gw_block c h (Arrive o) ≡ acts.Arrived c.name o ∷ uses c.name (acts.Arrived c.name o ∷ h) e (acts.Gave c.name e.name (number_of e (taken c.name e.name h) outer.payload) p) }
 {}
+
+/// The databases after a request are those that the reply table gives: the list in force, and the live halves with their counts.
+pub fn requests_change()
+    ensures { (c : Gateway) (h : List Act) (ask : Ask) →
+        tree_of c.name (after h (gw_block c h (Handle (Ok ask)))) ≡ (reply (tree_of c.name h) ask).tree }
+{
+    changes_fit();
+}
 
 /// A packet from inside has exactly one answer: it leaves in clear or sealed, or it is dropped. A datagram from outside has exactly
 /// one: it is given opened or passes in clear, or it is dropped. No other event has one.

@@ -4,5 +4,6 @@
 mod laws;
 
 pub use laws::{
-    answers, blocks_follow, delivers, halves, is_every_history_safe, keeps, readings, sealed, steps,
+    answers, blocks_follow, delivers, halves, is_every_history_safe, keeps, readings,
+    requests_change, sealed, steps,
 };

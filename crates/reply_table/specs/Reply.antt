@@ -1,6 +1,6 @@
 -- The reply to each request, without its text: methods and statuses of RESTCONF (RFC 8040 sections 3.5 and 4), error tags of
 -- its section 7, and this project's own app tags and limits.
-use Rattle.std.specs.Prelude.{◌≡◌, ℕ, ◌==◌, ◌&&◌, nat_le, not, Bool, true, false, List, [], ◌∷◌, ◌++◌, length, map, filter, find, Option, Some, None, if◌then◌else◌}
+use Rattle.std.specs.Prelude.{◌≡◌, ℕ, ◌==◌, ◌&&◌, ◌||◌, nat_le, not, Bool, true, false, List, [], ◌∷◌, ◌++◌, length, map, filter, find, Option, Some, None, if◌then◌else◌}
 use Rattle.std.specs.List.{list_any}
 use Rattle.std.specs.Str.{bytes_eq}
 use Rattle.ikeless_tree.specs.declared.entry.SpdEntry.{SpdEntry}
@@ -203,3 +203,16 @@ Fits t changes.Nothing = Unit {0}
 Fits t changes.Spd = Unit {0}
 Fits t (changes.Put e) = (list_any (is_row e.name) t.sad ≡ false) × ((is_inbound e.name && has_spi e.spi t.sad) ≡ false) × (is_sad_full t.sad ≡ false)
 Fits t (changes.Gone name) = list_any (is_row name) t.sad ≡ true
+
+-- ---- what a change says of the databases after it
+
+-- a reply that made or replaced something says so by its status: 201 or 204
+abbrev pub is_done : ℕ → Bool
+is_done status = (status == 201) || (status == 204)
+
+-- the databases after it are those before it with the change alone
+abbrev pub Makes : Tree → Outcome → Change → Type 0
+Makes t r changes.Nothing = (is_done r.status ≡ false) × (r.tree ≡ t)
+Makes t r changes.Spd = (is_done r.status ≡ true) × (r.tree ≡ with_spd t r.tree.spd)
+Makes t r (changes.Put e) = (is_done r.status ≡ true) × (r.tree ≡ with_sad t (t.sad ++ new_row e ∷ []))
+Makes t r (changes.Gone name) = (is_done r.status ≡ true) × (r.tree ≡ with_sad t (without_row name t.sad))

@@ -7,7 +7,7 @@ ghost use Rattle.ikeless_tree.specs.declared.order.Order.TheVariants as orders;
 ghost use Rattle.reply_table.specs.declared.ask.Ask.{Ask};
 ghost use Rattle.reply_table.specs.declared.ask.Change.TheVariants as changes;
 ghost use Rattle.reply_table.specs.Order.{ask_of};
-ghost use Rattle.reply_table.specs.Reply.{Fits, reply, row_names};
+ghost use Rattle.reply_table.specs.Reply.{Fits, Makes, reply, row_names};
 
 /// A reply of status 400 or above leaves the databases as they are, and says that nothing changed.
 pub fn refuses()
@@ -24,6 +24,9 @@ pub fn answers_orders()
 {}
 
 /// What a reply changes fits the databases: what it puts is new and has room, and what it removes was there.
+///
+/// The databases after it are those before it with that change alone, and its status says whether there was one.
 pub fn changes_fit()
-    ensures { (t : Tree) (a : Ask) → Fits t (reply t a).change }
+    ensures before { (t : Tree) (a : Ask) → Fits t (reply t a).change }
+    ensures after { (t : Tree) (a : Ask) → Makes t (reply t a) (reply t a).change }
 {}
