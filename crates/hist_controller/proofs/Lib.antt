@@ -19,3 +19,4 @@ pub mod Names
 pub mod Waits
 pub mod Few
 pub mod Transcript
+pub mod Policies
