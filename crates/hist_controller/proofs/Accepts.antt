@@ -1,19 +1,18 @@
 -- What an accepted command has passed: keys that differ and are few, and gateways that are known and differ.
-use Rattle.std.proofs.Common.{◌≡◌, ℕ, ◌+◌, ◌-◌, ◌<◌, ◌≤◌, Bool, true, false, ◌==◌, not, ◌&&◌, ◌||◌, nat_le, nat_lt, List, [], ◌∷◌, ◌++◌, Option, Some, None, ◌⊎◌, inl, inr, length, refl, sym, subst, ◌∙◌, ap, arith, if◌then◌else◌, append-nil}
+use Rattle.std.proofs.Common.{◌≡◌, ℕ, ◌+◌, ◌-◌, ◌<◌, ◌≤◌, Bool, true, false, ◌==◌, not, ◌&&◌, nat_le, nat_lt, List, [], ◌∷◌, ◌++◌, Option, Some, None, ◌⊎◌, inl, inr, length, refl, sym, subst, ◌∙◌, ap, arith, if◌then◌else◌, append-nil}
 use Rattle.std.proofs.lemmas.Grind.{common_steps}
 use Rattle.std.proofs.lemmas.Slice.Eq.{bytes_eq-Decides}
-use Rattle.std.specs.List.{list_any, list_all}
+use Rattle.std.specs.List.{list_all}
 use Rattle.std.specs.Str.{bytes_eq}
 use Rattle.ikeless_tree.specs.Check.{is_key_length}
-use Rattle.ikeless_tree.specs.declared.command.Refusal.{Refusal}
 use Rattle.ikeless_tree.specs.declared.command.Refusal.TheVariants as refusals
-use Rattle.hist_controller.specs.Acts.{Way, Placed, PlacedTunnel, SetPolicy, Tunnel, End, Rekey, Keys, Act, Opened, Cut, Answered, Heard, Ordered, Accepted, Refused}
-use Rattle.hist_controller.specs.Past.{keys, key_of, spare, serials, directions, born, two_of}
+use Rattle.hist_controller.specs.Acts.{Way, Placed, SetPolicy, Tunnel, End, Rekey, Keys, Act, Opened, Cut, Answered, Heard, Ordered, Accepted, Refused}
+use Rattle.hist_controller.specs.Past.{keys, spare, serials, directions, born}
 use Rattle.hist_controller.specs.Law.{aes_part, is_seen, has_tunnel, tunnels, refusal}
 use Rattle.hist_controller.specs.Machine.{place}
 use Rattle.hist_controller.specs.Clauses.{Has, IsPast}
 use Rattle.hist_controller.proofs.Serials.{has-more}
-use Rattle.hist_controller.proofs.Often.{Keyed, keyed}
+use Rattle.hist_controller.proofs.Often.{keyed}
 
 -- ## keys
 

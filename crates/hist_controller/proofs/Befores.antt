@@ -1,11 +1,9 @@
 -- Each order of a history stands after what the world's safety needs.
-use Rattle.std.proofs.Common.{◌≡◌, ℕ, ◌+◌, ◌<◌, ◌≤◌, Bool, true, false, ◌==◌, not, ◌&&◌, ◌||◌, List, [], ◌∷◌, ◌++◌, Option, Some, None, ◌⊎◌, inl, inr, refl, sym, subst, ◌∙◌, ap, arith, if◌then◌else◌, length, append-nil}
+use Rattle.std.proofs.Common.{◌≡◌, ℕ, ◌+◌, ◌<◌, ◌≤◌, Bool, true, false, ◌==◌, not, ◌&&◌, ◌||◌, List, [], ◌∷◌, ◌++◌, Option, Some, None, ◌⊎◌, inl, inr, refl, sym, subst, ◌∙◌, ap, arith, if◌then◌else◌, append-nil}
 use Rattle.std.specs.List.{list_any}
 use Rattle.ikeless_tree.specs.declared.order.Answer.{Answer}
-use Rattle.ikeless_tree.specs.declared.command.Peer.{Peer}
-use Rattle.hist_controller.specs.Acts.{Way, Association, Order, Read, Policy, PutIn, PutOut, RemoveIn, RemoveOut, Act, Opened, Cut, Answered, Heard, Ordered, Accepted, Refused, Event}
-use Rattle.hist_controller.specs.Past.{after, oldest, rest, queue, ready, serials, is_first, directions, Kind, PuttingIn, PuttingOut, RemovingIn, RemovingOut, is, is_own, answers_to, sends, heard, spoils, ended, in_progress, put_in, left}
-use Rattle.hist_controller.specs.Law.{history}
+use Rattle.hist_controller.specs.Acts.{Way, Association, Order, Read, Policy, PutIn, PutOut, RemoveIn, RemoveOut, Act, Opened, Cut, Answered, Heard, Ordered, Accepted, Refused}
+use Rattle.hist_controller.specs.Past.{oldest, rest, queue, ready, serials, is_first, directions, Kind, PuttingIn, PuttingOut, RemovingIn, RemovingOut, is, is_own, answers_to, sends, heard, spoils, ended, in_progress, put_in, left}
 use Rattle.hist_controller.specs.Clauses.{Has, MayOrder, IsPast, MayInPut, MayOutPut, MayInRemove, MayOutRemove}
 use Rattle.hist_controller.specs.Counts.{times}
 use Rattle.hist_controller.specs.Orders.{given, not_shown, missed, Before, AllBefore}
@@ -13,7 +11,6 @@ use Rattle.hist_controller.proofs.Serials.{has-more, has-filter, has-if, put-one
 use Rattle.hist_controller.proofs.Turns.{has-left}
 use Rattle.hist_controller.proofs.Often.{once, not-sent}
 use Rattle.hist_controller.proofs.Removed.{neither}
-use Rattle.hist_controller.proofs.Clauses.{past-history}
 
 none-given : (k : Kind) (n : ℕ) (h : List Act) → times k n h ≡ 0 → given k n h ≡ false
 none-given k n [] e = refl

@@ -2,16 +2,14 @@
 use Rattle.std.proofs.Common.{◌≡◌, ℕ, ◌≤◌, Bool, true, false, ◌==◌, not, ◌&&◌, ◌||◌, List, [], ◌∷◌, ◌++◌, length, ◌⊎◌, inl, inr, refl, sym, subst, ◌∙◌, ap, arith, if◌then◌else◌}
 use Rattle.std.specs.List.{filter, list_any}
 use Rattle.ikeless_tree.specs.declared.order.Answer.{Answer}
-use Rattle.ikeless_tree.specs.declared.command.Peer.{Peer}
-use Rattle.hist_controller.specs.Acts.{Way, Association, Order, Read, Policy, PutIn, PutOut, RemoveIn, RemoveOut, Placed, Act, Opened, Cut, Answered, Heard, Ordered, Accepted, Refused, Event}
-use Rattle.hist_controller.specs.Past.{after, oldest, queue, ready, serials, is_first, directions, made_by, PuttingIn, PuttingOut, RemovingIn, RemovingOut, is, answers_to, sends, heard, ended, in_progress, put_in, left, lacks}
-use Rattle.hist_controller.specs.Law.{may_out_remove, may_in_remove, may_out_put, history}
+use Rattle.hist_controller.specs.Acts.{Way, Association, Order, Read, Policy, PutIn, PutOut, RemoveIn, RemoveOut, Placed, Act, Opened, Cut, Answered, Heard, Ordered, Accepted, Refused}
+use Rattle.hist_controller.specs.Past.{oldest, queue, ready, serials, is_first, directions, made_by, PuttingIn, PuttingOut, RemovingIn, RemovingOut, is, answers_to, sends, heard, ended, in_progress, put_in, left, lacks}
+use Rattle.hist_controller.specs.Law.{may_out_remove, may_in_remove, may_out_put}
 use Rattle.hist_controller.specs.Clauses.{Has, MayOrder, IsPast, MayInRemove, Quiet, NotIdle}
 use Rattle.hist_controller.specs.Ever.{made, AllQuiet, AllNotIdle}
 use Rattle.hist_controller.proofs.Serials.{has-more, has-filter, has-if, put-one, put-serial, more-if}
-use Rattle.hist_controller.proofs.Turns.{has-left, any-has, not-idle}
+use Rattle.hist_controller.proofs.Turns.{has-left, any-has}
 use Rattle.hist_controller.proofs.Befores.{or-or, has-queue, has-rest, has-none, is-not, not-ended}
-use Rattle.hist_controller.proofs.Clauses.{past-history}
 
 abbrev pub Spent : Association → List Act → Type 0
 Spent x h = (ended x h ≡ true) × ((sends x.serial h ≡ false) ⊎ (heard RemovingOut x.serial h ≡ true))

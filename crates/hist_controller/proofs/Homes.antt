@@ -1,7 +1,7 @@
 -- At which gateway each order of a half was given, and of which association.
-use Rattle.std.proofs.Common.{◌≡◌, ℕ, ◌+◌, ◌≤◌, Bool, true, false, ◌==◌, not, ◌&&◌, ◌||◌, List, [], ◌∷◌, ◌++◌, Option, Some, None, ◌⊎◌, inl, inr, refl, sym, subst, ◌∙◌, ap, arith, if◌then◌else◌}
+use Rattle.std.proofs.Common.{◌≡◌, ℕ, ◌≤◌, Bool, true, false, ◌==◌, not, ◌&&◌, ◌||◌, List, [], ◌∷◌, inl, inr, refl, sym, subst, ◌∙◌, ap, arith}
 use Rattle.hist_controller.specs.Acts.{Way, Association, Order, Read, Policy, PutIn, PutOut, RemoveIn, RemoveOut, Act, Opened, Cut, Answered, Heard, Ordered, Accepted, Refused}
-use Rattle.hist_controller.specs.Past.{oldest, queue, directions, born, serials, is_first, RemovingIn, RemovingOut, PuttingIn, PuttingOut, is, heard, ended, ready, answers_to, sends, put_in, left}
+use Rattle.hist_controller.specs.Past.{oldest, queue, directions, serials, is_first, RemovingIn, RemovingOut, PuttingIn, PuttingOut, is, heard, ended, ready, answers_to, sends, put_in, left}
 use Rattle.hist_controller.specs.Clauses.{Has, MayOrder, IsPast, MayInPut, MayOutPut, MayInRemove, MayOutRemove}
 use Rattle.hist_controller.specs.Orders.{Given, PutOf}
 use Rattle.hist_controller.proofs.Serials.{has-more, has-filter, has-if, put-one, of-way, put-serial, more-if, one-way}

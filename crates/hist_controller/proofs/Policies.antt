@@ -1,11 +1,11 @@
 -- An ordered list of policies is the last one that was accepted.
-use Rattle.std.proofs.Common.{◌≡◌, ℕ, ◌+◌, ◌-◌, ◌<◌, Bool, true, false, ◌==◌, List, [], ◌∷◌, ◌++◌, Option, Some, None, length, refl, subst, sym, ◌∙◌, ap, arith, if◌then◌else◌, append-nil}
+use Rattle.std.proofs.Common.{◌≡◌, ℕ, ◌+◌, ◌-◌, ◌<◌, Bool, true, false, ◌==◌, List, [], ◌∷◌, ◌++◌, Option, Some, length, refl, subst, sym, arith, if◌then◌else◌, append-nil}
 use Rattle.ikeless_tree.specs.declared.entry.SpdEntry.{SpdEntry}
-use Rattle.hist_controller.specs.Acts.{Order, Read, Policy, PutIn, PutOut, RemoveIn, RemoveOut, Placed, SetPolicy, Tunnel, End, Rekey, Keys, Act, Opened, Cut, Answered, Heard, Ordered, Accepted, Refused}
-use Rattle.hist_controller.specs.Past.{newest_list, list_if}
+use Rattle.hist_controller.specs.Acts.{Order, Read, Policy, PutIn, PutOut, RemoveIn, RemoveOut, SetPolicy, Tunnel, End, Rekey, Keys, Act, Opened, Cut, Answered, Heard, Ordered, Accepted, Refused}
+use Rattle.hist_controller.specs.Past.{newest_list}
 use Rattle.hist_controller.specs.Clauses.{IsPast, MayOrder}
 use Rattle.hist_controller.specs.Machine.{place}
-use Rattle.hist_controller.specs.Counts.{list_of, lists, ListRight, ListsRight}
+use Rattle.hist_controller.specs.Counts.{lists, ListRight, ListsRight}
 
 -- the last of a list
 abbrev IsLast : {A : Type 0} → List A → A → Type 0

@@ -1,17 +1,14 @@
 -- A half is ordered removed once at most in a session, so not more often than sessions were opened.
-use Rattle.std.proofs.Common.{◌≡◌, ℕ, ◌+◌, ◌<◌, ◌≤◌, Bool, true, false, ◌==◌, not, ◌&&◌, ◌||◌, List, [], ◌∷◌, ◌++◌, ◌⊎◌, inl, inr, refl, subst, ◌∙◌, ap, arith, length, if◌then◌else◌}
+use Rattle.std.proofs.Common.{◌≡◌, ℕ, ◌+◌, ◌<◌, ◌≤◌, Bool, true, false, ◌==◌, not, ◌&&◌, ◌||◌, List, [], ◌∷◌, ◌++◌, ◌⊎◌, inl, inr, refl, subst, ◌∙◌, ap, arith, if◌then◌else◌}
 use Rattle.std.specs.List.{filter, list_any}
 use Rattle.ikeless_tree.specs.declared.order.Answer.{Answer}
-use Rattle.ikeless_tree.specs.declared.command.Peer.{Peer}
-use Rattle.hist_controller.specs.Acts.{Way, Association, Order, Read, Policy, PutIn, PutOut, RemoveIn, RemoveOut, Act, Opened, Cut, Answered, Heard, Ordered, Accepted, Refused, Event}
-use Rattle.hist_controller.specs.Past.{after, is_open, session, oldest, rest, queue, ready, is_first, serials, Kind, PuttingIn, RemovingIn, RemovingOut, is, is_own, answers_to, sends, heard, ended, put_in, left}
-use Rattle.hist_controller.specs.Law.{history}
+use Rattle.hist_controller.specs.Acts.{Way, Association, Order, Read, Policy, PutIn, PutOut, RemoveIn, RemoveOut, Act, Opened, Cut, Answered, Heard, Ordered, Accepted, Refused}
+use Rattle.hist_controller.specs.Past.{is_open, session, oldest, rest, queue, ready, is_first, serials, Kind, PuttingIn, RemovingIn, RemovingOut, is, is_own, answers_to, sends, heard, ended, put_in, left}
 use Rattle.hist_controller.specs.Clauses.{Has, MayOrder, IsPast}
 use Rattle.hist_controller.specs.Counts.{times_at, times_now}
 use Rattle.hist_controller.proofs.KeptState.{eq-own}
 use Rattle.hist_controller.proofs.Serials.{has-more, has-filter, has-if, put-one, low}
 use Rattle.hist_controller.proofs.Turns.{any-has, any-last, any-if}
-use Rattle.hist_controller.proofs.Clauses.{past-history}
 
 -- ## what is left was not removed
 

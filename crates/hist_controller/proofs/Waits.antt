@@ -1,15 +1,15 @@
 -- An association that is not ended waits for an answer to its next put, or its outbound put was answered.
-use Rattle.std.proofs.Common.{◌≡◌, ℕ, ◌+◌, ◌<◌, ◌≤◌, Bool, true, false, ◌==◌, not, ◌&&◌, ◌||◌, nat_le, nat_lt, List, [], ◌∷◌, ◌++◌, Option, Some, None, ◌⊎◌, inl, inr, refl, sym, subst, ◌∙◌, ap, arith, if◌then◌else◌}
+use Rattle.std.proofs.Common.{◌≡◌, ℕ, ◌<◌, Bool, true, false, ◌==◌, not, ◌&&◌, ◌||◌, nat_le, nat_lt, List, [], ◌∷◌, ◌++◌, Option, Some, None, ◌⊎◌, inl, inr, refl, sym, subst, ◌∙◌, ap, arith, if◌then◌else◌}
 use Rattle.std.proofs.lemmas.Grind.{common_steps}
 use Rattle.std.specs.List.{filter, list_any}
 use Rattle.ikeless_tree.specs.declared.order.Answer.{Answer}
 use Rattle.hist_controller.specs.Acts.{Way, Association, Order, Read, Policy, PutIn, PutOut, RemoveIn, RemoveOut, Act, Opened, Cut, Answered, Heard, Ordered, Accepted, Refused}
-use Rattle.hist_controller.specs.Past.{is_open, oldest, rest, queue, serials, directions, Kind, PuttingIn, PuttingOut, RemovingIn, is, answers_to, sends, heard, spoils, ended, ends, put_in, left}
-use Rattle.hist_controller.specs.Clauses.{Has, MayOrder, IsPast, MayInPut, MayOutPut}
+use Rattle.hist_controller.specs.Past.{is_open, oldest, rest, queue, Kind, PuttingIn, PuttingOut, RemovingIn, is, answers_to, sends, heard, spoils, ended, ends, put_in, left}
+use Rattle.hist_controller.specs.Clauses.{Has, MayOrder, IsPast, MayInPut}
 use Rattle.hist_controller.specs.Orders.{Given}
 use Rattle.hist_controller.specs.Halves.{is_plain, PlainAnswers}
 use Rattle.hist_controller.proofs.KeptState.{eq-own}
-use Rattle.hist_controller.proofs.Serials.{has-more, has-filter, has-if, put-one, put-serial, of-way, low, one, one-way}
+use Rattle.hist_controller.proofs.Serials.{has-more, has-filter, has-if, put-one, put-serial, of-way, low, one}
 use Rattle.hist_controller.proofs.Turns.{has-left}
 use Rattle.hist_controller.proofs.Befores.{or-or, has-queue, has-rest, has-none, any-yes}
 use Rattle.hist_controller.proofs.Removed.{neither}
