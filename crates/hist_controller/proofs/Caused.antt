@@ -5,8 +5,8 @@ use Rattle.hist_controller.specs.Acts.{Way, Association, Order, Read, Policy, Pu
 use Rattle.hist_controller.specs.Past.{oldest, queue, ready, serials, directions, born, made_by, over, starts, renews, PuttingIn, sends, heard, in_progress, put_in, left, RemovingIn, answers_to, causes, wanted}
 use Rattle.hist_controller.specs.Clauses.{Has, MayOrder, IsPast}
 use Rattle.hist_controller.specs.Counts.{in_puts, out_puts, cause_count}
+use Rattle.hist_controller.proofs.Lists.{has-left}
 use Rattle.hist_controller.proofs.Serials.{has-more, has-filter, has-if, put-one, of-way, low, one-way}
-use Rattle.hist_controller.proofs.Turns.{has-left}
 use Rattle.hist_controller.proofs.KeptState.{eq-own}
 use Rattle.hist_controller.proofs.Often.{not-sent}
 

@@ -7,6 +7,7 @@ use Rattle.hist_controller.specs.Past.{oldest, queue, ready, directions, born, t
 use Rattle.hist_controller.specs.Law.{has_tunnel, is_none, counts, tunnels}
 use Rattle.hist_controller.specs.Clauses.{Has, MayOrder, IsPast, MayInPut}
 use Rattle.hist_controller.specs.Halves.{PlainAnswers, touches, halves}
+use Rattle.hist_controller.proofs.Lists.{length-more}
 use Rattle.hist_controller.proofs.KeptState.{Rising, rising, made-no}
 use Rattle.hist_controller.proofs.Serials.{has-more, has-filter, put-one, put-serial, of-way, low, one-way}
 use Rattle.hist_controller.proofs.Befores.{any-yes}
@@ -137,10 +138,6 @@ filter-length q (x ∷ xs) = kept (q x) (filter-length q xs)
     kept true e = grind arith
     kept false e = grind arith
 
-length-one : (xs : List Association) (x : Association) → length (xs ++ x ∷ []) ≡ length xs + 1
-length-one [] x = refl
-length-one (z ∷ xs) x = grind (arith, length-one xs x)
-
 -- what is left hangs on the id alone
 left-by-id : (h : List Act) (d e : Way) → d.id ≡ e.id → left d h ≡ left e h
 left-by-id [] d e q = refl
@@ -181,7 +178,7 @@ few-ordered p h l k g (PutIn x) m d e = by-way (d.id == x.way.id) refl
         let q : d.id ≡ x.way.id = grind arith in
         let a = one-left p h l k g x m in
         let b = ap length (left-by-id h d x.way q) in
-        let c = length-one (left d h) x in
+        let c = length-more (left d h) x in
         omega arith
     by-way false t = rw (append-nil (left d h)) e
 few-ordered p h l k g (PutOut x) m d e = rw (append-nil (left d h)) e

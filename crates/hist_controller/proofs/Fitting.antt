@@ -15,16 +15,13 @@ use Rattle.hist_controller.specs.State.{KeptGateway, opened, closed, answered, o
 use Rattle.hist_controller.specs.Machine.{acts_of}
 use Rattle.hist_controller.specs.Clauses.{Has, MayFollow, MayAll, IsPast}
 use Rattle.hist_controller.specs.Table.{Table, shut, gateway_at, change, listed, told_gates, seen, did_table, did_all_table, next_table, shut_gateways, first_table, fits_placed, Fits, AllFit, EventFits, AllEventsFit}
+use Rattle.hist_controller.proofs.Waits.{oldest-has}
 use Rattle.hist_controller.proofs.KeptState.{keeps, same-at, same-state}
 use Rattle.hist_controller.proofs.Gives.{Given, nothing, out_removed, in_removed, out_was_put, in_was_put, given}
 use Rattle.hist_controller.proofs.Blocks.{acts_of-state_of}
 use Rattle.hist_controller.proofs.Clauses.{may-block, after-append}
 use Rattle.hist_controller.proofs.Befores.{has-queue, has-rest, has-none}
 use Rattle.hist_controller.proofs.Tables.{seen-did}
-
-oldest-has : (q : List Order) (o : Order) → oldest q ≡ Some o → Has o q
-oldest-has [] o e = cc
-oldest-has (x ∷ q) o e = let w : o ≡ x = cc in inl w
 
 open-fits : (p g : ℕ) (h : List Act) → AllFit p h → is_open g h ≡ true → g < p
 open-fits p g [] a e = cc

@@ -1,3 +1,5 @@
+pub mod Bools
+pub mod Lists
 pub mod Shown
 pub mod KeptState
 pub mod Gives

@@ -6,21 +6,18 @@ use Rattle.hist_controller.specs.Past.{newest_list}
 use Rattle.hist_controller.specs.Clauses.{IsPast, MayOrder}
 use Rattle.hist_controller.specs.Machine.{place}
 use Rattle.hist_controller.specs.Counts.{lists, ListRight, ListsRight}
+use Rattle.hist_controller.proofs.Lists.{length-more}
 
 -- the last of a list
 abbrev IsLast : {A : Type 0} → List A → A → Type 0
 IsLast xs x = (0 < length xs) × (place (length xs - 1) xs ≡ Some x)
-
-length-one : {A : Type 0} (xs : List A) (x : A) → length (xs ++ x ∷ []) ≡ length xs + 1
-length-one [] x = refl
-length-one (y ∷ xs) x = grind (arith, length-one xs x)
 
 place-last : {A : Type 0} (xs : List A) (x : A) (i : ℕ) → i ≡ length xs → place i (xs ++ x ∷ []) ≡ Some x
 place-last [] x i e = let z : i ≡ 0 = grind arith in rw z refl
 place-last (y ∷ xs) x i e = let n : (i == 0) ≡ false = grind arith in rw n (place-last xs x (i - 1) (grind arith))
 
 last-new : {A : Type 0} (xs : List A) (x : A) → IsLast (xs ++ x ∷ []) x
-last-new xs x = let e = length-one xs x in (omega arith, place-last xs x (length (xs ++ x ∷ []) - 1) (omega arith))
+last-new xs x = let e = length-more xs x in (omega arith, place-last xs x (length (xs ++ x ∷ []) - 1) (omega arith))
 
 accepted : (g f : ℕ) (l w : List SpdEntry) (xs : List (List SpdEntry)) (o : Option (List SpdEntry)) (b : Bool) → (o ≡ Some w → IsLast xs w) → (if b then Some l else o) ≡ Some w → IsLast (xs ++ (if b then l ∷ [] else [])) w
 accepted g f l w xs o true k e = let q : l ≡ w = cc in subst (IsLast (xs ++ l ∷ [])) q (last-new xs l)
