@@ -9,7 +9,7 @@ use Rattle.ikeless_tree.specs.declared.order.Answer.{Answer}
 use Rattle.ikeless_tree.specs.declared.order.Notice.{Notice}
 use Rattle.ikeless_tree.specs.declared.order.Notice.TheVariants as notices
 use Rattle.hist_controller.specs.Acts.{Way, Order, Read, Policy, Placed, SetPolicy, Tunnel, End, Rekey, Keys, Act, Opened, Cut, Answered, Heard, Ordered, Accepted, Refused, Event, Told, Opens, Cuts, Answers, Notices}
-use Rattle.hist_controller.specs.Past.{after, is_open, session, answers, oldest, queue, newest_list, directions}
+use Rattle.hist_controller.specs.Past.{after, is_open, session, answers, queue, newest_list, directions}
 use Rattle.hist_controller.specs.Law.{order, give, pass, with_list, is_reading, by_command, by_notice, asked, placed, refusal, going, by_refusal, by_answer, block, history}
 use Rattle.hist_controller.specs.State.{KeptGateway, opened, closed, answered, ordered, state_of, did}
 use Rattle.hist_controller.specs.Machine.{acts_of}
