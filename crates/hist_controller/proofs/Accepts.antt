@@ -1,19 +1,19 @@
 -- What an accepted command has passed: keys that differ and are few, and gateways that are known and differ.
-use Rattle.std.proofs.Common.{◌≡◌, ℕ, ◌+◌, ◌-◌, ◌<◌, ◌≤◌, Bool, true, false, ◌==◌, not, ◌&&◌, ◌||◌, nat_le, nat_lt, List, [], ◌∷◌, ◌++◌, Option, Some, None, ◌⊎◌, inl, inr, length, refl, sym, subst, ◌∙◌, ap, arith, if◌then◌else◌, append-nil}
+use Rattle.std.proofs.Common.{◌≡◌, ℕ, ◌+◌, ◌-◌, ◌<◌, ◌≤◌, Bool, true, false, ◌==◌, not, ◌&&◌, nat_le, nat_lt, List, [], ◌∷◌, ◌++◌, Some, None, ◌⊎◌, inl, inr, length, refl, sym, subst, ◌∙◌, ap, arith, if◌then◌else◌, append-nil}
 use Rattle.std.proofs.lemmas.Grind.{common_steps}
 use Rattle.std.proofs.lemmas.Slice.Eq.{bytes_eq-Decides}
-use Rattle.std.specs.List.{list_any, list_all}
+use Rattle.std.specs.List.{list_all}
 use Rattle.std.specs.Str.{bytes_eq}
 use Rattle.ikeless_tree.specs.Check.{is_key_length}
-use Rattle.ikeless_tree.specs.declared.command.Refusal.{Refusal}
 use Rattle.ikeless_tree.specs.declared.command.Refusal.TheVariants as refusals
-use Rattle.hist_controller.specs.Acts.{Way, Placed, PlacedTunnel, SetPolicy, Tunnel, End, Rekey, Keys, Act, Opened, Cut, Answered, Heard, Ordered, Accepted, Refused}
-use Rattle.hist_controller.specs.Past.{keys, key_of, spare, serials, directions, born, two_of}
+use Rattle.hist_controller.specs.Acts.{Way, Placed, SetPolicy, Tunnel, End, Rekey, Keys, Act, Opened, Cut, Answered, Heard, Ordered, Accepted, Refused}
+use Rattle.hist_controller.specs.Past.{keys, spare, serials, directions, born}
 use Rattle.hist_controller.specs.Law.{aes_part, is_seen, has_tunnel, tunnels, refusal}
 use Rattle.hist_controller.specs.Machine.{place}
 use Rattle.hist_controller.specs.Clauses.{Has, IsPast}
+use Rattle.hist_controller.proofs.Lists.{length-more, place-old}
 use Rattle.hist_controller.proofs.Serials.{has-more}
-use Rattle.hist_controller.proofs.Often.{Keyed, keyed}
+use Rattle.hist_controller.proofs.Often.{keyed}
 
 -- ## keys
 
@@ -22,21 +22,6 @@ key-passes true false false e = (refl, refl, refl)
 key-passes true false true e = cc
 key-passes true true c e = cc
 key-passes false b c e = cc
-
-place-old : {A : Type 0} (j : ℕ) (q : List A) (z o : A) → place j (q ++ z ∷ []) ≡ Some o → ((j < length q) × (place j q ≡ Some o)) ⊎ ((j ≡ length q) × (z ≡ o))
-place-old {A = A} j [] z o e = one (j == 0) refl e
-  where
-    one : (b : Bool) → (j == 0) ≡ b → (if b then Some z else None) ≡ Some o → ((j < 0) × (◌≡◌ {A = Option A} None (Some o))) ⊎ ((j ≡ 0) × (z ≡ o))
-    one true t e = inr (grind arith, let w : z ≡ o = cc in w)
-    one false t e = cc
-place-old j (y ∷ q) z o e = step (j == 0) refl e (place-old (j - 1) q z o)
-  where
-    step : (b : Bool) → (j == 0) ≡ b → (if b then Some y else place (j - 1) (q ++ z ∷ [])) ≡ Some o → (place (j - 1) (q ++ z ∷ []) ≡ Some o → ((j - 1 < length q) × (place (j - 1) q ≡ Some o)) ⊎ ((j - 1 ≡ length q) × (z ≡ o))) → ((j < length (y ∷ q)) × ((if j == 0 then Some y else place (j - 1) q) ≡ Some o)) ⊎ ((j ≡ length (y ∷ q)) × (z ≡ o))
-    step true t e f = inl ((grind arith), rw t e)
-    step false t e f = elim (f e) as (λ w. ((j < length (y ∷ q)) × ((if j == 0 then Some y else place (j - 1) q) ≡ Some o)) ⊎ ((j ≡ length (y ∷ q)) × (z ≡ o))) [
-      | inl p ↦ inl (let a : j - 1 < length q = p.0 in (grind arith), rw t p.1)
-      | inr p ↦ inr (let a : j - 1 ≡ length q = p.0 in (grind arith), p.1)
-    ]
 
 same-bytes : (xs ys : List ℕ) → xs ≡ ys → bytes_eq xs ys ≡ true
 same-bytes xs ys e = (bytes_eq-Decides xs ys).1 e
@@ -86,10 +71,6 @@ apart p (Accepted (Rekey r) ∷ h) l = same-apart (keys h) (apart p h l.1)
 apart p (Refused w ∷ h) l = apart p h l.1
 
 -- ## their number and length
-
-length-more : {A : Type 0} (xs : List A) (k : A) → length (xs ++ k ∷ []) ≡ length xs + 1
-length-more [] k = refl
-length-more (x ∷ xs) k = grind (arith, length-more xs k)
 
 length-both : {A : Type 0} (xs ys : List A) → length (xs ++ ys) ≡ length xs + length ys
 length-both [] ys = omega arith

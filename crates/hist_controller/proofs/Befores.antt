@@ -1,19 +1,17 @@
 -- Each order of a history stands after what the world's safety needs.
-use Rattle.std.proofs.Common.{◌≡◌, ℕ, ◌+◌, ◌<◌, ◌≤◌, Bool, true, false, ◌==◌, not, ◌&&◌, ◌||◌, List, [], ◌∷◌, ◌++◌, Option, Some, None, ◌⊎◌, inl, inr, refl, sym, subst, ◌∙◌, ap, arith, if◌then◌else◌, length, append-nil}
+use Rattle.std.proofs.Common.{◌≡◌, ℕ, ◌+◌, ◌<◌, ◌≤◌, Bool, true, false, ◌==◌, not, ◌&&◌, ◌||◌, List, [], ◌∷◌, ◌++◌, Option, Some, None, ◌⊎◌, inl, inr, refl, sym, subst, ◌∙◌, ap, arith, if◌then◌else◌, append-nil}
 use Rattle.std.specs.List.{list_any}
 use Rattle.ikeless_tree.specs.declared.order.Answer.{Answer}
-use Rattle.ikeless_tree.specs.declared.command.Peer.{Peer}
-use Rattle.hist_controller.specs.Acts.{Way, Association, Order, Read, Policy, PutIn, PutOut, RemoveIn, RemoveOut, Act, Opened, Cut, Answered, Heard, Ordered, Accepted, Refused, Event}
-use Rattle.hist_controller.specs.Past.{after, oldest, rest, queue, ready, serials, is_first, directions, Kind, PuttingIn, PuttingOut, RemovingIn, RemovingOut, is, is_own, answers_to, sends, heard, spoils, ended, in_progress, put_in, left}
-use Rattle.hist_controller.specs.Law.{history}
+use Rattle.hist_controller.specs.Acts.{Way, Association, Order, Read, Policy, PutIn, PutOut, RemoveIn, RemoveOut, Act, Opened, Cut, Answered, Heard, Ordered, Accepted, Refused}
+use Rattle.hist_controller.specs.Past.{oldest, rest, queue, ready, serials, is_first, directions, Kind, PuttingIn, PuttingOut, RemovingIn, RemovingOut, is, is_own, answers_to, sends, heard, spoils, ended, in_progress, put_in, left}
 use Rattle.hist_controller.specs.Clauses.{Has, MayOrder, IsPast, MayInPut, MayOutPut, MayInRemove, MayOutRemove}
 use Rattle.hist_controller.specs.Counts.{times}
 use Rattle.hist_controller.specs.Orders.{given, not_shown, missed, Before, AllBefore}
+use Rattle.hist_controller.proofs.Lists.{has-left}
+use Rattle.hist_controller.proofs.Bools.{or-right, second-of-4, split-or}
 use Rattle.hist_controller.proofs.Serials.{has-more, has-filter, has-if, put-one, of-way, low, one, one-way}
-use Rattle.hist_controller.proofs.Turns.{has-left}
 use Rattle.hist_controller.proofs.Often.{once, not-sent}
 use Rattle.hist_controller.proofs.Removed.{neither}
-use Rattle.hist_controller.proofs.Clauses.{past-history}
 
 none-given : (k : Kind) (n : ℕ) (h : List Act) → times k n h ≡ 0 → given k n h ≡ false
 none-given k n [] e = refl
@@ -43,10 +41,6 @@ record Marked (h : List Act) : Type 0 where
 
 first-of-4 : (a b c : Bool) → (a && b && c) ≡ true → a ≡ true
 first-of-4 a b c e = grind arith
-
-pub or-or : (a b : Bool) → b ≡ true → (a || b) ≡ true
-or-or true b e = refl
-or-or false b e = e
 
 old-ended : (h : List Act) (o : Order) (x : Association) → is PuttingIn x.serial o ≡ false → ended x h ≡ true → (not (is PuttingIn x.serial o) && ended x h) ≡ true
 old-ended h o x r e = rw (r, e) refl
@@ -97,13 +91,13 @@ marked-order p h g s i (RemoveOut q) l m k = record { new = k.new; gone = λ d x
 marked : (p : ℕ) (h : List Act) → IsPast p h → Marked h
 marked p [] l = record { new = λ n w. refl; gone = λ d x i. absurd i }
 marked p (Opened g s ∷ h) l = let k = marked p h l.1 in record { new = k.new; gone = k.gone }
-marked p (Cut g s ∷ h) l = let k = marked p h l.1 in record { new = k.new; gone = λ d x i w. or-or _ _ (k.gone d x i w) }
+marked p (Cut g s ∷ h) l = let k = marked p h l.1 in record { new = k.new; gone = λ d x i w. or-right _ _ (k.gone d x i w) }
 marked p (Answered g s n a ∷ h) l =
     let k = marked p h l.1 in
-    record { new = k.new; gone = λ d x i w. or-or _ _ (k.gone d x (has-filter (λ y. not (answers_to RemovingIn y.serial (oldest (queue g h)))) x (left d h) i) w) }
+    record { new = k.new; gone = λ d x i w. or-right _ _ (k.gone d x (has-filter (λ y. not (answers_to RemovingIn y.serial (oldest (queue g h)))) x (left d h) i) w) }
 marked p (Heard g s t ∷ h) l = let k = marked p h l.1 in record { new = k.new; gone = k.gone }
 marked p (Ordered g s n o ∷ h) l = marked-order p h g s n o l.1 l.0.3 (marked p h l.1)
-marked p (Accepted c ∷ h) l = let k = marked p h l.1 in record { new = k.new; gone = λ d x i w. or-or _ _ (k.gone d x (has-if x _ (left d h) i).1 w) }
+marked p (Accepted c ∷ h) l = let k = marked p h l.1 in record { new = k.new; gone = λ d x i w. or-right _ _ (k.gone d x (has-if x _ (left d h) i).1 w) }
 marked p (Refused w ∷ h) l = let k = marked p h l.1 in record { new = k.new; gone = k.gone }
 
 -- ## where an outbound put waits
@@ -230,18 +224,11 @@ no-put p h f n l m g = no-put-in (queue g h) n (λ y j. is-not (n == y.serial) (
 
 -- ## each order
 
-split-or : (a b : Bool) → (not a || b) ≡ true → (a ≡ false) ⊎ (b ≡ true)
-split-or true b e = inr e
-split-or false b e = inl refl
-
 second-of-3 : (a b c : Bool) → (a && b && c) ≡ true → b ≡ true
 second-of-3 a b c e = grind arith
 
 third-of-5 : (a b c d e : Bool) → (a && b && c && d && e) ≡ true → c ≡ true
 third-of-5 a b c d e q = grind arith
-
-second-of-4 : (a b c d : Bool) → (a && b && c && d) ≡ true → b ≡ true
-second-of-4 a b c d q = grind arith
 
 pub not-ended : (a b c d e f : Bool) → ((not a && b) && c && d && e && f) ≡ true → a ≡ false
 not-ended a b c d e f q = grind arith
@@ -262,16 +249,16 @@ missed-put false false m s e f t u = f t u
 
 missed-or : (a b c d : Bool) → (a ≡ true → c ≡ true) → (b ≡ true → d ≡ true) → (a || b) ≡ true → (c || d) ≡ true
 missed-or true b c d f g e = rw (f refl) refl
-missed-or false b c d f g e = or-or c d (g e)
+missed-or false b c d f g e = or-right c d (g e)
 
 missed-ended : (x : Association) (h : List Act) → missed x h ≡ true → sends x.serial h ≡ false → ended x h ≡ true
 missed-ended x [] t e = cc
 missed-ended x (Opened g s ∷ h) t e = missed-ended x h t e
-missed-ended x (Cut g s ∷ h) t e = or-or _ _ (missed-ended x h t e)
+missed-ended x (Cut g s ∷ h) t e = or-right _ _ (missed-ended x h t e)
 missed-ended x (Answered g s n a ∷ h) t e = missed-or _ _ _ _ (spoiled x g (oldest (queue g h)) a (heard PuttingIn x.serial h) (sends x.serial h) e) (λ u. missed-ended x h u e) t
 missed-ended x (Heard g s n ∷ h) t e = missed-ended x h t e
 missed-ended x (Ordered g s n o ∷ h) t e = missed-put (is PuttingIn x.serial o) (is PuttingOut x.serial o) (missed x h) (sends x.serial h) (ended x h) (missed-ended x h) t e
-missed-ended x (Accepted c ∷ h) t e = or-or _ _ (missed-ended x h t e)
+missed-ended x (Accepted c ∷ h) t e = or-right _ _ (missed-ended x h t e)
 missed-ended x (Refused w ∷ h) t e = missed-ended x h t e
 
 pub before : (p : ℕ) (h : List Act) (g : ℕ) (o : Order) → IsPast p h → MayOrder h g o → Before h o

@@ -13,6 +13,7 @@ use Rattle.hist_controller.specs.Past.{after, is_open, session, answers, queue, 
 use Rattle.hist_controller.specs.Law.{order, may_out_remove, may_in_remove, may_out_put, first, key_put, out_put, in_remove, out_remove, give, pass, with_list, by_command, by_notice, read_put, asked, has_tunnel, is_none, counts, tunnels, placed, refusal, asked_then, going, by_refusal, by_answer, block, history}
 use Rattle.hist_controller.specs.State.{KeptAssociation, KeptWay, association_of, way_of, state_of, did_all}
 use Rattle.hist_controller.specs.Machine.{own_of, busy_of, out_removable, in_removable, out_puttable, first_of, key_put_of, out_put_of, in_remove_of, out_remove_of, give_of, place, give_at, pass_of, with_list_of, by_command_of, by_notice_of, read_put_of, asked_of, has_tunnel_of, none_kept, way_counts, tunnels_of, refusal_of, asked_then_of, going_of, by_refusal_of, by_answer_of, acts_of, next, run}
+use Rattle.hist_controller.proofs.Lists.{length-more}
 use Rattle.hist_controller.proofs.KeptState.{any-via, keeps}
 use Rattle.hist_controller.proofs.Gives.{ways-give}
 
@@ -83,14 +84,10 @@ place-front (x ∷ xs) i d ds e =
     let n : (i == 0) ≡ false = grind arith in
     rw n (place-front xs (i - 1) d ds (grind arith))
 
-length-one : (xs : List Way) (d : Way) → length (xs ++ d ∷ []) ≡ length xs + 1
-length-one [] d = refl
-length-one (x ∷ xs) d = grind (arith, length-one xs d)
-
 at-rest : (xs : List Way) (i : ℕ) (ds : List Way) → i ≡ length xs → AtPlaces i ds (xs ++ ds)
 at-rest xs i [] e = tt
 at-rest xs i (d ∷ ds) e =
-    let l = length-one xs d in
+    let l = length-more xs d in
     let e' : i + 1 ≡ length (xs ++ d ∷ []) = grind arith in
     (place-front xs i d ds e, subst (AtPlaces (i + 1) ds) (append_assoc xs (d ∷ []) ds) (at-rest (xs ++ d ∷ []) (i + 1) ds e'))
 

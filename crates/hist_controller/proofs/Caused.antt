@@ -1,17 +1,14 @@
 -- The puts of a direction are two per cause of it at most.
 use Rattle.std.proofs.Common.{◌≡◌, ℕ, ◌+◌, ◌≤◌, Bool, true, false, ◌==◌, not, ◌&&◌, ◌||◌, List, [], ◌∷◌, ◌++◌, ◌⊎◌, inl, inr, length, refl, sym, subst, ◌∙◌, ap, arith, if◌then◌else◌, append-nil}
 use Rattle.std.specs.List.{list_any}
-use Rattle.ikeless_tree.specs.declared.command.Peer.{Peer}
-use Rattle.hist_controller.specs.Acts.{Way, Association, Order, Read, Policy, PutIn, PutOut, RemoveIn, RemoveOut, Act, Opened, Cut, Answered, Heard, Ordered, Accepted, Refused, Event}
-use Rattle.hist_controller.specs.Past.{after, oldest, queue, ready, serials, directions, born, made_by, over, starts, renews, PuttingIn, sends, heard, in_progress, put_in, left, RemovingIn, answers_to, causes, wanted}
-use Rattle.hist_controller.specs.Law.{history}
+use Rattle.hist_controller.specs.Acts.{Way, Association, Order, Read, Policy, PutIn, PutOut, RemoveIn, RemoveOut, Act, Opened, Cut, Answered, Heard, Ordered, Accepted, Refused}
+use Rattle.hist_controller.specs.Past.{oldest, queue, ready, serials, directions, born, made_by, over, starts, renews, PuttingIn, sends, heard, in_progress, put_in, left, RemovingIn, answers_to, causes, wanted}
 use Rattle.hist_controller.specs.Clauses.{Has, MayOrder, IsPast}
 use Rattle.hist_controller.specs.Counts.{in_puts, out_puts, cause_count}
+use Rattle.hist_controller.proofs.Lists.{has-left}
 use Rattle.hist_controller.proofs.Serials.{has-more, has-filter, has-if, put-one, of-way, low, one-way}
-use Rattle.hist_controller.proofs.Turns.{has-left}
 use Rattle.hist_controller.proofs.KeptState.{eq-own}
 use Rattle.hist_controller.proofs.Often.{not-sent}
-use Rattle.hist_controller.proofs.Clauses.{past-history}
 
 abbrev one-of : Bool → ℕ
 one-of b = if b then 1 else 0

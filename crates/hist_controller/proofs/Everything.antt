@@ -2,16 +2,16 @@
 use Rattle.std.proofs.Common.{◌≡◌, ℕ, ◌≤◌, Bool, true, false, ◌==◌, not, ◌&&◌, ◌||◌, List, [], ◌∷◌, ◌++◌, length, ◌⊎◌, inl, inr, refl, sym, subst, ◌∙◌, ap, arith, if◌then◌else◌}
 use Rattle.std.specs.List.{filter, list_any}
 use Rattle.ikeless_tree.specs.declared.order.Answer.{Answer}
-use Rattle.ikeless_tree.specs.declared.command.Peer.{Peer}
-use Rattle.hist_controller.specs.Acts.{Way, Association, Order, Read, Policy, PutIn, PutOut, RemoveIn, RemoveOut, Placed, Act, Opened, Cut, Answered, Heard, Ordered, Accepted, Refused, Event}
-use Rattle.hist_controller.specs.Past.{after, oldest, queue, ready, serials, is_first, directions, made_by, PuttingIn, PuttingOut, RemovingIn, RemovingOut, is, answers_to, sends, heard, ended, in_progress, put_in, left, lacks}
-use Rattle.hist_controller.specs.Law.{may_out_remove, may_in_remove, may_out_put, history}
+use Rattle.hist_controller.specs.Acts.{Way, Association, Order, Read, Policy, PutIn, PutOut, RemoveIn, RemoveOut, Placed, Act, Opened, Cut, Answered, Heard, Ordered, Accepted, Refused}
+use Rattle.hist_controller.specs.Past.{oldest, queue, ready, serials, is_first, directions, made_by, PuttingIn, PuttingOut, RemovingIn, RemovingOut, is, answers_to, sends, heard, ended, in_progress, put_in, left, lacks}
+use Rattle.hist_controller.specs.Law.{may_out_remove, may_in_remove, may_out_put}
 use Rattle.hist_controller.specs.Clauses.{Has, MayOrder, IsPast, MayInRemove, Quiet, NotIdle}
 use Rattle.hist_controller.specs.Ever.{made, AllQuiet, AllNotIdle}
+use Rattle.hist_controller.proofs.Lists.{has-left, right-in}
+use Rattle.hist_controller.proofs.Bools.{or-right, split-or}
 use Rattle.hist_controller.proofs.Serials.{has-more, has-filter, has-if, put-one, put-serial, more-if}
-use Rattle.hist_controller.proofs.Turns.{has-left, any-has, not-idle}
-use Rattle.hist_controller.proofs.Befores.{or-or, has-queue, has-rest, has-none, is-not, not-ended}
-use Rattle.hist_controller.proofs.Clauses.{past-history}
+use Rattle.hist_controller.proofs.Turns.{any-has}
+use Rattle.hist_controller.proofs.Befores.{has-queue, has-rest, has-none, is-not, not-ended}
 
 abbrev pub Spent : Association → List Act → Type 0
 Spent x h = (ended x h ≡ true) × ((sends x.serial h ≡ false) ⊎ (heard RemovingOut x.serial h ≡ true))
@@ -27,11 +27,11 @@ pub record Whole (h : List Act) : Type 0 where
 -- ## it stays spent
 
 spent-or : (x : Association) (h : List Act) (a b : Bool) → Spent x h → ((a || ended x h) ≡ true) × ((sends x.serial h ≡ false) ⊎ ((b || heard RemovingOut x.serial h) ≡ true))
-spent-or x h a b s = (or-or a (ended x h) s.0, later s.1)
+spent-or x h a b s = (or-right a (ended x h) s.0, later s.1)
   where
     later : (sends x.serial h ≡ false) ⊎ (heard RemovingOut x.serial h ≡ true) → (sends x.serial h ≡ false) ⊎ ((b || heard RemovingOut x.serial h) ≡ true)
     later (inl e) = inl e
-    later (inr e) = inr (or-or b (heard RemovingOut x.serial h) e)
+    later (inr e) = inr (or-right b (heard RemovingOut x.serial h) e)
 
 spent-order : (x : Association) (h : List Act) (g s n : ℕ) (o : Order) → is PuttingIn x.serial o ≡ false → is PuttingOut x.serial o ≡ false → Spent x h → Spent x (Ordered g s n o ∷ h)
 spent-order x h g s n o e f p = rw (e, f) p
@@ -73,10 +73,6 @@ whole-one h g o m k d e x y (inl i) (inr j) q = let a = k.low d x i in let b = p
 whole-one h g o m k d e x y (inr i) (inl j) q = let a = k.low e y j in let b = put-serial h g o x m (put-one d x o i).0 in absurd (omega arith)
 whole-one h g o m k d e x y (inr i) (inr j) q = let a = (put-one d x o i).0 in let b = (put-one e y o j).0 in cc
 
-right-in : {A : Type 0} (x : A) (xs ys : List A) → Has x ys → Has x (xs ++ ys)
-right-in x [] ys i = i
-right-in x (z ∷ xs) ys i = inr (right-in x xs ys i)
-
 whole-sub : (h : List Act) (o : Order) → Whole h → (d : Way) (x : Association) → Has x (left d h) ⊎ Has x (put_in d o) → Has x (made d h ++ put_in d o)
 whole-sub h o k d x (inl j) = has-left x (made d h) (put_in d o) (k.sub d x j)
 whole-sub h o k d x (inr j) = right-in x (made d h) (put_in d o) j
@@ -86,16 +82,12 @@ first-of true true c e = (refl, refl)
 first-of true false c e = cc
 first-of false b c e = cc
 
-no-or-done : (a b : Bool) → (not a || b) ≡ true → (a ≡ false) ⊎ (b ≡ true)
-no-or-done true b e = inr e
-no-or-done false b e = inl refl
-
 -- what is ordered removed inbound is spent
 spent-now : (h : List Act) (g n : ℕ) → MayInRemove h g n → Whole h → (d : Way) (x : Association) → Has x (made d h) → x.serial ≡ n → Spent x h
 spent-now h g n m k d x i e =
     let s : x ≡ m.association = k.one d m.way x m.association i (k.sub m.way m.association m.left) (e ∙ m.name) in
     let t = first-of (ended m.association h) (not (sends m.association.serial h) || heard RemovingOut m.association.serial h) (ready m.way.receiver h) m.may in
-    rw s (t.0, no-or-done (sends m.association.serial h) (heard RemovingOut m.association.serial h) t.1)
+    rw s (t.0, split-or (sends m.association.serial h) (heard RemovingOut m.association.serial h) t.1)
 
 whole-waits : (h : List Act) (f s i : ℕ) (o : Order) → MayOrder h f o → Whole h → (g n : ℕ) → Has (RemoveIn n) (queue g h) ⊎ ((RemoveIn n ≡ o) × ((g == f) ≡ true)) → (d : Way) (x : Association) → Has x (made d h) ⊎ Has x (put_in d o) → x.serial ≡ n → Spent x (Ordered f s i o ∷ h)
 whole-waits h f s i o m k g n (inl j) d x (inl a) e = spent-on h f s i o d x k m a (k.waits g n j d x a e)
@@ -158,7 +150,7 @@ gone-left h g s n a d x k i j false e = inl (filter-in (λ (y : Association). no
 
 gone-answered : (h : List Act) (g s n : ℕ) (a : Answer) (d : Way) (x : Association) → Whole h → Has x (made d h) → Has x (left d h) ⊎ ((heard RemovingIn x.serial h ≡ true) × Spent x h) → OrGone h g s n a d x
 gone-answered h g s n a d x k i (inl j) = gone-left h g s n a d x k i j (answers_to RemovingIn x.serial (oldest (queue g h))) refl
-gone-answered h g s n a d x k i (inr p) = inr (or-or _ _ p.0, spent-or x h _ _ p.1)
+gone-answered h g s n a d x k i (inr p) = inr (or-right _ _ p.0, spent-or x h _ _ p.1)
 
 whole-answered : (h : List Act) (g s n : ℕ) (a : Answer) → Whole h → Whole (Answered g s n a ∷ h)
 whole-answered h g s n a k =
@@ -180,13 +172,13 @@ whole-cut h g s k =
       one = k.one;
       sub = k.sub;
       early = λ f m i. k.early f m (has-none (f == g) (queue f h) (RemoveIn m) i);
-      waits = λ f m i d x j e. let p = k.waits f m (has-none (f == g) (queue f h) (RemoveIn m) i) d x j e in (or-or _ _ p.0, p.1);
+      waits = λ f m i d x j e. let p = k.waits f m (has-none (f == g) (queue f h) (RemoveIn m) i) d x j e in (or-right _ _ p.0, p.1);
       gone = λ d x i. cut-gone d x (k.gone d x i);
     }
   where
     cut-gone : (d : Way) (x : Association) → Has x (left d h) ⊎ ((heard RemovingIn x.serial h ≡ true) × Spent x h) → Has x (left d h) ⊎ ((heard RemovingIn x.serial h ≡ true) × Spent x (Cut g s ∷ h))
     cut-gone d x (inl j) = inl j
-    cut-gone d x (inr p) = inr (p.0, (or-or _ _ p.1.0, p.1.1))
+    cut-gone d x (inr p) = inr (p.0, (or-right _ _ p.1.0, p.1.1))
 
 if-not : {A : Type 0} (x : A) (b : Bool) (xs : List A) → b ≡ false → Has x xs → Has x (if b then [] else xs)
 if-not x b xs e i = rw e i
@@ -198,13 +190,13 @@ whole-told h c k =
       one = λ d e x y i j q. k.one d e x y (has-if x _ (made d h) i).1 (has-if y _ (made e h) j).1 q;
       sub = λ d x i. let p = has-if x _ (left d h) i in if-not x _ (made d h) p.0 (k.sub d x p.1);
       early = k.early;
-      waits = λ f m i d x j e. let p = k.waits f m i d x (has-if x _ (made d h) j).1 e in (or-or _ _ p.0, p.1);
+      waits = λ f m i d x j e. let p = k.waits f m i d x (has-if x _ (made d h) j).1 e in (or-right _ _ p.0, p.1);
       gone = λ d x i. let p = has-if x _ (made d h) i in told-gone d x p.0 (k.gone d x p.1);
     }
   where
     told-gone : (d : Way) (x : Association) → made_by c (length (directions h)) d ≡ false → Has x (left d h) ⊎ ((heard RemovingIn x.serial h ≡ true) × Spent x h) → Has x (left d (Accepted c ∷ h)) ⊎ ((heard RemovingIn x.serial h ≡ true) × Spent x (Accepted c ∷ h))
     told-gone d x e (inl j) = inl (if-not x _ (left d h) e j)
-    told-gone d x e (inr p) = inr (p.0, (or-or _ _ p.1.0, p.1.1))
+    told-gone d x e (inr p) = inr (p.0, (or-right _ _ p.1.0, p.1.1))
 
 whole-opened : (h : List Act) (g s : ℕ) → Whole h → Whole (Opened g s ∷ h)
 whole-opened h g s k =

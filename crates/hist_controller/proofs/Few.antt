@@ -1,16 +1,15 @@
 -- A direction has two associations left at most, and a gateway 4,096 halves.
-use Rattle.std.proofs.Common.{◌≡◌, ℕ, ◌+◌, ◌*◌, ◌<◌, ◌≤◌, Bool, true, false, ◌==◌, not, ◌&&◌, ◌||◌, nat_le, nat_lt, List, [], ◌∷◌, ◌++◌, Option, Some, None, ◌⊎◌, inl, inr, length, refl, sym, subst, ◌∙◌, ap, arith, if◌then◌else◌, append-nil}
+use Rattle.std.proofs.Common.{◌≡◌, ℕ, ◌+◌, ◌*◌, ◌<◌, ◌≤◌, Bool, true, false, ◌==◌, not, ◌&&◌, ◌||◌, nat_le, nat_lt, List, [], ◌∷◌, ◌++◌, ◌⊎◌, inl, inr, length, refl, sym, subst, ◌∙◌, ap, arith, if◌then◌else◌, append-nil}
 use Rattle.std.proofs.lemmas.Grind.{common_steps}
 use Rattle.std.specs.List.{filter, list_any}
-use Rattle.ikeless_tree.specs.declared.order.Answer.{Answer}
-use Rattle.hist_controller.specs.Acts.{Way, Association, Order, Read, Policy, PutIn, PutOut, RemoveIn, RemoveOut, Placed, PlacedTunnel, SetPolicy, Tunnel, End, Rekey, Keys, Act, Opened, Cut, Answered, Heard, Ordered, Accepted, Refused}
-use Rattle.hist_controller.specs.Past.{oldest, queue, ready, serials, directions, born, two_of, made_by, ends, over, owed, wanted, PuttingIn, PuttingOut, RemovingIn, RemovingOut, answers_to, sends, heard, ended, put_in, left, is_own, busy}
-use Rattle.hist_controller.specs.Law.{may_out_remove, may_in_remove, may_out_put, may_in_put, has_tunnel, is_none, counts, tunnels, refusal}
+use Rattle.hist_controller.specs.Acts.{Way, Association, Order, Read, Policy, PutIn, PutOut, RemoveIn, RemoveOut, Placed, SetPolicy, Tunnel, End, Rekey, Keys, Act, Opened, Cut, Answered, Heard, Ordered, Accepted, Refused}
+use Rattle.hist_controller.specs.Past.{oldest, queue, ready, directions, born, two_of, made_by, ends, over, owed, wanted, PuttingIn, PuttingOut, RemovingIn, RemovingOut, answers_to, sends, heard, ended, put_in, left, is_own, busy}
+use Rattle.hist_controller.specs.Law.{has_tunnel, is_none, counts, tunnels}
 use Rattle.hist_controller.specs.Clauses.{Has, MayOrder, IsPast, MayInPut}
 use Rattle.hist_controller.specs.Halves.{PlainAnswers, touches, halves}
-use Rattle.hist_controller.proofs.KeptState.{Rising, rising, made-no, eq-own}
-use Rattle.hist_controller.proofs.Serials.{has-more, has-filter, has-if, put-one, put-serial, of-way, low, one-way}
-use Rattle.hist_controller.proofs.Turns.{has-left}
+use Rattle.hist_controller.proofs.Lists.{length-more}
+use Rattle.hist_controller.proofs.KeptState.{Rising, rising, made-no}
+use Rattle.hist_controller.proofs.Serials.{has-more, has-filter, put-one, put-serial, of-way, low, one-way}
 use Rattle.hist_controller.proofs.Befores.{any-yes}
 use Rattle.hist_controller.proofs.Removed.{neither}
 use Rattle.hist_controller.proofs.Accepts.{tunnel-passes}
@@ -139,10 +138,6 @@ filter-length q (x ∷ xs) = kept (q x) (filter-length q xs)
     kept true e = grind arith
     kept false e = grind arith
 
-length-one : (xs : List Association) (x : Association) → length (xs ++ x ∷ []) ≡ length xs + 1
-length-one [] x = refl
-length-one (z ∷ xs) x = grind (arith, length-one xs x)
-
 -- what is left hangs on the id alone
 left-by-id : (h : List Act) (d e : Way) → d.id ≡ e.id → left d h ≡ left e h
 left-by-id [] d e q = refl
@@ -183,7 +178,7 @@ few-ordered p h l k g (PutIn x) m d e = by-way (d.id == x.way.id) refl
         let q : d.id ≡ x.way.id = grind arith in
         let a = one-left p h l k g x m in
         let b = ap length (left-by-id h d x.way q) in
-        let c = length-one (left d h) x in
+        let c = length-more (left d h) x in
         omega arith
     by-way false t = rw (append-nil (left d h)) e
 few-ordered p h l k g (PutOut x) m d e = rw (append-nil (left d h)) e

@@ -9,22 +9,19 @@ use Rattle.ikeless_tree.specs.declared.order.Answer.{Answer}
 use Rattle.ikeless_tree.specs.declared.order.Notice.{Notice}
 use Rattle.ikeless_tree.specs.declared.order.Notice.TheVariants as notices
 use Rattle.hist_controller.specs.Acts.{Way, Order, Read, Policy, Placed, SetPolicy, Tunnel, End, Rekey, Keys, Act, Opened, Cut, Answered, Heard, Ordered, Accepted, Refused, Event, Told, Opens, Cuts, Answers, Notices}
-use Rattle.hist_controller.specs.Past.{after, is_open, session, answers, oldest, queue, newest_list, directions}
+use Rattle.hist_controller.specs.Past.{after, is_open, session, answers, queue, newest_list, directions}
 use Rattle.hist_controller.specs.Law.{order, give, pass, with_list, is_reading, by_command, by_notice, asked, placed, refusal, going, by_refusal, by_answer, block, history}
 use Rattle.hist_controller.specs.State.{KeptGateway, opened, closed, answered, ordered, state_of, did}
 use Rattle.hist_controller.specs.Machine.{acts_of}
 use Rattle.hist_controller.specs.Clauses.{Has, MayFollow, MayAll, IsPast}
 use Rattle.hist_controller.specs.Table.{Table, shut, gateway_at, change, listed, told_gates, seen, did_table, did_all_table, next_table, shut_gateways, first_table, fits_placed, Fits, AllFit, EventFits, AllEventsFit}
+use Rattle.hist_controller.proofs.Waits.{oldest-has}
 use Rattle.hist_controller.proofs.KeptState.{keeps, same-at, same-state}
 use Rattle.hist_controller.proofs.Gives.{Given, nothing, out_removed, in_removed, out_was_put, in_was_put, given}
 use Rattle.hist_controller.proofs.Blocks.{acts_of-state_of}
 use Rattle.hist_controller.proofs.Clauses.{may-block, after-append}
 use Rattle.hist_controller.proofs.Befores.{has-queue, has-rest, has-none}
 use Rattle.hist_controller.proofs.Tables.{seen-did}
-
-oldest-has : (q : List Order) (o : Order) → oldest q ≡ Some o → Has o q
-oldest-has [] o e = cc
-oldest-has (x ∷ q) o e = let w : o ≡ x = cc in inl w
 
 open-fits : (p g : ℕ) (h : List Act) → AllFit p h → is_open g h ≡ true → g < p
 open-fits p g [] a e = cc

@@ -1,11 +1,12 @@
 -- At which gateway each order of a half was given, and of which association.
-use Rattle.std.proofs.Common.{◌≡◌, ℕ, ◌+◌, ◌≤◌, Bool, true, false, ◌==◌, not, ◌&&◌, ◌||◌, List, [], ◌∷◌, ◌++◌, Option, Some, None, ◌⊎◌, inl, inr, refl, sym, subst, ◌∙◌, ap, arith, if◌then◌else◌}
+use Rattle.std.proofs.Common.{◌≡◌, ℕ, ◌≤◌, Bool, true, false, ◌==◌, not, ◌&&◌, ◌||◌, List, [], ◌∷◌, inl, inr, refl, sym, subst, ◌∙◌, ap, arith}
 use Rattle.hist_controller.specs.Acts.{Way, Association, Order, Read, Policy, PutIn, PutOut, RemoveIn, RemoveOut, Act, Opened, Cut, Answered, Heard, Ordered, Accepted, Refused}
-use Rattle.hist_controller.specs.Past.{oldest, queue, directions, born, serials, is_first, RemovingIn, RemovingOut, PuttingIn, PuttingOut, is, heard, ended, ready, answers_to, sends, put_in, left}
+use Rattle.hist_controller.specs.Past.{oldest, queue, directions, serials, is_first, RemovingIn, RemovingOut, PuttingIn, PuttingOut, is, heard, ended, ready, answers_to, sends, put_in, left}
 use Rattle.hist_controller.specs.Clauses.{Has, MayOrder, IsPast, MayInPut, MayOutPut, MayInRemove, MayOutRemove}
 use Rattle.hist_controller.specs.Orders.{Given, PutOf}
+use Rattle.hist_controller.proofs.Lists.{has-left}
+use Rattle.hist_controller.proofs.Bools.{second-of-4}
 use Rattle.hist_controller.proofs.Serials.{has-more, has-filter, has-if, put-one, of-way, put-serial, more-if, one-way}
-use Rattle.hist_controller.proofs.Turns.{has-left}
 
 -- an association left was put at the receiver of its direction, which is one of the directions
 pub record Left (h : List Act) (x : Association) : Type 0 where
@@ -116,9 +117,6 @@ sent-put n (Accepted c ∷ h) e = sent-put n h e
 sent-put n (Refused w ∷ h) e = sent-put n h e
 
 -- ## removals
-
-second-of-4 : (a b c d : Bool) → (a && b && c && d) ≡ true → b ≡ true
-second-of-4 a b c d e = grind arith
 
 removed-in : (p : ℕ) (h : List Act) (g n : ℕ) → IsPast p h → MayInRemove h g n → PutOf PutIn n g h
 removed-in p h g n l m =

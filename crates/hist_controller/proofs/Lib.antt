@@ -1,3 +1,5 @@
+pub mod Bools
+pub mod Lists
 pub mod Shown
 pub mod KeptState
 pub mod Gives
@@ -19,3 +21,4 @@ pub mod Names
 pub mod Waits
 pub mod Few
 pub mod Transcript
+pub mod Policies

@@ -5,6 +5,7 @@ use Rattle.hist_controller.specs.Past.{oldest, queue, ready, keys, key_of, seria
 use Rattle.hist_controller.specs.Machine.{place}
 use Rattle.hist_controller.specs.Clauses.{Has, MayOrder, IsPast, MayInPut, next_key}
 use Rattle.hist_controller.specs.Counts.{times, KeysRight}
+use Rattle.hist_controller.proofs.Lists.{length-more}
 use Rattle.hist_controller.proofs.Serials.{has-more, has-filter, has-if, put-one, low}
 
 -- ## each half is put once at most
@@ -78,10 +79,6 @@ pub record Keyed (h : List Act) : Type 0 where
   pub many : length gone ≡ serials h
   pub right : (d : Way) (x : Association) → Has x (left d h) → place (x.serial - 1) (keys h) ≡ Some x.key
   pub all : KeysRight h
-
-length-more : (xs : List (List ℕ)) (k : List ℕ) → length (xs ++ k ∷ []) ≡ length xs + 1
-length-more [] k = refl
-length-more (x ∷ xs) k = grind (arith, length-more xs k)
 
 put-place : (h : List Act) (k : Keyed h) (x : Association) → x.serial ≡ serials h + 1 → next_key (spare h) ≡ Some x.key → place (x.serial - 1) (keys h) ≡ Some x.key
 put-place h k x e q = let m = k.many in rw k.split (place-next (x.serial - 1) k.gone (spare h) x.key (grind arith) q)

@@ -1,11 +1,12 @@
 -- The oldest waiting order is the one whose number is answered.
-use Rattle.std.proofs.Common.{◌≡◌, ℕ, ◌+◌, ◌-◌, ◌<◌, Bool, true, false, ◌==◌, List, [], ◌∷◌, ◌++◌, Option, Some, None, length, ◌⊎◌, inl, inr, refl, sym, subst, ◌∙◌, ap, arith, if◌then◌else◌}
+use Rattle.std.proofs.Common.{◌≡◌, ℕ, ◌+◌, ◌-◌, ◌<◌, Bool, true, false, ◌==◌, List, [], ◌∷◌, Option, Some, None, length, inl, inr, refl, sym, subst, ◌∙◌, ap, arith, if◌then◌else◌}
 use Rattle.ikeless_tree.specs.declared.order.Answer.{Answer}
 use Rattle.hist_controller.specs.Acts.{Order, Act, Opened, Cut, Answered, Heard, Ordered, Accepted, Refused}
 use Rattle.hist_controller.specs.Past.{is_open, session, orders, answers, oldest, rest, queue}
 use Rattle.hist_controller.specs.Machine.{place}
 use Rattle.hist_controller.specs.Clauses.{IsPast}
 use Rattle.hist_controller.specs.Numbers.{numbered}
+use Rattle.hist_controller.proofs.Lists.{length-more, place-old}
 
 record Queued (g : ℕ) (h : List Act) : Type 0 where
   pub find : (j : ℕ) (o : Order) → place j (queue g h) ≡ Some o → numbered g (session g h) (answers g h + 1 + j) h ≡ Some o
@@ -13,25 +14,6 @@ record Queued (g : ℕ) (h : List Act) : Type 0 where
 
 abbrev No : Order → Type 0
 No o = ◌≡◌ {A = Option Order} None (Some o)
-
-place-old : (j : ℕ) (q : List Order) (z o : Order) → place j (q ++ z ∷ []) ≡ Some o → ((j < length q) × (place j q ≡ Some o)) ⊎ ((j ≡ length q) × (z ≡ o))
-place-old j [] z o e = one (j == 0) refl e
-  where
-    one : (b : Bool) → (j == 0) ≡ b → (if b then Some z else None) ≡ Some o → ((j < 0) × (No o)) ⊎ ((j ≡ 0) × (z ≡ o))
-    one true t e = inr (grind arith, let w : z ≡ o = cc in w)
-    one false t e = cc
-place-old j (y ∷ q) z o e = step (j == 0) refl e (place-old (j - 1) q z o)
-  where
-    step : (b : Bool) → (j == 0) ≡ b → (if b then Some y else place (j - 1) (q ++ z ∷ [])) ≡ Some o → (place (j - 1) (q ++ z ∷ []) ≡ Some o → ((j - 1 < length q) × (place (j - 1) q ≡ Some o)) ⊎ ((j - 1 ≡ length q) × (z ≡ o))) → ((j < length (y ∷ q)) × ((if j == 0 then Some y else place (j - 1) q) ≡ Some o)) ⊎ ((j ≡ length (y ∷ q)) × (z ≡ o))
-    step true t e f = inl ((grind arith), rw t e)
-    step false t e f = elim (f e) as (λ w. ((j < length (y ∷ q)) × ((if j == 0 then Some y else place (j - 1) q) ≡ Some o)) ⊎ ((j ≡ length (y ∷ q)) × (z ≡ o))) [
-      | inl p ↦ inl (let a : j - 1 < length q = p.0 in (grind arith), rw t p.1)
-      | inr p ↦ inr (let a : j - 1 ≡ length q = p.0 in (grind arith), p.1)
-    ]
-
-length-more : (q : List Order) (o : Order) → length (q ++ o ∷ []) ≡ length q + 1
-length-more [] o = refl
-length-more (x ∷ q) o = grind (arith, length-more q o)
 
 place-rest : (j : ℕ) (q : List Order) (o : Order) → place j (rest q) ≡ Some o → place (j + 1) q ≡ Some o
 place-rest j [] o e = e

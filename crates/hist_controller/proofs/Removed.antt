@@ -1,17 +1,16 @@
 -- A half is ordered removed once at most in a session, so not more often than sessions were opened.
-use Rattle.std.proofs.Common.{◌≡◌, ℕ, ◌+◌, ◌<◌, ◌≤◌, Bool, true, false, ◌==◌, not, ◌&&◌, ◌||◌, List, [], ◌∷◌, ◌++◌, ◌⊎◌, inl, inr, refl, subst, ◌∙◌, ap, arith, length, if◌then◌else◌}
+use Rattle.std.proofs.Common.{◌≡◌, ℕ, ◌+◌, ◌<◌, ◌≤◌, Bool, true, false, ◌==◌, not, ◌&&◌, ◌||◌, List, [], ◌∷◌, ◌++◌, ◌⊎◌, inl, inr, refl, subst, ◌∙◌, ap, arith, if◌then◌else◌}
 use Rattle.std.specs.List.{filter, list_any}
 use Rattle.ikeless_tree.specs.declared.order.Answer.{Answer}
-use Rattle.ikeless_tree.specs.declared.command.Peer.{Peer}
-use Rattle.hist_controller.specs.Acts.{Way, Association, Order, Read, Policy, PutIn, PutOut, RemoveIn, RemoveOut, Act, Opened, Cut, Answered, Heard, Ordered, Accepted, Refused, Event}
-use Rattle.hist_controller.specs.Past.{after, is_open, session, oldest, rest, queue, ready, is_first, serials, Kind, PuttingIn, RemovingIn, RemovingOut, is, is_own, answers_to, sends, heard, ended, put_in, left}
-use Rattle.hist_controller.specs.Law.{history}
+use Rattle.hist_controller.specs.Acts.{Way, Association, Order, Read, Policy, PutIn, PutOut, RemoveIn, RemoveOut, Act, Opened, Cut, Answered, Heard, Ordered, Accepted, Refused}
+use Rattle.hist_controller.specs.Past.{is_open, session, oldest, rest, queue, ready, is_first, serials, Kind, PuttingIn, RemovingIn, RemovingOut, is, is_own, answers_to, sends, heard, ended, put_in, left}
 use Rattle.hist_controller.specs.Clauses.{Has, MayOrder, IsPast}
 use Rattle.hist_controller.specs.Counts.{times_at, times_now}
+use Rattle.hist_controller.proofs.Lists.{any-if}
+use Rattle.hist_controller.proofs.Bools.{or-right, and-no}
 use Rattle.hist_controller.proofs.KeptState.{eq-own}
 use Rattle.hist_controller.proofs.Serials.{has-more, has-filter, has-if, put-one, low}
-use Rattle.hist_controller.proofs.Turns.{any-has, any-last, any-if}
-use Rattle.hist_controller.proofs.Clauses.{past-history}
+use Rattle.hist_controller.proofs.Turns.{any-has, any-last}
 
 -- ## what is left was not removed
 
@@ -27,10 +26,6 @@ has-passes q x (z ∷ xs) i = passes-if q x z (filter q xs) (q z) refl (has-pass
 both-no : (a b : Bool) → not a ≡ true → b ≡ false → (a || b) ≡ false
 both-no true b e f = cc
 both-no false b e f = f
-
-and-no : (a b : Bool) → b ≡ false → (a && b) ≡ false
-and-no true b e = e
-and-no false b e = refl
 
 stays-left : (h : List Act) (d : Way) (x : Association) → Has x (left d h) → heard RemovingIn x.serial h ≡ false
 stays-left [] d x i = refl
@@ -85,9 +80,6 @@ record Sparing (k : Kind) (n g : ℕ) (h : List Act) : Type 0 where
   pub all : times_at k n g h ≤ session g h
   pub less : is_open g h ≡ true → times_now k n g h ≡ 0 → times_at k n g h + 1 ≤ session g h
 
-any-grown : (b : Bool) (q : Order → Bool) (xs : List Order) (o : Order) → list_any q xs ≡ true → list_any q (if b then xs ++ o ∷ [] else xs) ≡ true
-any-grown b q xs o e = any-if q b xs o e
-
 abbrev Live : ℕ → Bool → Bool → Type 0
 Live n a b = (n ≡ 0) ⊎ ((a ≡ true) ⊎ (b ≡ true))
 
@@ -96,19 +88,15 @@ live-map n a b a' b' f g (inl z) = inl z
 live-map n a b a' b' f g (inr (inl x)) = inr (inl (f x))
 live-map n a b a' b' f g (inr (inr y)) = inr (inr (g y))
 
-and-none : (a b : Bool) → b ≡ false → (a && b) ≡ false
-and-none true b e = e
-and-none false b e = refl
-
 -- an order that is no such order
 sparing-plain : (k : Kind) (n g : ℕ) (h : List Act) (f s i : ℕ) (o : Order) → is k n o ≡ false → is PuttingIn n o ≡ false → serials h ≤ serials (Ordered f s i o ∷ h) → Sparing k n g h → Sparing k n g (Ordered f s i o ∷ h)
 sparing-plain k n g h f s i o e r u c =
-    let z = and-none (g == f) (is k n o) e in
+    let z = and-no (g == f) (is k n o) e in
     record {
       now = rw z c.now;
       within = rw z c.within;
       fresh = λ w. rw z (c.fresh (omega arith));
-      live = λ w. rw (z, r) (live-map (times_now k n g h) (list_any (is k n) (queue g h)) (heard k n h) (list_any (is k n) (if g == f then queue g h ++ o ∷ [] else queue g h)) (heard k n h) (any-grown (g == f) (is k n) (queue g h) o) (λ q. q) (c.live w));
+      live = λ w. rw (z, r) (live-map (times_now k n g h) (list_any (is k n) (queue g h)) (heard k n h) (list_any (is k n) (if g == f then queue g h ++ o ∷ [] else queue g h)) (heard k n h) (any-if (is k n) (g == f) (queue g h) o) (λ q. q) (c.live w));
       all = rw z c.all;
       less = λ w v. rw z (c.less w (rw z at v));
     }
@@ -116,7 +104,7 @@ sparing-plain k n g h f s i o e r u c =
 -- an inbound put, of a fresh serial or another one
 sparing-put : (k : Kind) (n g : ℕ) (h : List Act) (f s i : ℕ) (x : Association) → is k n (PutIn x) ≡ false → x.serial ≡ serials h + 1 → (b : Bool) → (n == x.serial) ≡ b → Sparing k n g h → Sparing k n g (Ordered f s i (PutIn x) ∷ h)
 sparing-put k n g h f s i x e q true r c =
-    let z = and-none (g == f) (is k n (PutIn x)) e in
+    let z = and-no (g == f) (is k n (PutIn x)) e in
     let w : serials h < n = grind arith in
     let a = c.fresh w in
     let b = c.within in
@@ -174,10 +162,6 @@ any-rest k n (o ∷ os) b e = split (is k n o) (list_any (is k n) os) b e
     split : (x y b : Bool) → (x || y) ≡ true → (y ≡ true) ⊎ ((x || b) ≡ true)
     split true y b e = inr refl
     split false y b e = inl e
-
-or-right : (a b : Bool) → b ≡ true → (a || b) ≡ true
-or-right true b e = refl
-or-right false b e = e
 
 live-answered : (k : Kind) (n g f : ℕ) (h : List Act) (m : ℕ) (b : Bool) → (g == f) ≡ b → Live m (list_any (is k n) (queue g h)) (heard k n h) → Live m (list_any (is k n) (if b then rest (queue g h) else queue g h)) (answers_to k n (oldest (queue f h)) || heard k n h)
 live-answered k n g f h m b e (inl z) = inl z

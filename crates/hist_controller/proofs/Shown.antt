@@ -382,14 +382,35 @@ shown-renew-late : history peers [] renewed_late ≡
 unfolding renewed_late asked_for in_name out_name k1 k2 k3 k4 digits
 shown-renew-late = refl
 
--- a refused outbound put ends its association, whose halves are removed
+-- the outbound put waits until both sessions are open and read
+waited : List Event
+unfolding asked_for
+waited =
+    policy_a ∷ Told (commands.Keys k1) ∷ Told (commands.Tunnel asked_for) ∷ Opens 0 ∷ Opens 1 ∷ Answers 0 (reading []) ∷ Answers 0 (plain 204) ∷ Answers 1 (reading [])
+    ∷ Notices 0 (notices.Acquire (codes "o1") flow) ∷ Cuts 0 ∷ Answers 1 (plain 201) ∷ Cuts 1 ∷ Opens 0 ∷ Answers 0 (reading []) ∷ Opens 1 ∷ Answers 1 (reading (codes "in/1" ∷ [])) ∷ []
+
+shown-wait : history peers [] waited ≡
+    Accepted (SetPolicy 0 list_a) ∷ Accepted (Keys k1) ∷ Accepted (Tunnel (at asked_for))
+    ∷ Opened 0 1 ∷ Ordered 0 1 1 Read ∷ Ordered 0 1 2 (Policy list_a) ∷ Opened 1 1 ∷ Ordered 1 1 1 Read
+    ∷ Answered 0 1 1 (reading []) ∷ Answered 0 1 2 (plain 204) ∷ Answered 1 1 1 (reading [])
+    ∷ Heard 0 1 (notices.Acquire (codes "o1") flow) ∷ Ordered 1 1 2 (PutIn (half 1 k1 asked_ab))
+    ∷ Cut 0 1 ∷ Answered 1 1 2 (plain 201) ∷ Cut 1 1
+    ∷ Opened 0 2 ∷ Ordered 0 2 1 Read ∷ Ordered 0 2 2 (Policy list_a) ∷ Answered 0 2 1 (reading [])
+    ∷ Opened 1 2 ∷ Ordered 1 2 1 Read
+    ∷ Answered 1 2 1 (reading (codes "in/1" ∷ [])) ∷ Ordered 0 2 3 (PutOut (half 1 k1 asked_ab))
+    ∷ []
+unfolding waited asked_for in_name out_name k1 k2 k3 k4 digits
+shown-wait = refl
+
+-- a refused outbound put ends its association, whose halves are removed; its key was seen for good
 refused_put : List Event
-refused_put = Answers 0 denied ∷ Answers 0 absent ∷ Answers 1 (plain 201) ∷ Answers 1 (plain 204) ∷ []
+refused_put = Answers 0 denied ∷ Answers 0 absent ∷ Answers 1 (plain 201) ∷ Answers 1 (plain 204) ∷ Told (commands.Keys k1) ∷ []
 
 shown-refused-put : history peers (after [] begun) refused_put ≡
     Answered 0 1 4 denied ∷ Ordered 0 1 5 (RemoveOut 1)
     ∷ Answered 0 1 5 absent ∷ Ordered 1 1 5 (RemoveIn 1)
     ∷ Answered 1 1 4 (plain 201) ∷ Answered 1 1 5 (plain 204)
+    ∷ Refused refusals.KeySeen
     ∷ []
 unfolding begun refused_put in_name out_name k1 k2 k3 k4 digits
 shown-refused-put = refl

@@ -1,7 +1,6 @@
 -- The controller's words of its sessions say the same as the words of a transcript of its acts.
-use Rattle.std.proofs.Common.{◌≡◌, ℕ, ◌+◌, ◌<◌, ◌≤◌, Bool, true, false, ◌==◌, not, ◌&&◌, ◌||◌, nat_lt, List, [], ◌∷◌, ◌++◌, Option, Some, None, length, refl, sym, subst, ◌∙◌, ap, arith, if◌then◌else◌}
+use Rattle.std.proofs.Common.{◌≡◌, ℕ, ◌+◌, ◌<◌, Bool, true, false, ◌==◌, not, ◌&&◌, ◌||◌, nat_lt, List, [], ◌∷◌, Option, Some, length, refl, sym, subst, ◌∙◌, ap, arith, if◌then◌else◌}
 use Rattle.std.proofs.lemmas.Grind.{common_steps}
-use Rattle.std.specs.Str.{bytes_eq}
 use Rattle.std.specs.Option.{option_map}
 use Rattle.ikeless_tree.specs.declared.command.Peer.{Peer}
 use Rattle.ikeless_tree.specs.declared.order as tree
@@ -12,7 +11,7 @@ use Rattle.hist_controller.specs.Past.{after, is_open, session, orders, answers,
 use Rattle.hist_controller.specs.Clauses.{IsPast}
 use Rattle.hist_controller.specs.Table.{AllFit}
 use Rattle.hist_controller.specs.Numbers.{numbered}
-use Rattle.hist_controller.specs.Told.{name_of, order_told, told, all_told, past_told, Named}
+use Rattle.hist_controller.specs.Told.{name_of, order_told, all_told, past_told, Named}
 
 -- acts in their order, told one after another, are the past told
 pub told-after : (ps : List Peer) (h xs : List Act) → past_told ps (after h xs) ≡ happened.after (past_told ps h) (all_told ps xs)

@@ -8,6 +8,8 @@ use Rattle.hist_controller.specs.Acts.{Way, Association, Order, Read, Policy, Pu
 use Rattle.hist_controller.specs.Past.{after, is_open, session, orders, answers, queue, serials, spare, used, directions, PuttingIn, PuttingOut, is, is_own, puts_first, put_in, left, busy}
 use Rattle.hist_controller.specs.Law.{may_in_put, give, pass, by_command, read_put, by_notice, placed, refusal, asked_then, going, by_refusal, by_answer, block, history}
 use Rattle.hist_controller.specs.Clauses.{Has, Quiet, NotIdle, MayAll, IsPast}
+use Rattle.hist_controller.proofs.Lists.{has-left, any-if}
+use Rattle.hist_controller.proofs.Bools.{or-right}
 use Rattle.hist_controller.proofs.KeptState.{eq-own}
 use Rattle.hist_controller.proofs.Gives.{Idle, Given, nothing, out_removed, in_removed, out_was_put, in_was_put, given, ways-give}
 use Rattle.hist_controller.proofs.Serials.{of-way, low, one, one-way}
@@ -22,27 +24,10 @@ pub any-last : {A : Type 0} (p : A → Bool) (xs : List A) (x : A) → p x ≡ t
 any-last p [] x e = rw e refl
 any-last p (y ∷ ys) x e = let ih = any-last p ys x e in grind (arith, ih)
 
-pub any-front : {A : Type 0} (p : A → Bool) (xs : List A) (x : A) → list_any p xs ≡ true → list_any p (xs ++ x ∷ []) ≡ true
-any-front p [] x e = cc
-any-front p (y ∷ ys) x e = let ih = any-front p ys x in grind (arith, ih)
-
-pub any-if : {A : Type 0} (p : A → Bool) (b : Bool) (xs : List A) (x : A) → list_any p xs ≡ true → list_any p (if b then xs ++ x ∷ [] else xs) ≡ true
-any-if p true xs x e = any-front p xs x e
-any-if p false xs x e = e
-
-pub has-left : {A : Type 0} (x : A) (xs ys : List A) → Has x xs → Has x (xs ++ ys)
-has-left x [] ys i = absurd i
-has-left x (z ∷ xs) ys (inl e) = inl e
-has-left x (z ∷ xs) ys (inr i) = inr (has-left x xs ys i)
-
 or-up : (a b c d : Bool) → (a ≡ true → c ≡ true) → (b ≡ true → d ≡ true) → (a || b) ≡ true → (c || d) ≡ true
 or-up true b c d f g e = rw (f refl) refl
 or-up false b true d f g e = refl
 or-up false b false d f g e = g e
-
-or-right : (a b : Bool) → b ≡ true → (a || b) ≡ true
-or-right true b e = refl
-or-right false b e = e
 
 -- ## its own turn
 

@@ -1,17 +1,18 @@
 -- An association that is not ended waits for an answer to its next put, or its outbound put was answered.
-use Rattle.std.proofs.Common.{◌≡◌, ℕ, ◌+◌, ◌<◌, ◌≤◌, Bool, true, false, ◌==◌, not, ◌&&◌, ◌||◌, nat_le, nat_lt, List, [], ◌∷◌, ◌++◌, Option, Some, None, ◌⊎◌, inl, inr, refl, sym, subst, ◌∙◌, ap, arith, if◌then◌else◌}
+use Rattle.std.proofs.Common.{◌≡◌, ℕ, ◌<◌, Bool, true, false, ◌==◌, not, ◌&&◌, ◌||◌, nat_le, nat_lt, List, [], ◌∷◌, ◌++◌, Option, Some, None, ◌⊎◌, inl, inr, refl, sym, subst, ◌∙◌, ap, arith, if◌then◌else◌}
 use Rattle.std.proofs.lemmas.Grind.{common_steps}
 use Rattle.std.specs.List.{filter, list_any}
 use Rattle.ikeless_tree.specs.declared.order.Answer.{Answer}
 use Rattle.hist_controller.specs.Acts.{Way, Association, Order, Read, Policy, PutIn, PutOut, RemoveIn, RemoveOut, Act, Opened, Cut, Answered, Heard, Ordered, Accepted, Refused}
-use Rattle.hist_controller.specs.Past.{is_open, oldest, rest, queue, serials, directions, Kind, PuttingIn, PuttingOut, RemovingIn, is, answers_to, sends, heard, spoils, ended, ends, put_in, left}
-use Rattle.hist_controller.specs.Clauses.{Has, MayOrder, IsPast, MayInPut, MayOutPut}
+use Rattle.hist_controller.specs.Past.{is_open, oldest, rest, queue, Kind, PuttingIn, PuttingOut, RemovingIn, is, answers_to, sends, heard, spoils, ended, ends, put_in, left}
+use Rattle.hist_controller.specs.Clauses.{Has, MayOrder, IsPast, MayInPut}
 use Rattle.hist_controller.specs.Orders.{Given}
 use Rattle.hist_controller.specs.Halves.{is_plain, PlainAnswers}
+use Rattle.hist_controller.proofs.Lists.{has-left}
+use Rattle.hist_controller.proofs.Bools.{or-right}
 use Rattle.hist_controller.proofs.KeptState.{eq-own}
-use Rattle.hist_controller.proofs.Serials.{has-more, has-filter, has-if, put-one, put-serial, of-way, low, one, one-way}
-use Rattle.hist_controller.proofs.Turns.{has-left}
-use Rattle.hist_controller.proofs.Befores.{or-or, has-queue, has-rest, has-none, any-yes}
+use Rattle.hist_controller.proofs.Serials.{has-more, has-filter, has-if, put-one, put-serial, of-way, low, one}
+use Rattle.hist_controller.proofs.Befores.{has-queue, has-rest, has-none, any-yes}
 use Rattle.hist_controller.proofs.Removed.{neither}
 use Rattle.hist_controller.proofs.Everything.{no-in}
 use Rattle.hist_controller.proofs.Homes.{lefts, own-way, out-home, one-put}
@@ -87,7 +88,7 @@ queue-given (Ordered f s n z ∷ h) g o i = elim (has-queue (g == f) (queue g h)
 queue-given (Accepted c ∷ h) g o i = queue-given h g o i
 queue-given (Refused w ∷ h) g o i = queue-given h g o i
 
-oldest-has : (q : List Order) (o : Order) → oldest q ≡ Some o → Has o q
+pub oldest-has : (q : List Order) (o : Order) → oldest q ≡ Some o → Has o q
 oldest-has [] o e = cc
 oldest-has (x ∷ q) o e = let w : o ≡ x = cc in inl w
 
@@ -117,7 +118,7 @@ waits-cut h g s k =
           cut-keeps h x.way.sender g (PutOut x) (λ o. is PuttingIn x.serial o || is PuttingOut x.serial o) (x.way.sender == g) refl (eq-own x.serial) n.0 (k.outbound d x i n.1 t v);
       replaced = λ d x y i j e v w.
           let n = neither (list_any (λ o. is PuttingIn y.serial o || is PuttingOut y.serial o) (queue g h)) (ended y h) w in
-          or-or (list_any (λ o. is PuttingIn x.serial o || is PuttingOut x.serial o) (queue g h)) (ended x h) (k.replaced d x y i j e v n.1);
+          or-right (list_any (λ o. is PuttingIn x.serial o || is PuttingOut x.serial o) (queue g h)) (ended x h) (k.replaced d x y i j e v n.1);
     }
 
 plain-put : (a b : Bool) → (a || b) ≡ true → (a ≡ true) ⊎ (b ≡ true)
@@ -187,7 +188,7 @@ waits-answered p h g s n a l m k =
 
     after-answer : (d : Way) (x y : Association) → Has x (left d h) → Has y (left d h) → x.serial < y.serial → (b : Bool) → answers_to PuttingOut y.serial (oldest (queue g h)) ≡ b → (b || heard PuttingOut y.serial h) ≡ true → (spoils y g (oldest (queue g h)) a (heard PuttingIn y.serial h) (sends y.serial h) ≡ false) × (ended y h ≡ false) → (spoils x g (oldest (queue g h)) a (heard PuttingIn x.serial h) (sends x.serial h) || ended x h) ≡ true
     after-answer d x y i j e true t v w = let q = replaced-now h g a d x y (oldest (queue g h)) i j (same d y j) e m t w.0 in rw q refl
-    after-answer d x y i j e false t v w = or-or (spoils x g (oldest (queue g h)) a (heard PuttingIn x.serial h) (sends x.serial h)) (ended x h) (k.replaced d x y i j e v w.1)
+    after-answer d x y i j e false t v w = or-right (spoils x g (oldest (queue g h)) a (heard PuttingIn x.serial h) (sends x.serial h)) (ended x h) (k.replaced d x y i j e v w.1)
 
 no-new : (x : Association) (b : Bool) → (not (x.serial == x.serial) && b) ≡ true → ⊥
 no-new x b e = let q = eq-own x.serial in let u : (not true && b) ≡ true = rw q at e in absurd (let v : false ≡ true = u in cc)
@@ -262,6 +263,6 @@ waits p (Accepted c ∷ h) l a =
     record {
       inbound = λ d x i e v. k.inbound d x (has-if x _ (left d h) i).1 (neither (ends x.way.tunnel.reqid c) (ended x h) e).1 v;
       outbound = λ d x i e t v. k.outbound d x (has-if x _ (left d h) i).1 (neither (ends x.way.tunnel.reqid c) (ended x h) e).1 t v;
-      replaced = λ d x y i j e v w. or-or (ends x.way.tunnel.reqid c) (ended x h) (k.replaced d x y (has-if x _ (left d h) i).1 (has-if y _ (left d h) j).1 e v (neither (ends y.way.tunnel.reqid c) (ended y h) w).1);
+      replaced = λ d x y i j e v w. or-right (ends x.way.tunnel.reqid c) (ended x h) (k.replaced d x y (has-if x _ (left d h) i).1 (has-if y _ (left d h) j).1 e v (neither (ends y.way.tunnel.reqid c) (ended y h) w).1);
     }
 waits p (Refused w ∷ h) l a = let k = waits p h l.1 a in record { inbound = k.inbound; outbound = k.outbound; replaced = k.replaced }

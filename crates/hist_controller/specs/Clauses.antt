@@ -1,4 +1,4 @@
--- What each act says of the past before it.
+-- What each act says of the past before it: the law of the controller, clause by clause.
 use Rattle.std.specs.Prelude.{◌≡◌, ℕ, ◌+◌, Bool, true, false, ◌==◌, not, ◌&&◌, List, [], ◌∷◌, Option, Some, None, ◌⊎◌}
 use Rattle.std.specs.List.{list_any}
 use Rattle.ikeless_tree.specs.declared.order.Notice.{Notice}
@@ -31,6 +31,7 @@ pub record MayInPut (h : List Act) (g : ℕ) (x : Association) : Type 0 where
   pub no_in_remove : NonePasses (may_in_remove h x.way) (left x.way h)
   pub no_out_put : NonePasses (may_out_put h x.way) (left x.way h)
 
+-- the half out/n of an association left is put, after its inbound half
 pub record MayOutPut (h : List Act) (g : ℕ) (x : Association) : Type 0 where
   pub way : Way
   pub of : Has way (directions h)
@@ -42,6 +43,7 @@ pub record MayOutPut (h : List Act) (g : ℕ) (x : Association) : Type 0 where
   pub free : busy way h ≡ false
   pub may : may_out_put h way x ≡ true
 
+-- the half in/n of an ended association is removed, after its outbound half
 pub record MayInRemove (h : List Act) (g n : ℕ) : Type 0 where
   pub way : Way
   pub of : Has way (directions h)
@@ -54,6 +56,7 @@ pub record MayInRemove (h : List Act) (g n : ℕ) : Type 0 where
   pub free : busy way h ≡ false
   pub may : may_in_remove h way association ≡ true
 
+-- the half out/n of an ended association is removed
 pub record MayOutRemove (h : List Act) (g n : ℕ) : Type 0 where
   pub way : Way
   pub of : Has way (directions h)

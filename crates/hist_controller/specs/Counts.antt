@@ -1,6 +1,7 @@
 -- How often things are ordered.
-use Rattle.std.specs.Prelude.{◌≡◌, ℕ, ◌+◌, ◌-◌, Bool, false, ◌==◌, ◌&&◌, List, [], ◌∷◌, Some, if◌then◌else◌}
-use Rattle.hist_controller.specs.Acts.{Way, Order, PutIn, PutOut, Act, Opened, Ordered}
+use Rattle.std.specs.Prelude.{◌≡◌, ℕ, ◌+◌, ◌-◌, ◌<◌, Bool, false, ◌==◌, ◌&&◌, List, [], ◌∷◌, ◌++◌, Some, length, if◌then◌else◌}
+use Rattle.ikeless_tree.specs.declared.entry.SpdEntry.{SpdEntry}
+use Rattle.hist_controller.specs.Acts.{Way, Order, Policy, PutIn, PutOut, Placed, SetPolicy, Act, Opened, Ordered, Accepted}
 use Rattle.hist_controller.specs.Past.{keys, Kind, is, causes}
 use Rattle.hist_controller.specs.Machine.{place}
 
@@ -57,3 +58,23 @@ abbrev pub KeysRight : List Act → Type 0
 KeysRight [] = Unit {0}
 KeysRight (Ordered g s n o ∷ h) = KeyRight h o × KeysRight h
 KeysRight (_ ∷ h) = KeysRight h
+
+abbrev pub list_of : ℕ → Placed → List (List SpdEntry)
+list_of g (SetPolicy f l) = if g == f then l ∷ [] else []
+list_of g (_) = []
+
+-- the lists accepted for a gateway, oldest first
+abbrev pub lists : ℕ → List Act → List (List SpdEntry)
+lists g [] = []
+lists g (Accepted c ∷ h) = lists g h ++ list_of g c
+lists g (_ ∷ h) = lists g h
+
+-- an ordered list is the last one accepted so far: lists never go back
+abbrev pub ListRight : ℕ → List Act → Order → Type 0
+ListRight g h (Policy l) = (0 < length (lists g h)) × (place (length (lists g h) - 1) (lists g h) ≡ Some l)
+ListRight g h (_) = Unit {0}
+
+abbrev pub ListsRight : List Act → Type 0
+ListsRight [] = Unit {0}
+ListsRight (Ordered g s n o ∷ h) = ListRight g h o × ListsRight h
+ListsRight (_ ∷ h) = ListsRight h

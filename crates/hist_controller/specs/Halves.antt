@@ -1,5 +1,5 @@
 -- How many halves a controller has at a gateway.
-use Rattle.std.specs.Prelude.{◌≡◌, ℕ, ◌+◌, Bool, true, ◌==◌, ◌||◌, nat_le, List, [], ◌∷◌, Option, Some, None, length, if◌then◌else◌}
+use Rattle.std.specs.Prelude.{◌≡◌, ℕ, ◌+◌, Bool, true, ◌==◌, ◌||◌, nat_le, List, [], ◌∷◌, Option, Some, length, if◌then◌else◌}
 use Rattle.hist_controller.specs.Acts.{Way, Order, PutIn, PutOut, Act, Answered}
 use Rattle.hist_controller.specs.Past.{oldest, queue, left}
 

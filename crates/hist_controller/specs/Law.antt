@@ -21,6 +21,8 @@ abbrev pub order : List Act → ℕ → Order → Act
 order h g o = Ordered g (session g h) (orders g h + 1) o
 
 -- ## which orders a direction may get
+-- A new association is put inbound first, and outbound once that is answered; an ended one is removed outbound first, and
+-- inbound once that is answered.
 
 abbrev pub may_out_remove : List Act → Way → Association → Bool
 may_out_remove h d x = ended x h && sends x.serial h && not (heard RemovingOut x.serial h) && ready d.sender h
@@ -55,11 +57,11 @@ abbrev pub out_remove : List Act → Way → Option Association → List Act
 out_remove h d (Some x) = order h d.sender (RemoveOut x.serial) ∷ []
 out_remove h d None = in_remove h d (first (may_in_remove h d) (left d h))
 
--- the order of a direction, or none
+-- the order of a direction, or none: removals before puts, outbound ones before inbound ones, the oldest first
 abbrev pub give : List Act → Way → List Act
 give h d = if busy d h then [] else out_remove h d (first (may_out_remove h d) (left d h))
 
--- the orders of directions, one after another
+-- the orders of directions, one after another, each with those before it in its past
 abbrev pub pass : List Act → List Way → List Act
 pass h [] = []
 pass h (d ∷ ds) = give h d ++ pass (after h (give h d)) ds
@@ -82,6 +84,7 @@ abbrev pub by_notice : List Act → ℕ → Notice → List Act
 by_notice h g (notices.BadSpi spi) = if list_any is_reading (queue g h) then [] else order h g Read ∷ []
 by_notice h g (_) = []
 
+-- at an opening: a reading, and the newest list where there is one
 abbrev pub read_put : List Act → ℕ → List Act
 read_put h g = order h g Read ∷ with_list (order h g Read ∷ h) g (newest_list g h)
 
@@ -106,6 +109,7 @@ placed ps (commands.End r) = End r
 placed ps (commands.Rekey r) = Rekey r
 placed ps (commands.Keys k) = Keys k
 
+-- a tunnel of this reqid is not ended
 abbrev pub has_tunnel : ℕ → List Act → Bool
 has_tunnel r h = list_any (λ d. (d.tunnel.reqid == r) && not (over d h)) (directions h)
 

@@ -1,4 +1,4 @@
--- The controller as a machine over what it keeps.
+-- The controller as a machine over what it keeps, word for word beside the law.
 use Rattle.std.specs.Prelude.{ℕ, ◌+◌, ◌-◌, Bool, true, false, ◌==◌, not, ◌&&◌, ◌||◌, nat_le, nat_lt, List, [], ◌∷◌, ◌++◌, Option, Some, None, length, if◌then◌else◌}
 use Rattle.std.specs.List.{list_any}
 use Rattle.ikeless_tree.specs.Check.{is_key_length}

@@ -67,6 +67,7 @@ is_read g (Opened f s ∷ h) = not (g == f) && is_read g h
 is_read g (Answered f s n a ∷ h) = ((g == f) && (n == 1)) || is_read g h
 is_read g (_ ∷ h) = is_read g h
 
+-- its session is open and read
 abbrev pub ready : ℕ → List Act → Bool
 ready g h = is_open g h && is_read g h
 
@@ -147,6 +148,7 @@ over d (Accepted c ∷ h) = not (made_by c (length (directions h)) d) && (ends d
 over d (_ ∷ h) = over d h
 
 -- ## associations of a direction
+-- Each word of an association begins anew at the order of its inbound put, and each word of a direction at its command.
 
 -- which order of a half
 pub data Kind : Type 0 where
@@ -204,6 +206,7 @@ ended x (Answered g s n a ∷ h) = spoils x g (oldest (queue g h)) a (heard Putt
 ended x (Ordered g s n o ∷ h) = not (is PuttingIn x.serial o) && ended x h
 ended x (_ ∷ h) = ended x h
 
+-- from the order of its inbound put until the answer to its outbound put
 abbrev pub in_progress : List Act → Association → Bool
 in_progress h x = not (ended x h) && not (heard PuttingOut x.serial h)
 
@@ -238,11 +241,14 @@ is_own d xs (RemoveIn n) = list_any (λ x. x.serial == n) xs
 is_own d xs (RemoveOut n) = list_any (λ x. x.serial == n) xs
 is_own d xs (_) = false
 
--- a put or a removal of its own is waiting
+-- a put or a removal of its own is waiting: it gets no other order
 abbrev pub busy : Way → List Act → Bool
 busy d h = list_any (is_own d (left d h)) (queue d.sender h) || list_any (is_own d (left d h)) (queue d.receiver h)
 
 -- ## causes, each said of the past before the act
+-- A direction is owed a new association by one of six: its `tunnel` command asks for keys at once; a `rekey`; an acquire
+-- from its sender while none is in progress; an expiry or an overflow of the association put last; a reading that does not
+-- show a half whose put was answered; a cut that loses a put.
 
 abbrev pub starts : Placed → Bool
 starts (Tunnel t) = t.spec.now
@@ -265,12 +271,14 @@ is_half d g name n = ((d.receiver == g) && bytes_eq (in_name n) name) || ((d.sen
 abbrev pub of_newest : List Act → Way → ℕ → List ℕ → Bool
 of_newest h d g name = is_half d g name (newest d h) && list_any (λ x. (x.serial == newest d h) && not (ended x h)) (left d h)
 
+-- a notice is a cause
 abbrev pub calls : List Act → Way → ℕ → Notice → Bool
 calls h d g (notices.Acquire name s) = (d.sender == g) && has_entry name d.tunnel.reqid (newest_list g h) && not (list_any (in_progress h) (left d h))
 calls h d g (notices.Expire name soft c) = of_newest h d g name
 calls h d g (notices.SeqOverflow name) = of_newest h d g name
 calls h d g (notices.BadSpi s) = false
 
+-- a reading with these names does not show a half of an association that is not ended, whose own put was answered
 abbrev pub lacks : List Act → Way → ℕ → List (List ℕ) → Association → Bool
 lacks h d g names x =
     not (ended x h)
@@ -305,5 +313,6 @@ wanted d (Ordered g s n o ∷ h) = not (puts_first d o) && wanted d h
 wanted d (Accepted c ∷ h) = if made_by c (length (directions h)) d then starts c else (renews d c || wanted d h)
 wanted d (a ∷ h) = causes d a h || wanted d h
 
+-- a direction of an ended tunnel is never owed an association
 abbrev pub owed : Way → List Act → Bool
 owed d h = wanted d h && not (over d h)

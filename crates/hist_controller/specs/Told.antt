@@ -12,7 +12,7 @@ use Rattle.ikeless_tree.specs.declared.order.Order.TheVariants as tree
 use Rattle.hist_acts.specs.declared.act.Act.TheVariants as acts
 use Rattle.ikeless_tree.specs.declared.order as orders
 use Rattle.hist_acts.specs.declared.act as happened
-use Rattle.hist_controller.specs.Acts.{Way, Association, in_name, out_name, Order, Read, Policy, PutIn, PutOut, RemoveIn, RemoveOut, Act, Opened, Cut, Answered, Heard, Ordered, Accepted, Refused}
+use Rattle.hist_controller.specs.Acts.{Association, in_name, out_name, Order, Read, Policy, PutIn, PutOut, RemoveIn, RemoveOut, Act, Opened, Cut, Answered, Heard, Ordered, Accepted, Refused}
 
 -- the name and the address of the peer with this number; an unknown one has none
 abbrev pub name_of : List Peer → ℕ → List ℕ

@@ -13,7 +13,7 @@ ghost use Rattle.hist_controller.specs.State.{state_of, did};
 ghost use Rattle.hist_controller.specs.Machine.{acts_of, next, run, place};
 ghost use Rattle.hist_controller.specs.Law.{aes_part, tunnels, block, history};
 ghost use Rattle.hist_controller.specs.Clauses.{Has, IsPast, MayAll, NotIdle};
-ghost use Rattle.hist_controller.specs.Counts.{times, times_at, times_now, in_puts, out_puts, cause_count, KeysRight};
+ghost use Rattle.hist_controller.specs.Counts.{times, times_at, times_now, in_puts, out_puts, cause_count, KeysRight, ListsRight};
 ghost use Rattle.hist_controller.specs.Halves.{PlainAnswers, halves};
 ghost use Rattle.hist_controller.specs.Numbers.{numbered};
 ghost use Rattle.hist_controller.specs.Orders.{AllBefore, Given, PutOf};
@@ -105,6 +105,11 @@ pub fn names_differ()
     ensures inbound { (m n : ℕ) → m < 2 ^ 64 → n < 2 ^ 64 → in_name m ≡ in_name n → m ≡ n }
     ensures outbound { (m n : ℕ) → m < 2 ^ 64 → n < 2 ^ 64 → out_name m ≡ out_name n → m ≡ n }
     ensures both { (m n : ℕ) → in_name m ≡ out_name n → ⊥ }
+{}
+
+/// An ordered list of policies is the last one accepted for its gateway, so the lists never go back.
+pub fn orders_newest_lists()
+    ensures { (n : ℕ) (h : List Act) → IsPast n h → ListsRight h }
 {}
 
 /// Where each put is answered with 201 or refused, a direction has two associations left at most, and so a gateway 4,096
