@@ -1,3 +1,4 @@
 pub mod Followers
 pub mod Lets
 pub mod Arrives
+pub mod Handles
