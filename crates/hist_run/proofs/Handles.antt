@@ -52,3 +52,99 @@ idle-older : (b : Bool) (n s : ℕ) → (s ≡ 0) ⊎ ((if b then n + 1 else n) 
 idle-older b n s (inl z) = inl z
 idle-older true n s (inr l) = inr (grind (arith, l))
 idle-older false n s (inr l) = inr l
+
+pub idle : (gs : List Peer) (g : List ℕ) (s : ℕ) (h : List Act) → IsLawful gs h → (s ≡ 0) ⊎ (openings g h < s) → handled g s h ≡ 0
+idle gs g s [] l i = refl
+idle gs g s (acts.Handled f t k a ∷ h) l i =
+    let last : (bytes_eq f g ≡ true) → (t ≡ 0) ⊎ (t ≡ openings g h) = λ e.
+      elim (taken-last gs f h l.1) as (λ z. (t ≡ 0) ⊎ (t ≡ openings g h)) [ inl z ↦ inl (l.0.0 ∙ z) | inr z ↦ inr (l.0.0 ∙ z ∙ openings-at f g h e) ] in
+    let some : t ≡ 0 → ⊥ = λ z. no-request (taken f h) (order_at f (taken f h) (handled f (taken f h) h + 1) h) l.0.2.0 (sym l.0.0 ∙ z) l.0.2.1 in
+    let b = idle-not (bytes_eq f g) (t == s) t s (openings g h) last some (eq-nat t s) i in
+    plus-if (is_session f t g s) (handled g s h) b (idle gs g s h l.1 i)
+idle gs g s (acts.Opened f t ∷ h) l i = idle gs g s h l.1 (idle-older (bytes_eq f g) (openings g h) s i)
+idle gs g s (a ∷ h) l i = idle gs g s h l.1 i
+
+count-handled : (b c : Bool) (r n : ℕ) → r ≡ n → (b ≡ true → c ≡ true) → (if b then r + 1 else r) ≡ (if b && c then n + 1 else n)
+count-handled true true r n e p = let q = e in omega (arith, q)
+count-handled true false r n e p = absurd (no (p refl))
+count-handled false c r n e p = e
+
+count-opened : (b : Bool) (s r t : ℕ) (h : List Act) (g : List ℕ) → (b ≡ true → handled g s h ≡ 0) → r ≡ handled g t h → (if b then 0 else r) ≡ handled g (if b then s else t) h
+count-opened true s r t h g p e = sym (p refl)
+count-opened false s r t h g p e = e
+
+-- the requests answered in a session are those handled in it
+pub requests-are : (gs : List Peer) (g : List ℕ) (h : List Act) → IsLawful gs h → requests g h ≡ handled g (taken g h) h
+requests-are gs g [] l = refl
+requests-are gs g (acts.Handled f t k a ∷ h) l =
+    let same : (bytes_eq f g ≡ true) → (t == taken g h) ≡ true = λ e. let p = name-is f g e in let q : t ≡ taken g h = l.0.0 ∙ ap (λ (z : List ℕ). taken z h) p in grind (arith, q) in
+    count-handled (bytes_eq f g) (t == taken g h) (requests g h) (handled g (taken g h) h) (requests-are gs g h l.1) same
+requests-are gs g (acts.Opened f s ∷ h) l =
+    let none : (bytes_eq f g ≡ true) → handled g s h ≡ 0 = λ e. let p = l.0.1 in let q = openings-at f g h e in idle gs g s h l.1 (inr (omega (arith, p, q))) in
+    count-opened (bytes_eq f g) s (requests g h) (taken g h) h g none (requests-are gs g h l.1)
+requests-are gs g (acts.Boot f ∷ h) l = count-opened (bytes_eq f g) 0 (requests g h) (taken g h) h g (λ e. idle gs g 0 h l.1 (inl refl)) (requests-are gs g h l.1)
+requests-are gs g (a ∷ h) l = requests-are gs g h l.1
+
+-- ---- the answer
+
+rows-have : (g x : List ℕ) (h : List Act) (es : List SadEntry) → list_any (is_row x) (map (row_of g h) es) ≡ has_half x es
+rows-have g x h [] = refl
+rows-have g x h (e ∷ es) = ap (λ b. bytes_eq e.name x || b) (rows-have g x h es)
+
+row-is-live : (g x : List ℕ) (h : List Act) → list_any (is_row x) (tree_of g h).sad ≡ is_live g x h
+row-is-live g x h = rows-have g x h (live g h) ∙ live-is g x h
+
+-- what may happen after the number of an event, and leaves no question
+abbrev Goes : List Peer → List Act → List Act → Type 0
+Goes gs w xs = MayAll gs w xs × (is_ready (after w xs) ≡ true)
+
+goes-if : (gs : List Peer) (w : List Act) (b : Bool) (F : Outcome → List Act) (x y : Outcome) → (b ≡ true → Goes gs w (F x)) → (b ≡ false → Goes gs w (F y)) → Goes gs w (F (if b then x else y))
+goes-if gs w true F x y p q = p refl
+goes-if gs w false F x y p q = q refl
+
+-- the request that is handled, with its number
+record IsHandled (g : List ℕ) (s k : ℕ) (o : Order) (w : List Act) : Type 0 where
+  pub session : s ≡ taken g w
+  pub number : k ≡ handled g s w + 1
+  pub request : next_request g w ≡ Some o
+
+put-refused : (gs : List Peer) (g : List ℕ) (s k n : ℕ) (e : SadEntry) (t : Tree) (h : List Act) (r : Outcome) → IsHandled g s k (asks.Put e) (acts.Took n ∷ h) → 400 ≤ r.status
+    → Goes gs (acts.Took n ∷ h) (acts.Handled g s k (answer_of r) ∷ [])
+put-refused gs g s k n e t h r i low = (((i.session, i.number, (asks.Put e, i.request, (refl, low))), tt), refl)
+
+put-goes : (gs : List Peer) (g : List ℕ) (s k n : ℕ) (e : SadEntry) (t : Tree) (h : List Act) → IsHandled g s k (asks.Put e) (acts.Took n ∷ h)
+    → Goes gs (acts.Took n ∷ h) (reply_acts g s k (post_sad t e))
+put-goes gs g s k n e t h i =
+    let w : List Act = acts.Took n ∷ h in
+    goes-if gs w (list_any (is_row e.name) t.sad) (reply_acts g s k) (exists t) _
+    (λ p. put-refused gs g s k n e t h (exists t) i (omega arith))
+    (λ p. goes-if gs w (is_inbound e.name && has_spi e.spi t.sad) (reply_acts g s k) (spi_taken t) _
+    (λ q. put-refused gs g s k n e t h (spi_taken t) i (omega arith))
+    (λ q. goes-if gs w (is_sad_full t.sad) (reply_acts g s k) (full t) _
+    (λ r. put-refused gs g s k n e t h (full t) i (omega arith))
+    (λ r. (((refl, i.request), ((i.session, i.number, (asks.Put e, i.request, (refl, refl))), tt)), refl))))
+
+remove-goes : (gs : List Peer) (g : List ℕ) (s k n : ℕ) (x : List ℕ) (h : List Act) → IsHandled g s k (asks.Remove x) (acts.Took n ∷ h)
+    → Goes gs (acts.Took n ∷ h) (reply_acts g s k (delete_sad (tree_of g (acts.Took n ∷ h)) x))
+remove-goes gs g s k n x h i =
+    let w : List Act = acts.Took n ∷ h in
+    let t : Tree = tree_of g w in
+    goes-if gs w (list_any (is_row x) t.sad) (reply_acts g s k) _ (absent t)
+    (λ p. (((refl, i.request), ((i.session, i.number, (asks.Remove x, i.request, (refl, refl))), tt)), refl))
+    (λ p. (((i.session, i.number, (asks.Remove x, i.request, (refl, sym (row-is-live g x w) ∙ p))), tt), refl))
+
+handle-goes : (gs : List Peer) (g : List ℕ) (s k n : ℕ) (o : Order) (h : List Act) → IsHandled g s k o (acts.Took n ∷ h)
+    → Goes gs (acts.Took n ∷ h) (reply_acts g s k (reply (tree_of g (acts.Took n ∷ h)) (ask_of o)))
+unfolding reply
+handle-goes gs g s k n asks.Read h i = (((i.session, i.number, (asks.Read, i.request, (refl, tt))), tt), refl)
+handle-goes gs g s k n (asks.Policy list) h i = (((refl, i.request), ((i.session, i.number, (asks.Policy list, i.request, refl)), tt)), refl)
+handle-goes gs g s k n (asks.Put e) h i = put-goes gs g s k n e (tree_of g (acts.Took n ∷ h)) h i
+handle-goes gs g s k n (asks.Remove x) h i = remove-goes gs g s k n x h i
+
+-- the answer to the next request
+pub handle-may : (gs : List Peer) (g : List ℕ) (n : ℕ) (o : Order) (h : List Act) → IsLawful gs (acts.Took n ∷ h) → next_request g (acts.Took n ∷ h) ≡ Some o
+    → Goes gs (acts.Took n ∷ h) (handle_acts g (taken g (acts.Took n ∷ h)) (requests g (acts.Took n ∷ h) + 1) (acts.Took n ∷ h) (Ok (ask_of o)))
+handle-may gs g n o h l next =
+    let w : List Act = acts.Took n ∷ h in
+    let m : requests g w + 1 ≡ handled g (taken g w) w + 1 = ap (λ (z : ℕ). z + 1) (requests-are gs g w l) in
+    handle-goes gs g (taken g w) (requests g w + 1) n o h (record { session = refl; number = m; request = next })
