@@ -9,3 +9,4 @@ pub mod AnswersLemmas
 pub mod HalvesLemmas
 pub mod DeliveryLemmas
 pub mod TreeLemmas
+pub mod SessionsLemmas

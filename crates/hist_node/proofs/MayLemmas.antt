@@ -43,7 +43,7 @@ use Rattle.hist_node.specs.Handle.{Fault, answer_of, handle_acts, change_acts, r
 use Rattle.hist_node.specs.Block.{Gateway, Event, Let, Arrive, Clock, Handle, Session_taken, gw_block, clock_acts}
 use Rattle.ikeless_tree.specs.declared.association.SadRow.{SadRow}
 use Rattle.hist_node.proofs.KeepsLemmas.{same-is}
-use Rattle.hist_node.specs.May.{IsInstallable, IsNewHalf, AreNewHalves, MayInstall, AreInstalled, LetBefore, OpensArrival, MayDrop, MayFollow, AllMay, IsLawful}
+use Rattle.hist_node.specs.May.{IsInstallable, IsNewHalf, AreNewHalves, MayInstall, AreInstalled, LetBefore, OpensArrival, MayDrop, MayFollow, AllMay, IsLawful, IsNumbered, AreNumbered, is_boot}
 
 -- ---- acts that say nothing of their past
 
@@ -55,6 +55,8 @@ says (acts.Pass f o) = true
 says (acts.Put f e) = true
 says (acts.Gone f x w) = not (is_hard w)
 says (acts.Drop f w) = is_opened w
+says (acts.Opened f s) = true
+says (acts.Handled f s k a) = true
 says _ = false
 
 plain-gone : (q : Gateway) (h : List Act) (f x : List ℕ) (w : GoneWhy) → not (is_hard w) ≡ false → MayFollow q h (acts.Gone f x w)
@@ -73,6 +75,8 @@ plain q h (acts.Pass f o) e = cc
 plain q h (acts.Put f x) e = cc
 plain q h (acts.Gone f x w) e = plain-gone q h f x w e
 plain q h (acts.Drop f w) e = plain-drop q h f (is_opened w) e
+plain q h (acts.Opened f s) e = cc
+plain q h (acts.Handled f s k a) e = cc
 plain q h a e = tt
 
 abbrev some-says : List Act → Bool
@@ -276,19 +280,28 @@ may-change q g h r (changes.Put e) fits =
     )
 may-change q g h r (changes.Gone name) fits = let there = any-map (table.is_row name) (row_of g h) (live g h) in (sym there ∙ fits, tt)
 
-may-append : (q : Gateway) (h xs : List Act) (a : Act) → says a ≡ false → AllMay q h xs → AllMay q h (xs ++ a ∷ [])
-may-append q h [] a e m = (plain q h a e, tt)
-may-append q h (x ∷ xs) a e m = (m.0, may-append q (x ∷ h) xs a e m.1)
+may-append : (q : Gateway) (h xs : List Act) (a : Act) → MayFollow q (after h xs) a → AllMay q h xs → AllMay q h (xs ++ a ∷ [])
+may-append q h [] a last m = (last, tt)
+may-append q h (x ∷ xs) a last m = (m.0, may-append q (x ∷ h) xs a last m.1)
+
+-- a change is none of sessions and requests
+same-session : (g : List ℕ) (h : List Act) (r : table.Outcome) (c : Change) →
+    (sessions.taken g h ≡ sessions.taken g (after h (change_acts g r c))) × (requests g h + 1 ≡ requests g (after h (change_acts g r c)) + 1)
+same-session g h r changes.Nothing = (refl, refl)
+same-session g h r changes.Spd = (refl, refl)
+same-session g h r (changes.Put e) = (refl, refl)
+same-session g h r (changes.Gone name) = (refl, refl)
 
 -- what every reply's change says of the databases
 abbrev pub AllFit : Type 0
 AllFit = (t : Tree) (a : Ask) → table.Fits t (table.reply t a).change
 
-may-handle : (q : Gateway) (g : List ℕ) (s k : ℕ) (h : List Act) (request : Result Ask Fault) → AllFit → AllMay q h (handle_acts g s k h request)
-may-handle q g s k h (Ok ask) fits =
+may-handle : (q : Gateway) (g : List ℕ) (h : List Act) (request : Result Ask Fault) → AllFit → AllMay q h (handle_acts g (sessions.taken g h) (requests g h + 1) h request)
+may-handle q g h (Ok ask) fits =
     let r : table.Outcome = table.reply (tree_of g h) ask in
-    may-append q h (change_acts g r r.change) (acts.Handled g s k (answer_of r)) refl (may-change q g h r r.change (fits (tree_of g h) ask))
-may-handle q g s k h (Err fault) fits = (tt, tt)
+    may-append q h (change_acts g r r.change) (acts.Handled g (sessions.taken g h) (requests g h + 1) (answer_of r)) (same-session g h r r.change)
+    (may-change q g h r r.change (fits (tree_of g h) ask))
+may-handle q g h (Err fault) fits = ((refl, refl), tt)
 
 -- ---- the whole
 
@@ -300,8 +313,8 @@ pub may-block : AllFit → (c : Gateway) (h : List Act) (e : Event) → AllMay c
 may-block fits c h (Let o) = (tt, may-let c c.name o h)
 may-block fits c h (Arrive o) = (tt, may-arrive c c.name o h)
 may-block fits c h (Clock t) = (tt, may-clock c c.name (acts.Now (max t (clock h)) ∷ h) (nat_lt (clock h) t))
-may-block fits c h (Handle request) = may-handle c c.name (sessions.taken c.name h) (requests c.name h + 1) h request fits
-may-block fits c h Session_taken = (tt, tt)
+may-block fits c h (Handle request) = may-handle c c.name h request fits
+may-block fits c h Session_taken = (refl, tt)
 
 may-install : (q : Gateway) (g : List ℕ) (h : List Act) (a : Act) → MayFollow q h a → MayInstall g h a
 may-install q g h (acts.Put f e) may = λ at. subst (λ n. IsInstallable (live n h) e) (same-is f g at) may
@@ -322,3 +335,15 @@ new-half q g h a may = tt
 pub new-halves : (q : Gateway) (g : List ℕ) (h xs : List Act) → AllMay q h xs → AreNewHalves g h xs
 new-halves q g h [] may = tt
 new-halves q g h (a ∷ xs) may = (new-half q g h a may.0, new-halves q g (a ∷ h) xs may.1)
+
+-- ---- sessions
+
+may-number : (q : Gateway) (g : List ℕ) (h : List Act) (a : Act) → MayFollow q h a → is_boot a ≡ false → IsNumbered g h a
+may-number q g h (acts.Opened f s) may away = λ at. subst (λ n. s ≡ sessions.openings n h + 1) (same-is f g at) may
+may-number q g h (acts.Handled f s k a) may away = λ at. subst (λ n. s ≡ sessions.taken n h) (same-is f g at) may.0
+may-number q g h (acts.Boot f) may away = cc
+may-number q g h a may away = tt
+
+pub lawful-numbered : (q : Gateway) (g : List ℕ) (h : List Act) → IsLawful q h → list_any is_boot h ≡ false → AreNumbered g h
+lawful-numbered q g [] l away = tt
+lawful-numbered q g (a ∷ h) l away = let p = or-parts (is_boot a) (list_any is_boot h) away in (may-number q g h a l.0 p.0, lawful-numbered q g h l.1 p.1)

@@ -18,11 +18,13 @@ use Rattle.spd_match.specs.Match.{first_entry, holds_packet}
 use Rattle.hist_acts.specs.declared.act.Act.{Act}
 use Rattle.hist_acts.specs.declared.act.Act.TheVariants as acts
 use Rattle.hist_acts.specs.Past.{force}
+use Rattle.hist_acts.specs.Sessions as sessions
 use Rattle.hist_halves.specs.Sealed.{is_inbound, is_opened, by_spi, number_of}
 use Rattle.hist_halves.specs.Halves.{live, is_live, put_of, sent, taken}
 use Rattle.hist_node.specs.Datagram.{datagram}
 use Rattle.hist_node.specs.Block.{Gateway}
 use Rattle.hist_node.specs.Let.{newest}
+use Rattle.hist_node.specs.Handle.{requests}
 use Rattle.hist_node.specs.Arrive.{is_sealed_for, is_told_version}
 
 -- one of these halves has this name
@@ -130,6 +132,8 @@ MayFollow c h (acts.Pass f o) = IsArrivalIn h f o
 MayFollow c h (acts.Drop f w) = MayDrop c h f (is_opened w)
 MayFollow c h (acts.Put f e) = IsInstallable (live f h) e
 MayFollow c h (acts.Gone f x w) = MayGo f h x w
+MayFollow c h (acts.Opened f s) = s ≡ sessions.openings f h + 1
+MayFollow c h (acts.Handled f s k a) = (s ≡ sessions.taken f h) × (k ≡ requests f h + 1)
 MayFollow c h _ = Unit {0}
 
 -- each of these acts, after those before it
@@ -151,6 +155,23 @@ MayInstall g h _ = Unit {0}
 abbrev pub AreInstalled : List ℕ → List Act → Type 0
 AreInstalled g [] = Unit {0}
 AreInstalled g (a ∷ h) = MayInstall g h a × AreInstalled g h
+
+-- ---- sessions
+
+-- the act numbers sessions as they are opened, and a request by the session taken; before a restart none was answered without a session
+abbrev pub IsNumbered : List ℕ → List Act → Act → Type 0
+IsNumbered g h (acts.Opened f s) = bytes_eq f g ≡ true → s ≡ sessions.openings g h + 1
+IsNumbered g h (acts.Handled f s k a) = bytes_eq f g ≡ true → s ≡ sessions.taken g h
+IsNumbered g h (acts.Boot f) = bytes_eq f g ≡ true → sessions.handled g 0 h ≡ 0
+IsNumbered g h _ = Unit {0}
+
+abbrev pub is_boot : Act → Bool
+is_boot (acts.Boot f) = true
+is_boot _ = false
+
+abbrev pub AreNumbered : List ℕ → List Act → Type 0
+AreNumbered g [] = Unit {0}
+AreNumbered g (a ∷ h) = IsNumbered g h a × AreNumbered g h
 
 -- ---- what the live halves of such a past are
 

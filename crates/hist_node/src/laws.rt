@@ -10,13 +10,15 @@ ghost use Rattle.hist_node.specs.Uses.{was_taken};
 ghost use Rattle.replay_win.specs.Marks.{is_among};
 ghost use Rattle.hist_node.specs.Block.{Gateway, Event, Let, Arrive, Clock, Handle, gw_block, gw_history};
 ghost use Rattle.hist_node.specs.Answers.{answers_let, answers_arrival, is_answer, has_one_answer};
-ghost use Rattle.hist_node.specs.Handle.{Fault};
+ghost use Rattle.hist_node.specs.Handle.{Fault, requests};
+ghost use Rattle.hist_acts.specs.Sessions.{handled};
+ghost use Rattle.hist_acts.specs.Sessions as sessions;
 ghost use Rattle.reply_table.specs.declared.ask.Ask.{Ask};
 ghost use Rattle.reply_table.specs.Reply.{reply};
 ghost use Rattle.hist_node.specs.Rows.{tree_of};
 ghost use Rattle.hist_node.specs.State.{state_of, did, acquires};
 ghost use Rattle.hist_node.specs.Machine.{acts_of, next, run};
-ghost use Rattle.hist_node.specs.May.{has_half, IsNewHalf, AllMay, IsLawful, AreInstalled, AreHalves, IsHalfFor, IsHalfOf, IsDelivery};
+ghost use Rattle.hist_node.specs.May.{has_half, IsNewHalf, AllMay, IsLawful, AreInstalled, AreNumbered, AreHalves, is_boot, IsHalfFor, IsHalfOf, IsDelivery};
 ghost use Rattle.hist_node.specs.Let.{newest};
 ghost use Rattle.hist_node.specs.Arrive.{uses};
 ghost use Rattle.hist_node.specs.Datagram.{datagram, next_header};
@@ -115,6 +117,13 @@ pub fn requests_change()
 {
     changes_fit();
 }
+
+/// The requests that a gateway counts are those handled in the session that it has taken, where sessions are numbered as they are
+/// opened and requests are handled in the session taken.
+pub fn counts_requests()
+    ensures handled { (g : List ℕ) (h : List Act) → AreNumbered g h → requests g h ≡ handled g (sessions.taken g h) h }
+    ensures lawful { (c : Gateway) (g : List ℕ) (h : List Act) → IsLawful c h → list_any is_boot h ≡ false → AreNumbered g h }
+{}
 
 /// A packet from inside has exactly one answer: it leaves in clear or sealed, or it is dropped. A datagram from outside has exactly
 /// one: it is given opened or passes in clear, or it is dropped. No other event has one.
