@@ -8,10 +8,10 @@ use Rattle.hist_world.proofs.Sessions.{answered-handled, cut-closed, handled-ord
 use Rattle.hist_world.proofs.Orders.{place, put-order}
 use Rattle.hist_world.proofs.Finality.{doomed-ordered}
 use Rattle.hist_world.proofs.Removal.{left-off, off-dead}
-use Rattle.hist_world.proofs.Pairs.{keys-differ, order-stands, pair}
+use Rattle.hist_world.proofs.Pairs.{ends, keys-differ, order-stands, pair}
 use Rattle.hist_world.proofs.Halves.{first-in, last, stays}
 use Rattle.hist_world.proofs.Keys.{used-by}
-use Rattle.hist_world.proofs.Live.{spi-finds, spi-is}
+use Rattle.hist_world.proofs.Live.{spi-finds, spi-is, stands, there}
 use Rattle.hist_world.proofs.Carried.{carried, given}
 use Rattle.hist_world.proofs.Numbers.{taken-sent}
 
@@ -25,6 +25,7 @@ kept gs h l = record {
   order_stands = λ x e. order-stands gs x e h l;
   put_as_ordered = λ g x e. put-order gs g x e h l;
   own_key = λ t. pair gs t h l;
+  ends = λ x e. ends gs x e h l;
   keys_differ = λ t u d e. keys-differ gs t u d e h l;
   numbers = λ c iv. used-by gs c iv h l;
   doomed_ordered = λ x. doomed-ordered gs x h l;
@@ -33,6 +34,8 @@ kept gs h l = record {
   inbound_first = λ t. first-in gs t h l;
   outbound_last = λ t. last gs t h l;
   stays = λ g x. stays gs g x h l;
+  listed = λ g e. stands gs g e h l;
+  live_listed = λ g x. there g x h;
   spi_names = λ g spi e. spi-is gs g spi e h l;
   spi_finds = λ g t spi e. spi-finds gs g t spi e h l;
   carried = λ g x n b p. carried gs g x n b p h l;

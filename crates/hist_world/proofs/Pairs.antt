@@ -1,6 +1,9 @@
 -- The two halves of an association: one key, one SPI, mirrored selectors, two gateways.
 use Rattle.std.proofs.Common.{◌==◌, ◌≡◌, ℕ, ◌+◌, ◌≤◌, nat_lt, Bool, true, false, ◌&&◌, ◌||◌, List, [], ◌∷◌, decimal, Option, Some, ◌⊎◌, inl, inr, refl, sym, ◌∙◌, ap, subst, arith, if◌then◌else◌}
 use Rattle.std.specs.Str.{bytes_eq}
+use Rattle.ikl_base.specs.declared.address.Addr.{Addr}
+use Rattle.ikl_base.specs.declared.address.Addr.TheVariants.{V4, V6}
+use Rattle.ip_packet.specs.Outer.{AreOneFamily}
 use Rattle.ikeless_tree.specs.declared.association.SadEntry.{SadEntry}
 use Rattle.ikeless_tree.specs.declared.command.Peer.{Peer}
 use Rattle.ikeless_tree.specs.declared.order.Order.TheVariants as asks
@@ -143,6 +146,28 @@ numbered gs t e (acts.Order f s k (asks.Put d) ∷ h) l q =
       | inr r ↦ numbered gs t e h l.1 r
     ]
 numbered gs t e (a ∷ h) l q = numbered gs t e h l.1 q
+
+-- both ends of each half have whole addresses of one family
+turned : (a b : Addr) → AreOneFamily a b → AreOneFamily b a
+turned (V4 a) (V4 b) p = (p.1, p.0)
+turned (V4 a) (V6 b) p = absurd p
+turned (V6 a) (V4 b) p = absurd p
+turned (V6 a) (V6 b) p = (p.1, p.0)
+
+ends-put : (f : List ℕ) (d : SadEntry) (h : List Act) → ((x : List ℕ) (e : SadEntry) → order_of x h ≡ Some e → AreOneFamily e.local e.remote) → MayPutIn d h ⊎ MayPutOut f d h → AreOneFamily d.local d.remote
+ends-put f d h i (inl p) = p.ends
+ends-put f d h i (inr p) =
+    let one = turned p.inbound.local p.inbound.remote (i (in_half p.serial) p.inbound p.order) in
+    subst (λ z. AreOneFamily z d.remote) (sym p.local) (subst (λ z. AreOneFamily p.inbound.remote z) (sym p.remote) one)
+
+pub ends : (gs : List Peer) (x : List ℕ) (e : SadEntry) (h : List Act) → IsLawful gs h → order_of x h ≡ Some e → AreOneFamily e.local e.remote
+ends gs x e [] l q = absurd (grind arith)
+ends gs x e (acts.Order f s k (asks.Put d) ∷ h) l q =
+    elim (if-cases (bytes_eq d.name x) d e (order_of x h) q) as (λ z. AreOneFamily e.local e.remote) [
+      | inl r ↦ subst (λ z. AreOneFamily z.local z.remote) r.1 (ends-put f d h (λ y c. ends gs y c h l.1) l.0.4)
+      | inr r ↦ ends gs x e h l.1 r
+    ]
+ends gs x e (a ∷ h) l q = ends gs x e h l.1 q
 
 -- two inbound halves with one SPI are one
 pub one-spi : (t u : List ℕ) (d e : SadEntry) → Numbered t d → Numbered u e → d.spi ≡ e.spi → t ≡ u

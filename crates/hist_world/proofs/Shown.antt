@@ -256,7 +256,7 @@ h2 =
     acts.Order (codes "b") 1 2 (asks.Put in1) ∷ acts.Answered (codes "b") 1 1 (record { status = 200; tag = None; names = [] }) ∷ acts.Took 6 ∷ acts.Handled (codes "b") 1 1 (record { status = 200; tag = None; names = [] }) ∷ acts.Took 5 ∷ acts.Order (codes "a") 1 2 (asks.Policy list) ∷ acts.Answered (codes "a") 1 1 (record { status = 200; tag = None; names = [] }) ∷ acts.Took 4 ∷ h1
 
 lawful2 : IsLawful gateways h2
-lawful2 = ((refl, refl, refl, refl, inl (record { name = one_is; few = few1; spi = refl; key = refl })), ((refl, refl, refl, refl, refl), (refl, ((refl, refl, (asks.Read, refl, (refl, tt))), (refl, ((refl, refl, refl, refl, tt), ((refl, refl, refl, refl, refl), (refl, lawful1))))))))
+lawful2 = ((refl, refl, refl, refl, inl (record { name = one_is; few = few1; spi = refl; key = refl; ends = (refl, refl) })), ((refl, refl, refl, refl, refl), (refl, ((refl, refl, (asks.Read, refl, (refl, tt))), (refl, ((refl, refl, refl, refl, tt), ((refl, refl, refl, refl, refl), (refl, lawful1))))))))
 
 abbrev h3 : List Act
 h3 =
@@ -277,7 +277,7 @@ h5 =
     acts.Answered (codes "a") 1 3 (record { status = 201; tag = None; names = [] }) ∷ acts.Took 14 ∷ acts.Handled (codes "a") 1 3 (record { status = 201; tag = None; names = [] }) ∷ acts.Put (codes "a") out1 ∷ acts.Took 13 ∷ acts.Order (codes "a") 1 3 (asks.Put out1) ∷ acts.Answered (codes "b") 1 2 (record { status = 201; tag = None; names = [] }) ∷ h4
 
 lawful5 : IsLawful gateways h5
-lawful5 = ((refl, refl, refl, refl, refl), (refl, ((refl, refl, (asks.Put out1, refl, (refl, refl))), ((refl, refl), (refl, ((refl, refl, refl, refl, inr (record { serial = codes "1"; name = refl; once = refl; inbound = in1; order = refl; key = refl; spi = refl; selector = refl; elsewhere = refl; made = refl; stays = refl })), ((refl, refl, refl, refl, refl), lawful4)))))))
+lawful5 = ((refl, refl, refl, refl, refl), (refl, ((refl, refl, (asks.Put out1, refl, (refl, refl))), ((refl, refl), (refl, ((refl, refl, refl, refl, inr (record { serial = codes "1"; name = refl; once = refl; inbound = in1; order = refl; key = refl; spi = refl; selector = refl; local = refl; remote = refl; elsewhere = refl; made = refl; stays = refl })), ((refl, refl, refl, refl, refl), lawful4)))))))
 
 abbrev sent_past : List Act
 sent_past = acts.Took 15 ∷ h5
@@ -332,7 +332,7 @@ h7 =
     acts.Took 20 ∷ acts.Order (codes "a") 1 4 (asks.Put out2) ∷ acts.Answered (codes "b") 1 3 (record { status = 201; tag = None; names = [] }) ∷ acts.Took 19 ∷ acts.Handled (codes "b") 1 3 (record { status = 201; tag = None; names = [] }) ∷ acts.Put (codes "b") in2 ∷ acts.Took 18 ∷ acts.Order (codes "b") 1 3 (asks.Put in2) ∷ h6
 
 lawful7 : IsLawful gateways h7
-lawful7 = (refl, ((refl, refl, refl, refl, inr (record { serial = codes "2"; name = refl; once = refl; inbound = in2; order = refl; key = refl; spi = refl; selector = refl; elsewhere = refl; made = refl; stays = refl })), ((refl, refl, refl, refl, refl), (refl, ((refl, refl, (asks.Put in2, refl, (refl, refl))), ((refl, refl), (refl, ((refl, refl, refl, refl, inl (record { name = two_is; few = few2; spi = refl; key = refl })), lawful6))))))))
+lawful7 = (refl, ((refl, refl, refl, refl, inr (record { serial = codes "2"; name = refl; once = refl; inbound = in2; order = refl; key = refl; spi = refl; selector = refl; local = refl; remote = refl; elsewhere = refl; made = refl; stays = refl })), ((refl, refl, refl, refl, refl), (refl, ((refl, refl, (asks.Put in2, refl, (refl, refl))), ((refl, refl), (refl, ((refl, refl, refl, refl, inl (record { name = two_is; few = few2; spi = refl; key = refl; ends = (refl, refl) })), lawful6))))))))
 
 abbrev h8 : List Act
 h8 =

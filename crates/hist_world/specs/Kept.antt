@@ -1,7 +1,8 @@
 -- What every lawful history keeps, in the five parts that safety stands on. A past has its newest act first.
-use Rattle.std.specs.Prelude.{◌≡◌, ℕ, ◌^◌, ◌≤◌, ◌<◌, true, false, List, Some, Ok, ◌⊎◌}
+use Rattle.std.specs.Prelude.{◌≡◌, ℕ, ◌^◌, ◌≤◌, ◌<◌, true, false, List, [], ◌∷◌, Some, Ok, ◌⊎◌}
 use Rattle.std.specs.Int.{w64, to_be_bytes}
 use Rattle.std.specs.Str.{bytes_eq}
+use Rattle.ip_packet.specs.Outer.{AreOneFamily}
 use Rattle.ip_packet.specs.View.{Packet, view_of}
 use Rattle.ikeless_tree.specs.declared.association.SadEntry.{SadEntry}
 use Rattle.ikeless_tree.specs.declared.entry.Direction.TheVariants.{Out}
@@ -56,6 +57,11 @@ Carried g x n b p h =
     (o : SadEntry) × (packet : Packet) × (order_of x h ≡ Some o) × (site x h ≡ g) × (is_inbound x ≡ false) × (n < 2 ^ 32)
     × HalfSeals o n p b × (view_of p ≡ Ok packet) × (holds_packet o.selector Out packet ≡ true)
 
+-- the half is one of these
+abbrev pub IsOneOf : SadEntry → List SadEntry → Type 0
+IsOneOf e [] = ⊥
+IsOneOf e (d ∷ ds) = (d ≡ e) ⊎ IsOneOf e ds
+
 -- a number that was given is among those taken under the half
 abbrev pub Given : List ℕ → ℕ → List Act → Type 0
 Given x n h = (g : List ℕ) × (halves.was_put g x h ≡ true) × (is_among n (halves.taken g x h) ≡ true)
@@ -76,6 +82,7 @@ pub record Kept (h : List Act) : Type 0 where
   pub order_stands : (x : List ℕ) (e : SadEntry) → order_of x h ≡ Some e → order_at (site x h) (session_of x h) (place_of x h) h ≡ Some (asks.Put e)
   pub put_as_ordered : (g x : List ℕ) (e : SadEntry) → halves.put_of g x h ≡ Some e → PutIs g x e h
   pub own_key : (t : List ℕ) → ordered (out_half t) h ≡ true → Pair t h
+  pub ends : (x : List ℕ) (e : SadEntry) → order_of x h ≡ Some e → AreOneFamily e.local e.remote
   pub keys_differ : (t u : List ℕ) (d e : SadEntry) → order_of (in_half t) h ≡ Some d → order_of (in_half u) h ≡ Some e → aes_part d.key ≡ aes_part e.key → t ≡ u
   pub numbers : (c iv : List ℕ) → was_sealed c iv h ≡ true → Under c iv h
   -- finality
@@ -86,6 +93,8 @@ pub record Kept (h : List Act) : Type 0 where
   pub inbound_first : (t : List ℕ) → ordered (out_half t) h ≡ true → halves.was_put (site (in_half t) h) (in_half t) h ≡ true
   pub outbound_last : (t : List ℕ) → is_doomed (in_half t) h ≡ true → Last t h
   pub stays : (g x : List ℕ) → halves.was_put g x h ≡ true → (halves.is_live g x h ≡ true) ⊎ ((halves.is_lapsed g x h ≡ true) ⊎ (is_doomed x h ≡ true))
+  pub listed : (g : List ℕ) (e : SadEntry) → IsOneOf e (halves.live g h) → (halves.put_of g e.name h ≡ Some e) × (halves.is_live g e.name h ≡ true)
+  pub live_listed : (g x : List ℕ) → halves.is_live g x h ≡ true → (e : SadEntry) × IsOneOf e (halves.live g h) × (e.name ≡ x)
   pub spi_names : (g : List ℕ) (spi : ℕ) (e : SadEntry) → by_spi spi (halves.live g h) ≡ Some e →
       (halves.put_of g e.name h ≡ Some e) × (halves.is_live g e.name h ≡ true) × (is_inbound e.name ≡ true) × (e.spi ≡ spi)
   pub spi_finds : (g t : List ℕ) (spi : ℕ) (e : SadEntry) → halves.is_live g (in_half t) h ≡ true → halves.put_of g (in_half t) h ≡ Some e → e.spi ≡ spi → by_spi spi (halves.live g h) ≡ Some e

@@ -2,6 +2,7 @@
 -- of gateways, sessions and the controller give. A past has its newest act first.
 use Rattle.std.specs.Prelude.{◌≡◌, ℕ, ◌+◌, ◌≤◌, true, false, Bool, List, [], ◌∷◌, decimal, ◌⊎◌, Some}
 use Rattle.std.specs.Str.{bytes_eq}
+use Rattle.ip_packet.specs.Outer.{AreOneFamily}
 use Rattle.ikeless_tree.specs.declared.association.SadEntry.{SadEntry}
 use Rattle.ikeless_tree.specs.declared.command.Peer.{Peer}
 use Rattle.ikeless_tree.specs.declared.order.Order.{Order}
@@ -21,15 +22,16 @@ use Rattle.hist_world.specs.Carried.{Delivers, IsGenuine, IsOpened, IsUndelivere
 -- ---- orders
 
 -- A put of an inbound half: the N-th has the serial number N, the SPI 256 + N and a key of its own. There are at most
--- 1,048,576 keys.
+-- 1,048,576 keys. Both ends of its tunnel have whole addresses of one family.
 pub record MayPutIn (e : SadEntry) (h : List Act) : Type 0 where
   pub name : e.name ≡ in_half (decimal (inbounds h + 1))
   pub few : inbounds h + 1 ≤ 1048576
   pub spi : e.spi ≡ 256 + (inbounds h + 1)
   pub key : is_key_used (aes_part e.key) h ≡ false
+  pub ends : AreOneFamily e.local e.remote
 
 -- A put of an outbound half, once, at another gateway: the put of its inbound half was answered and not refused, and no removal of
--- that half was ordered. Both have one key and one SPI, and mirrored selectors.
+-- that half was ordered. Both have one key and one SPI, and mirrored selectors and ends.
 pub record MayPutOut (g : List ℕ) (e : SadEntry) (h : List Act) : Type 0 where
   pub serial : List ℕ
   pub name : e.name ≡ out_half serial
@@ -39,6 +41,8 @@ pub record MayPutOut (g : List ℕ) (e : SadEntry) (h : List Act) : Type 0 where
   pub key : e.key ≡ inbound.key
   pub spi : e.spi ≡ inbound.spi
   pub selector : inbound.selector ≡ mirrored e.selector
+  pub local : e.local ≡ inbound.remote
+  pub remote : e.remote ≡ inbound.local
   pub elsewhere : bytes_eq (site (in_half serial) h) g ≡ false
   pub made : is_made (in_half serial) h ≡ true
   pub stays : is_doomed (in_half serial) h ≡ false
