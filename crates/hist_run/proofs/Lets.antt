@@ -30,26 +30,23 @@ use Rattle.hist_world.specs.Carried.{Sends, keying_of}
 use Rattle.hist_world.specs.Law.{IsLawful, MayAll, MayHappen, is_ready}
 use Rattle.hist_gateway.specs.Safe.{ClearIsLet}
 use Rattle.hist_world.proofs.Basics.{no, both-left, both-right, eq-nat, some-is}
-use Rattle.hist_world.proofs.Live.{Member, stands}
+use Rattle.hist_world.specs.Kept.{IsOneOf}
+use Rattle.hist_world.proofs.Live.{stands}
+use Rattle.hist_world.proofs.Orders.{put-order}
+use Rattle.hist_world.proofs.Pairs.{ends}
 use Rattle.hist_run.proofs.Followers.{are_followers, follow, look-follows, unless-follows}
 
--- every live half has ends of one family
 abbrev pub OneFamily : SadEntry → Type 0
 OneFamily e = AreOneFamily e.local e.remote
 
-abbrev pub AllOneFamily : List SadEntry → Type 0
-AllOneFamily [] = Unit {0}
-AllOneFamily (e ∷ es) = OneFamily e × AllOneFamily es
-
-family-of : (e : SadEntry) (es : List SadEntry) → AllOneFamily es → Member e es → OneFamily e
-family-of e [] all p = absurd p
-family-of e (d ∷ es) all (inl p) = subst OneFamily p all.0
-family-of e (d ∷ es) all (inr p) = family-of e es all.1 p
+-- a live half has ends of one family
+live-ends : (gs : List Peer) (g : List ℕ) (e : SadEntry) (h : List Act) → IsLawful gs h → put_of g e.name h ≡ Some e → OneFamily e
+live-ends gs g e h l p = let o = put-order gs g e.name e h l p in ends gs e.name e h l o.3
 
 -- ---- the newest half for a packet
 
 abbrev IsNewest : ℕ → Packet → List SadEntry → SadEntry → Type 0
-IsNewest r v es e = Member e es × (seals r v e ≡ true)
+IsNewest r v es e = IsOneOf e es × (seals r v e ≡ true)
 
 newest-last : (r : ℕ) (v : Packet) (d e : SadEntry) (es : List SadEntry) (b : Bool) → seals r v d ≡ b → (if b then Some d else None) ≡ Some e → IsNewest r v (d ∷ es) e
 newest-last r v d e es true q p = let s = some-is d e p in (inl s, subst (λ (z : SadEntry). seals r v z ≡ true) s q)
@@ -84,9 +81,9 @@ below q n p l = grind (arith, p, l)
 let-octets : (f g o p : List ℕ) (h older : List Act) → acts.Let f o ∷ h ≡ acts.Let g p ∷ older → (f ≡ g) × (o ≡ p) × (h ≡ older)
 let-octets f g o p h older e = grind (arith, e)
 
-sends-may : (gs : List Peer) (c : Gateway) (g o x d : List ℕ) (n : ℕ) (h : List Act) → IsLawful gs h → AllOneFamily (live g h) → c.seq_last < 2 ^ 32
+sends-may : (gs : List Peer) (c : Gateway) (g o x d : List ℕ) (n : ℕ) (h : List Act) → IsLawful gs h → c.seq_last < 2 ^ 32
     → IsSealedLet c (acts.Let g o ∷ h) g x n d → Sends g x n o d h
-sends-may gs c g o x d n h l family low s =
+sends-may gs c g o x d n h l low s =
     let b = let-octets g g o s.octets h s.let_before.older s.let_before.before in
     let new = newest-is s.entry.reqid s.packet (live g h) s.half s.newest in
     let st = stands gs g s.half h l new.0 in
@@ -103,7 +100,7 @@ sends-may gs c g o x d n h l family low s =
       holds = fits.1;
       number = m;
       small = subst (λ (z : ℕ). z < 2 ^ 32) (sym m) small;
-      sealed = ap esp_of s.datagram ∙ datagram-esp s.half n s.packet s.octets (family-of s.half (live g h) family new.0)
+      sealed = ap esp_of s.datagram ∙ datagram-esp s.half n s.packet s.octets (live-ends gs g s.half h l st.0)
         ∙ ap (λ (z : List ℕ). esp (keying_of s.half) n (next_header z) z) (sym b.1);
     }
 
@@ -167,24 +164,24 @@ clear-may h f o s = record {
   bypass = record { packet = s.packet; entry = s.entry; view = s.let_before.view; first = s.let_before.first; action = s.let_before.action };
 }
 
-answer-may : (gs : List Peer) (c : Gateway) (g o : List ℕ) (h : List Act) (a : Act) → IsLawful gs h → AllOneFamily (live g h) → c.seq_last < 2 ^ 32
+answer-may : (gs : List Peer) (c : Gateway) (g o : List ℕ) (h : List Act) (a : Act) → IsLawful gs h → c.seq_last < 2 ^ 32
     → LetAnswer g a → MayFollow c (acts.Let g o ∷ h) a → MayHappen gs a (acts.Let g o ∷ h) × (is_ready (a ∷ acts.Let g o ∷ h) ≡ true)
-answer-may gs c g o h (acts.Clear f p) l family low fits m = (clear-may (acts.Let g o ∷ h) f p m, refl)
-answer-may gs c g o h (acts.Sent f x n d) l family low fits m =
+answer-may gs c g o h (acts.Clear f p) l low fits m = (clear-may (acts.Let g o ∷ h) f p m, refl)
+answer-may gs c g o h (acts.Sent f x n d) l low fits m =
     let m2 : IsSealedLet c (acts.Let g o ∷ h) g x n d = subst (λ (z : List ℕ). IsSealedLet c (acts.Let g o ∷ h) z x n d) fits m in
-    ((sym fits, subst (λ (z : List ℕ). Sends z x n o d h) (sym fits) (sends-may gs c g o x d n h l family low m2)), refl)
-answer-may gs c g o h (acts.Drop f w) l family low fits m = (sym fits, refl)
-answer-may gs c g o h a l family low fits m = absurd fits
+    ((sym fits, subst (λ (z : List ℕ). Sends z x n o d h) (sym fits) (sends-may gs c g o x d n h l low m2)), refl)
+answer-may gs c g o h (acts.Drop f w) l low fits m = (sym fits, refl)
+answer-may gs c g o h a l low fits m = absurd fits
 
 -- the answer to a packet and what follows it
-pub let-may : (gs : List Peer) (c : Gateway) (g o : List ℕ) (h : List Act) → IsLawful gs h → AllOneFamily (live g h) → c.seq_last < 2 ^ 32
+pub let-may : (gs : List Peer) (c : Gateway) (g o : List ℕ) (h : List Act) → IsLawful gs h → c.seq_last < 2 ^ 32
     → AllMay c (acts.Let g o ∷ h) (let_acts g c.seq_last (acts.Let g o ∷ h) o)
     → MayAll gs (acts.Let g o ∷ h) (let_acts g c.seq_last (acts.Let g o ∷ h) o) × (is_ready (after (acts.Let g o ∷ h) (let_acts g c.seq_last (acts.Let g o ∷ h) o)) ≡ true)
-let-may gs c g o h l family low all =
+let-may gs c g o h l low all =
     let w : List Act = acts.Let g o ∷ h in
     let s = let-shape g o c.seq_last w in
     let all2 : AllMay c w (s.first ∷ s.rest) = subst (AllMay c w) s.parts all in
-    let a = answer-may gs c g o h s.first l family low s.fits all2.0 in
+    let a = answer-may gs c g o h s.first l low s.fits all2.0 in
     let f = follow gs (s.first ∷ w) s.rest a.1 s.follow in
     let P : List Act → Type 0 = λ xs. MayAll gs w xs × (is_ready (after w xs) ≡ true) in
     subst P (sym s.parts) ((a.0, f.0), f.1)
