@@ -2,3 +2,4 @@ pub mod Followers
 pub mod Lets
 pub mod Arrives
 pub mod Handles
+pub mod Told
