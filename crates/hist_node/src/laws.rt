@@ -1,5 +1,5 @@
 // Laws for the crates above: each is the contract of a function with an empty body, or one that only calls such functions.
-ghost use Rattle.std.specs.Prelude.{◌≡◌, ℕ, true, false, List, [], ◌∷◌, Some, Ok, Result};
+ghost use Rattle.std.specs.Prelude.{◌≡◌, ℕ, true, false, List, [], ◌∷◌, ◌++◌, Some, Ok, Result};
 ghost use Rattle.std.specs.List.{list_any};
 ghost use Rattle.std.specs.Str.{bytes_eq};
 ghost use Rattle.hist_acts.specs.declared.act.Act.{Act};
@@ -17,7 +17,7 @@ ghost use Rattle.reply_table.specs.declared.ask.Ask.{Ask};
 ghost use Rattle.reply_table.specs.Reply.{reply};
 ghost use Rattle.hist_node.specs.Rows.{tree_of};
 ghost use Rattle.hist_node.specs.State.{state_of, did, acquires};
-ghost use Rattle.hist_node.specs.Machine.{acts_of, next, run};
+ghost use Rattle.hist_node.specs.Machine.{acts_of, empty, next, run};
 ghost use Rattle.hist_node.specs.May.{has_half, IsNewHalf, AllMay, IsLawful, AreInstalled, AreNumbered, AreHalves, is_boot, IsHalfFor, IsHalfOf, IsDelivery};
 ghost use Rattle.hist_node.specs.Let.{newest};
 ghost use Rattle.hist_node.specs.Arrive.{uses};
@@ -61,6 +61,14 @@ pub fn steps()
     verdicts();
     changes_fit();
 }
+
+/// One more event adds its block at the end, and a gateway begins with nothing.
+pub fn goes_on()
+    ensures block { (c : Gateway) (h : List Act) (events : List Event) (e : Event) →
+        gw_history c h (events ++ e ∷ []) ≡ gw_history c h events ++ gw_block c (after h (gw_history c h events)) e }
+    ensures past { (h xs ys : List Act) → after h (xs ++ ys) ≡ after (after h xs) ys }
+    ensures begins { (g : List ℕ) → state_of g [] ≡ empty }
+{}
 
 /// Each act of a block says of the past before it what such an act may say, so each history of one gateway is lawful act by act.
 pub fn blocks_follow()
