@@ -9,14 +9,14 @@ ghost use Rattle.hist_node.specs.Stands.{acquire_stands, soft_given, soft_stands
 ghost use Rattle.hist_node.specs.Uses.{was_taken};
 ghost use Rattle.replay_win.specs.Marks.{is_among};
 ghost use Rattle.hist_node.specs.Block.{Gateway, Event, Let, Arrive, Clock, Handle, gw_block, gw_history};
-ghost use Rattle.hist_node.specs.Answers.{answers_let, answers_arrival, is_answer, has_one_answer};
+ghost use Rattle.hist_node.specs.Answers.{answers_let, answers_arrival, is_answer, has_one_answer, reads_clock};
 ghost use Rattle.hist_node.specs.Handle.{Fault, requests};
 ghost use Rattle.hist_acts.specs.Sessions.{handled};
 ghost use Rattle.hist_acts.specs.Sessions as sessions;
 ghost use Rattle.reply_table.specs.declared.ask.Ask.{Ask};
 ghost use Rattle.reply_table.specs.Reply.{reply};
 ghost use Rattle.hist_node.specs.Rows.{tree_of};
-ghost use Rattle.hist_node.specs.State.{state_of, did, acquires};
+ghost use Rattle.hist_node.specs.State.{state_of, did, acquires, quiet};
 ghost use Rattle.hist_node.specs.Machine.{acts_of, empty, next, run};
 ghost use Rattle.hist_node.specs.May.{has_half, IsNewHalf, AllMay, IsLawful, AreInstalled, AreNumbered, AreHalves, is_boot, IsHalfFor, IsHalfOf, IsDelivery};
 ghost use Rattle.hist_node.specs.Let.{newest};
@@ -116,6 +116,13 @@ pub fn delivers()
     ensures { (c : Gateway) (h : List Act) (o : List ℕ) (outer inner : Packet) (e : SadEntry) (text p : List ℕ) (next : ℕ) →
         IsDelivery c h o outer inner e text next p →
         gw_block c h (Arrive o) ≡ acts.Arrived c.name o ∷ uses c.name (acts.Arrived c.name o ∷ h) e (acts.Gave c.name e.name (number_of e (taken c.name e.name h) outer.payload) p) }
+{}
+
+/// What another gateway keeps stays, but for a datagram that had no answer yet, which none has between events. Only a reading of the
+/// clock is one for all.
+pub fn stays_elsewhere()
+    ensures { (c : Gateway) (g : List ℕ) (h : List Act) (e : Event) → bytes_eq c.name g ≡ false → reads_clock e ≡ false →
+        quiet (state_of g (after h (gw_block c h e))) ≡ quiet (state_of g h) }
 {}
 
 /// The databases after a request are those that the reply table gives: the list in force, and the live halves with their counts.

@@ -5,5 +5,5 @@ mod laws;
 
 pub use laws::{
     answers, blocks_follow, counts_requests, delivers, goes_on, halves, is_every_history_safe,
-    keeps, readings, requests_change, sealed, steps,
+    keeps, readings, requests_change, sealed, stays_elsewhere, steps,
 };
