@@ -10,3 +10,4 @@ pub mod HalvesLemmas
 pub mod DeliveryLemmas
 pub mod TreeLemmas
 pub mod SessionsLemmas
+pub mod OwnLemmas

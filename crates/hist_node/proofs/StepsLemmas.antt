@@ -1,5 +1,5 @@
 -- A step from what is kept of a past gives the one block that the past allows, and leaves what is kept of the past with it.
-use Rattle.std.proofs.Common.{◌≡◌, List, [], ◌∷◌, ◌++◌, ℕ, refl, sym}
+use Rattle.std.proofs.Common.{◌≡◌, List, [], ◌∷◌, ◌++◌, ℕ, refl, sym, append_assoc, append-nil, ap, ◌∙◌}
 use Rattle.hist_acts.specs.declared.act.Act.{Act}
 use Rattle.hist_acts.specs.Past.{after}
 use Rattle.hist_node.specs.Block.{Gateway, Event, gw_block, gw_history}
@@ -29,3 +29,13 @@ run-is judges fits c h (e ∷ es) =
 pub after-append : (h xs ys : List Act) → after h (xs ++ ys) ≡ after (after h xs) ys
 after-append h [] ys = refl
 after-append h (x ∷ xs) ys = after-append (x ∷ h) xs ys
+
+pub history-push : (c : Gateway) (h : List Act) (es : List Event) (e : Event) →
+    gw_history c h (es ++ e ∷ []) ≡ gw_history c h es ++ gw_block c (after h (gw_history c h es)) e
+history-push c h [] e = append-nil (gw_block c h e)
+history-push c h (d ∷ es) e =
+    let b : List Act = gw_block c h d in
+    let more : List Act = gw_history c (after h b) es in
+    ap (λ x. b ++ x) (history-push c (after h b) es e)
+    ∙ (sym (append_assoc b more (gw_block c (after (after h b) more) e))
+    ∙ ap (λ p. (b ++ more) ++ gw_block c p e) (sym (after-append h b more)))

@@ -150,6 +150,20 @@ acts_of c s Session_taken = acts.Opened c.name (s.openings + 1) ∷ []
 abbrev pub next : Gateway → State → Event → State
 next c s e = did_all c.name s (acts_of c s e)
 
+-- a gateway that was never started has kept nothing
+abbrev pub empty : State
+empty = record {
+  spd = [];
+  halves = [];
+  acquires = [];
+  bad_spis = [];
+  clock = 0;
+  openings = 0;
+  session = 0;
+  requests = 0;
+  arrival = None;
+}
+
 -- the acts of events, one after another
 abbrev pub run : Gateway → State → List Event → List Act
 run c s [] = []

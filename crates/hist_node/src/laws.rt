@@ -1,5 +1,5 @@
 // Laws for the crates above: each is the contract of a function with an empty body, or one that only calls such functions.
-ghost use Rattle.std.specs.Prelude.{◌≡◌, ℕ, true, false, List, [], ◌∷◌, Some, Ok, Result};
+ghost use Rattle.std.specs.Prelude.{◌≡◌, ℕ, true, false, List, [], ◌∷◌, ◌++◌, Some, Ok, Result};
 ghost use Rattle.std.specs.List.{list_any};
 ghost use Rattle.std.specs.Str.{bytes_eq};
 ghost use Rattle.hist_acts.specs.declared.act.Act.{Act};
@@ -9,15 +9,15 @@ ghost use Rattle.hist_node.specs.Stands.{acquire_stands, soft_given, soft_stands
 ghost use Rattle.hist_node.specs.Uses.{was_taken};
 ghost use Rattle.replay_win.specs.Marks.{is_among};
 ghost use Rattle.hist_node.specs.Block.{Gateway, Event, Let, Arrive, Clock, Handle, gw_block, gw_history};
-ghost use Rattle.hist_node.specs.Answers.{answers_let, answers_arrival, is_answer, has_one_answer};
+ghost use Rattle.hist_node.specs.Answers.{answers_let, answers_arrival, is_answer, has_one_answer, reads_clock};
 ghost use Rattle.hist_node.specs.Handle.{Fault, requests};
 ghost use Rattle.hist_acts.specs.Sessions.{handled};
 ghost use Rattle.hist_acts.specs.Sessions as sessions;
 ghost use Rattle.reply_table.specs.declared.ask.Ask.{Ask};
 ghost use Rattle.reply_table.specs.Reply.{reply};
 ghost use Rattle.hist_node.specs.Rows.{tree_of};
-ghost use Rattle.hist_node.specs.State.{state_of, did, acquires};
-ghost use Rattle.hist_node.specs.Machine.{acts_of, next, run};
+ghost use Rattle.hist_node.specs.State.{state_of, did, acquires, quiet};
+ghost use Rattle.hist_node.specs.Machine.{acts_of, empty, next, run};
 ghost use Rattle.hist_node.specs.May.{has_half, IsNewHalf, AllMay, IsLawful, AreInstalled, AreNumbered, AreHalves, is_boot, IsHalfFor, IsHalfOf, IsDelivery};
 ghost use Rattle.hist_node.specs.Let.{newest};
 ghost use Rattle.hist_node.specs.Arrive.{uses};
@@ -61,6 +61,14 @@ pub fn steps()
     verdicts();
     changes_fit();
 }
+
+/// One more event adds its block at the end, and a gateway begins with nothing.
+pub fn goes_on()
+    ensures block { (c : Gateway) (h : List Act) (events : List Event) (e : Event) →
+        gw_history c h (events ++ e ∷ []) ≡ gw_history c h events ++ gw_block c (after h (gw_history c h events)) e }
+    ensures past { (h xs ys : List Act) → after h (xs ++ ys) ≡ after (after h xs) ys }
+    ensures begins { (g : List ℕ) → state_of g [] ≡ empty }
+{}
 
 /// Each act of a block says of the past before it what such an act may say, so each history of one gateway is lawful act by act.
 pub fn blocks_follow()
@@ -108,6 +116,13 @@ pub fn delivers()
     ensures { (c : Gateway) (h : List Act) (o : List ℕ) (outer inner : Packet) (e : SadEntry) (text p : List ℕ) (next : ℕ) →
         IsDelivery c h o outer inner e text next p →
         gw_block c h (Arrive o) ≡ acts.Arrived c.name o ∷ uses c.name (acts.Arrived c.name o ∷ h) e (acts.Gave c.name e.name (number_of e (taken c.name e.name h) outer.payload) p) }
+{}
+
+/// What another gateway keeps stays, but for a datagram that had no answer yet, which none has between events. Only a reading of the
+/// clock is one for all.
+pub fn stays_elsewhere()
+    ensures { (c : Gateway) (g : List ℕ) (h : List Act) (e : Event) → bytes_eq c.name g ≡ false → reads_clock e ≡ false →
+        quiet (state_of g (after h (gw_block c h e))) ≡ quiet (state_of g h) }
 {}
 
 /// The databases after a request are those that the reply table gives: the list in force, and the live halves with their counts.
