@@ -8,7 +8,7 @@ use Rattle.hist_controller.specs.Law.{has_tunnel, is_none, counts, tunnels}
 use Rattle.hist_controller.specs.Clauses.{Has, MayOrder, IsPast, MayInPut}
 use Rattle.hist_controller.specs.Halves.{PlainAnswers, touches, halves}
 use Rattle.hist_controller.proofs.Lists.{length-more}
-use Rattle.hist_controller.proofs.KeptState.{Rising, rising, made-no}
+use Rattle.hist_controller.proofs.KeptState.{rising, made-no}
 use Rattle.hist_controller.proofs.Serials.{has-more, has-filter, put-one, put-serial, of-way, low, one-way, upto}
 use Rattle.hist_controller.proofs.Befores.{any-yes}
 use Rattle.hist_controller.proofs.Removed.{neither}
