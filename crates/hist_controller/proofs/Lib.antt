@@ -22,3 +22,4 @@ pub mod Waits
 pub mod Few
 pub mod Transcript
 pub mod Policies
+pub mod PeerNames
