@@ -23,3 +23,4 @@ pub mod Few
 pub mod Transcript
 pub mod Policies
 pub mod PeerNames
+pub mod Reasons

@@ -11,7 +11,7 @@ ghost use Rattle.hist_controller.specs.Acts.{Way, Association, Order, PutIn, Put
 ghost use Rattle.hist_controller.specs.Past.{after, is_open, session, orders, answers, ready, directions, keys, serials, queue, oldest, in_progress, left, lacks, PuttingIn, PuttingOut, RemovingIn, RemovingOut};
 ghost use Rattle.hist_controller.specs.State.{state_of, did};
 ghost use Rattle.hist_controller.specs.Machine.{acts_of, next, run, place};
-ghost use Rattle.hist_controller.specs.Law.{number_of, aes_part, tunnels, block, history};
+ghost use Rattle.hist_controller.specs.Law.{number_of, aes_part, tunnels, block, history, event_refusal, one_or_none, refusals_in};
 ghost use Rattle.hist_controller.specs.Clauses.{Has, IsPast, MayAll, NotIdle};
 ghost use Rattle.hist_controller.specs.Counts.{times, times_at, times_now, in_puts, out_puts, cause_count, KeysRight, ListsRight};
 ghost use Rattle.hist_controller.specs.Halves.{PlainAnswers, halves};
@@ -44,6 +44,11 @@ pub fn follows_the_clauses()
     ensures block { (ps : List Peer) (h : List Act) (e : Event) → MayAll (length ps) h (block ps h e) }
     ensures more { (n : ℕ) (h xs : List Act) → IsPast n h → MayAll n h xs → IsPast n (after h xs) }
     ensures history { (ps : List Peer) (es : List Event) → IsPast (length ps) (after [] (history ps [] es)) }
+{}
+
+/// A command is refused by the first reason that applies, once, and no event else.
+pub fn refuses_with_reason()
+    ensures { (ps : List Peer) (h : List Act) (e : Event) → refusals_in (block ps h e) ≡ one_or_none (event_refusal ps h e) }
 {}
 
 /// After each block a direction without a waiting order of its own has no order that is allowed, for any association that
