@@ -11,7 +11,7 @@ use Rattle.hist_controller.specs.Past.{keys, spare, serials, directions, born}
 use Rattle.hist_controller.specs.Law.{aes_part, is_seen, has_tunnel, tunnels, refusal}
 use Rattle.hist_controller.specs.Machine.{place}
 use Rattle.hist_controller.specs.Clauses.{Has, IsPast}
-use Rattle.hist_controller.proofs.Lists.{length-more, place-old}
+use Rattle.hist_controller.proofs.Lists.{length-more, place-old, length-both}
 use Rattle.hist_controller.proofs.Serials.{has-more}
 use Rattle.hist_controller.proofs.Often.{keyed}
 
@@ -71,10 +71,6 @@ apart p (Accepted (Rekey r) ∷ h) l = same-apart (keys h) (apart p h l.1)
 apart p (Refused w ∷ h) l = apart p h l.1
 
 -- ## their number and length
-
-length-both : {A : Type 0} (xs ys : List A) → length (xs ++ ys) ≡ length xs + length ys
-length-both [] ys = omega arith
-length-both (x ∷ xs) ys = grind (arith, length-both xs ys)
 
 under : (n : ℕ) → nat_le 1048576 n ≡ false → n + 1 ≤ 1048576
 under n e = grind (arith, common_steps)

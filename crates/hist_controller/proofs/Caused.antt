@@ -1,13 +1,14 @@
 -- The puts of a direction are two per cause of it at most.
 use Rattle.std.proofs.Common.{◌≡◌, ℕ, ◌+◌, ◌≤◌, Bool, true, false, ◌==◌, not, ◌&&◌, ◌||◌, List, [], ◌∷◌, ◌++◌, ◌⊎◌, inl, inr, length, refl, sym, subst, ◌∙◌, ap, arith, if◌then◌else◌, append-nil}
+use Rattle.std.proofs.lemmas.Grind.{common_steps}
 use Rattle.std.specs.List.{list_any}
-use Rattle.hist_controller.specs.Acts.{Way, Association, Order, Read, Policy, PutIn, PutOut, RemoveIn, RemoveOut, Act, Opened, Cut, Answered, Heard, Ordered, Accepted, Refused}
+use Rattle.hist_controller.specs.Acts.{Way, Association, Order, Read, Policy, PutIn, PutOut, RemoveIn, RemoveOut, Placed, SetPolicy, Tunnel, End, Rekey, Keys, Act, Opened, Cut, Answered, Heard, Ordered, Accepted, Refused}
 use Rattle.hist_controller.specs.Past.{oldest, queue, ready, serials, directions, born, made_by, over, starts, renews, PuttingIn, sends, heard, in_progress, put_in, left, RemovingIn, answers_to, causes, wanted}
 use Rattle.hist_controller.specs.Clauses.{Has, MayOrder, IsPast}
-use Rattle.hist_controller.specs.Counts.{in_puts, out_puts, cause_count}
-use Rattle.hist_controller.proofs.Lists.{has-left}
-use Rattle.hist_controller.proofs.Serials.{has-more, has-filter, has-if, put-one, of-way, low, one-way}
-use Rattle.hist_controller.proofs.KeptState.{eq-own}
+use Rattle.hist_controller.specs.Counts.{in_way, in_puts, out_puts, cause_count}
+use Rattle.hist_controller.proofs.Lists.{has-left, length-both}
+use Rattle.hist_controller.proofs.Serials.{has-more, has-filter, has-if, put-one, of-way, low, one-way, upto}
+use Rattle.hist_controller.proofs.KeptState.{rising, eq-own}
 use Rattle.hist_controller.proofs.Often.{not-sent}
 
 abbrev one-of : Bool → ℕ
@@ -20,10 +21,39 @@ few-or : (c w : Bool) (n m : ℕ) → n + one-of w ≤ m → n + one-of (c || w)
 few-or true w n m e = grind arith
 few-or false w n m e = e
 
-few-told : (b s r w : Bool) (n m : ℕ) → n + one-of w ≤ m → n + one-of (if b then s else (r || w)) ≤ (if (if b then s else r) then m + 1 else m)
-few-told true true r w n m e = grind arith
-few-told true false r w n m e = grind arith
-few-told false s r w n m e = few-or r w n m e
+few-told : (b s r w : Bool) (n m : ℕ) → (b ≡ true → n ≡ 0) → n + one-of w ≤ m → n + one-of (if b then s else (r || w)) ≤ (if b then (if s then 1 else 0) else if r then m + 1 else m)
+few-told true true r w n m f e = let z : n ≡ 0 = f refl in omega arith
+few-told true false r w n m f e = let z : n ≡ 0 = f refl in omega arith
+few-told false s r w n m f e = few-or r w n m e
+
+-- before its own command a direction has no put
+no-put-yet : (h : List Act) (g : ℕ) (d : Way) (o : Order) → MayOrder h g o → length (directions h) ≤ d.id → in_puts d h ≡ 0 → (if in_way d o then in_puts d h + 1 else in_puts d h) ≡ 0
+no-put-yet h g d Read m e q = q
+no-put-yet h g d (Policy l) m e q = q
+no-put-yet h g d (PutIn x) m e q =
+    let u = upto 0 (directions h) x.way (rising h) m.of in
+    let n : (d.id == x.way.id) ≡ false = grind arith in
+    rw n q
+no-put-yet h g d (PutOut x) m e q = q
+no-put-yet h g d (RemoveIn n) m e q = q
+no-put-yet h g d (RemoveOut n) m e q = q
+
+no-puts : (p : ℕ) (h : List Act) (d : Way) → IsPast p h → length (directions h) ≤ d.id → in_puts d h ≡ 0
+no-puts p [] d l e = refl
+no-puts p (Opened g s ∷ h) d l e = no-puts p h d l.1 e
+no-puts p (Cut g s ∷ h) d l e = no-puts p h d l.1 e
+no-puts p (Answered g s n a ∷ h) d l e = no-puts p h d l.1 e
+no-puts p (Heard g s t ∷ h) d l e = no-puts p h d l.1 e
+no-puts p (Ordered g s n o ∷ h) d l e = no-put-yet h g d o l.0.3 e (no-puts p h d l.1 e)
+no-puts p (Accepted c ∷ h) d l e = let q = length-both (directions h) (born (length (directions h)) c) in no-puts p h d l.1 (omega arith)
+no-puts p (Refused w ∷ h) d l e = no-puts p h d l.1 e
+
+made-above : (c : Placed) (n : ℕ) (d : Way) → made_by c n d ≡ true → n ≤ d.id
+made-above (SetPolicy g l) n d e = cc
+made-above (Tunnel t) n d e = grind (arith, common_steps)
+made-above (End r) n d e = cc
+made-above (Rekey r) n d e = cc
+made-above (Keys k) n d e = cc
 
 few-put : (b w : Bool) (n m : ℕ) → (b ≡ true → w ≡ true) → n + one-of w ≤ m → (if b then n + 1 else n) + one-of (not b && w) ≤ m
 few-put true w n m f e = let t : w ≡ true = f refl in let e' : n + one-of true ≤ m = subst (λ z. n + one-of z ≤ m) t e in omega arith
@@ -50,7 +80,7 @@ few p d (Cut g s ∷ h) l u = few-or (causes d (Cut g s) h) (wanted d h) (in_put
 few p d (Answered g s n a ∷ h) l u = few-or (causes d (Answered g s n a) h) (wanted d h) (in_puts d h) (cause_count d h) (few p d h l.1 u)
 few p d (Heard g s t ∷ h) l u = few-or (causes d (Heard g s t) h) (wanted d h) (in_puts d h) (cause_count d h) (few p d h l.1 u)
 few p d (Ordered g s i o ∷ h) l u = few-order d h g s i o u l.0.3 (few p d h l.1 u)
-few p d (Accepted c ∷ h) l u = few-told (made_by c (length (directions h)) d) (starts c) (renews d c) (wanted d h) (in_puts d h) (cause_count d h) (few p d h l.1 (λ e i. u e (has-left e (directions h) (born (length (directions h)) c) i)))
+few p d (Accepted c ∷ h) l u = few-told (made_by c (length (directions h)) d) (starts c) (renews d c) (wanted d h) (in_puts d h) (cause_count d h) (λ b. no-puts p h d l.1 (made-above c (length (directions h)) d b)) (few p d h l.1 (λ e i. u e (has-left e (directions h) (born (length (directions h)) c) i)))
 few p d (Refused w ∷ h) l u = few p d h l.1 u
 
 -- ## an outbound put has its own inbound one

@@ -8,8 +8,8 @@ use Rattle.hist_controller.specs.Law.{has_tunnel, is_none, counts, tunnels}
 use Rattle.hist_controller.specs.Clauses.{Has, MayOrder, IsPast, MayInPut}
 use Rattle.hist_controller.specs.Halves.{PlainAnswers, touches, halves}
 use Rattle.hist_controller.proofs.Lists.{length-more}
-use Rattle.hist_controller.proofs.KeptState.{Rising, rising, made-no}
-use Rattle.hist_controller.proofs.Serials.{has-more, has-filter, put-one, put-serial, of-way, low, one-way}
+use Rattle.hist_controller.proofs.KeptState.{rising, made-no}
+use Rattle.hist_controller.proofs.Serials.{has-more, has-filter, put-one, put-serial, of-way, low, one-way, upto}
 use Rattle.hist_controller.proofs.Befores.{any-yes}
 use Rattle.hist_controller.proofs.Removed.{neither}
 use Rattle.hist_controller.proofs.Accepts.{tunnel-passes}
@@ -254,11 +254,6 @@ tunnels-both h (d ∷ e ∷ ds) ys a = add-if (counts h d || counts h e) (tunnel
 one-more : (b : Bool) → (if b then 0 + 1 else 0) ≤ 1
 one-more true = omega arith
 one-more false = omega arith
-
-upto : (m : ℕ) (xs : List Way) (d : Way) → Rising m xs → Has d xs → d.id < m + length xs
-upto m [] d r i = absurd i
-upto m (x ∷ xs) d r (inl e) = let q : x.id ≡ m = r.0 in let w = ap (λ (z : Way). z.id) e in grind arith
-upto m (x ∷ xs) d r (inr i) = let ih = upto (m + 1) xs d r.1 i in grind arith
 
 none-filter : (q : Association → Bool) (xs : List Association) → not (is_none (filter q xs)) ≡ true → not (is_none xs) ≡ true
 none-filter q [] e = e

@@ -22,3 +22,5 @@ pub mod Waits
 pub mod Few
 pub mod Transcript
 pub mod Policies
+pub mod PeerNames
+pub mod Reasons

@@ -8,6 +8,10 @@ pub length-more : {A : Type 0} (xs : List A) (x : A) → length (xs ++ x ∷ [])
 length-more [] x = refl
 length-more (y ∷ xs) x = grind (arith, length-more xs x)
 
+pub length-both : {A : Type 0} (xs ys : List A) → length (xs ++ ys) ≡ length xs + length ys
+length-both [] ys = omega arith
+length-both (x ∷ xs) ys = grind (arith, length-both xs ys)
+
 pub has-left : {A : Type 0} (x : A) (xs ys : List A) → Has x xs → Has x (xs ++ ys)
 has-left x [] ys i = absurd i
 has-left x (z ∷ xs) ys (inl e) = inl e

@@ -1,5 +1,5 @@
 -- The associations left have serials of their own.
-use Rattle.std.proofs.Common.{◌≡◌, ℕ, ◌+◌, ◌≤◌, Bool, true, false, ◌==◌, not, List, [], ◌∷◌, ◌++◌, ◌⊎◌, inl, inr, refl, sym, subst, ◌∙◌, ap, arith, if◌then◌else◌}
+use Rattle.std.proofs.Common.{◌≡◌, ℕ, ◌+◌, ◌<◌, ◌≤◌, Bool, true, false, ◌==◌, not, List, length, [], ◌∷◌, ◌++◌, ◌⊎◌, inl, inr, refl, sym, subst, ◌∙◌, ap, arith, if◌then◌else◌}
 use Rattle.std.specs.List.{filter}
 use Rattle.hist_controller.specs.Acts.{Way, Association, Order, Read, Policy, PutIn, PutOut, RemoveIn, RemoveOut, Act, Opened, Cut, Answered, Heard, Ordered, Accepted, Refused}
 use Rattle.hist_controller.specs.Past.{oldest, queue, serials, is_first, directions, RemovingIn, answers_to, put_in, left}
@@ -117,3 +117,9 @@ one-of-ways m (x ∷ xs) d e r (inr i) (inr j) q = one-of-ways (m + 1) xs d e r.
 
 pub one-way : (h : List Act) (d e : Way) → Has d (directions h) → Has e (directions h) → d.id ≡ e.id → d ≡ e
 one-way h d e i j q = one-of-ways 0 (directions h) d e (rising h) i j q
+
+-- and are below their number
+pub upto : (m : ℕ) (xs : List Way) (d : Way) → Rising m xs → Has d xs → d.id < m + length xs
+upto m [] d r i = absurd i
+upto m (x ∷ xs) d r (inl e) = let q : x.id ≡ m = r.0 in let w = ap (λ (z : Way). z.id) e in grind arith
+upto m (x ∷ xs) d r (inr i) = let ih = upto (m + 1) xs d r.1 i in grind arith

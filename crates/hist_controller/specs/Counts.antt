@@ -2,7 +2,7 @@
 use Rattle.std.specs.Prelude.{◌≡◌, ℕ, ◌+◌, ◌-◌, ◌<◌, Bool, false, ◌==◌, ◌&&◌, List, [], ◌∷◌, ◌++◌, Some, length, if◌then◌else◌}
 use Rattle.ikeless_tree.specs.declared.entry.SpdEntry.{SpdEntry}
 use Rattle.hist_controller.specs.Acts.{Way, Order, Policy, PutIn, PutOut, Placed, SetPolicy, Act, Opened, Ordered, Accepted}
-use Rattle.hist_controller.specs.Past.{keys, Kind, is, causes}
+use Rattle.hist_controller.specs.Past.{keys, directions, made_by, Kind, is, starts, renews, causes}
 use Rattle.hist_controller.specs.Machine.{place}
 
 -- how often such an order of serial n was given
@@ -43,9 +43,13 @@ out_puts d [] = 0
 out_puts d (Ordered g s n o ∷ h) = if out_way d o then out_puts d h + 1 else out_puts d h
 out_puts d (_ ∷ h) = out_puts d h
 
--- how many causes of the direction stand
+-- how many causes of the direction stand since its own command
 abbrev pub cause_count : Way → List Act → ℕ
 cause_count d [] = 0
+cause_count d (Accepted c ∷ h) =
+    if made_by c (length (directions h)) d then (if starts c then 1 else 0)
+    else if renews d c then cause_count d h + 1
+    else cause_count d h
 cause_count d (a ∷ h) = if causes d a h then cause_count d h + 1 else cause_count d h
 
 -- a put has the key whose place its serial is

@@ -180,3 +180,18 @@ block ps h (Notices g t) = if is_open g h then going h (Heard g (session g h) t)
 abbrev pub history : List Peer → List Act → List Event → List Act
 history ps h [] = []
 history ps h (e ∷ es) = block ps h e ++ history ps (after h (block ps h e)) es
+
+-- why an event is refused, if it is
+abbrev pub event_refusal : List Peer → List Act → Event → Option Refusal
+event_refusal ps h (Told c) = refusal (length ps) h (placed ps c)
+event_refusal ps h (_) = None
+
+abbrev pub one_or_none : Option Refusal → List Refusal
+one_or_none None = []
+one_or_none (Some w) = w ∷ []
+
+-- the refusals among acts
+abbrev pub refusals_in : List Act → List Refusal
+refusals_in [] = []
+refusals_in (Refused w ∷ more) = w ∷ refusals_in more
+refusals_in (_ ∷ more) = refusals_in more

@@ -1,5 +1,6 @@
 -- Which acts of a transcript the controller's own acts are.
-use Rattle.std.specs.Prelude.{◌≡◌, ℕ, ◌+◌, ◌-◌, ◌<◌, ◌==◌, List, [], ◌∷◌, ◌++◌, None, length, if◌then◌else◌}
+use Rattle.std.specs.Prelude.{◌≡◌, ℕ, ◌+◌, ◌-◌, ◌<◌, ◌==◌, ◌&&◌, not, Bool, true, List, [], ◌∷◌, ◌++◌, None, length, if◌then◌else◌}
+use Rattle.std.specs.List.{list_all}
 use Rattle.std.specs.Str.{bytes_eq}
 use Rattle.ikl_base.specs.declared.address.Addr.{Addr}
 use Rattle.ikl_base.specs.declared.address.Addr.TheVariants.{V4}
@@ -91,3 +92,8 @@ past_told ps (a ∷ h) = told ps a ++ past_told ps h
 -- peers of different numbers have different names
 abbrev pub Named : List Peer → Type 0
 Named ps = (f g : ℕ) → f < length ps → g < length ps → bytes_eq (name_of ps f) (name_of ps g) ≡ (g == f)
+
+-- no two of these peers have one name
+abbrev pub names_apart : List Peer → Bool
+names_apart [] = true
+names_apart (p ∷ ps) = list_all (λ q. not (bytes_eq p.name q.name)) ps && names_apart ps

@@ -11,13 +11,13 @@ ghost use Rattle.hist_controller.specs.Acts.{Way, Association, Order, PutIn, Put
 ghost use Rattle.hist_controller.specs.Past.{after, is_open, session, orders, answers, ready, directions, keys, serials, queue, oldest, in_progress, left, lacks, PuttingIn, PuttingOut, RemovingIn, RemovingOut};
 ghost use Rattle.hist_controller.specs.State.{state_of, did};
 ghost use Rattle.hist_controller.specs.Machine.{acts_of, next, run, place};
-ghost use Rattle.hist_controller.specs.Law.{aes_part, tunnels, block, history};
+ghost use Rattle.hist_controller.specs.Law.{number_of, aes_part, tunnels, block, history, event_refusal, one_or_none, refusals_in};
 ghost use Rattle.hist_controller.specs.Clauses.{Has, IsPast, MayAll, NotIdle};
 ghost use Rattle.hist_controller.specs.Counts.{times, times_at, times_now, in_puts, out_puts, cause_count, KeysRight, ListsRight};
 ghost use Rattle.hist_controller.specs.Halves.{PlainAnswers, halves};
 ghost use Rattle.hist_controller.specs.Numbers.{numbered};
 ghost use Rattle.hist_controller.specs.Orders.{AllBefore, Given, PutOf};
-ghost use Rattle.hist_controller.specs.Told.{name_of, order_told, all_told, past_told, Named};
+ghost use Rattle.hist_controller.specs.Told.{name_of, order_told, all_told, past_told, Named, names_apart};
 ghost use Rattle.hist_controller.specs.Ever.{made, AllNotIdle};
 ghost use Rattle.hist_controller.specs.Table.{Table, first_table, did_table, next_table, seen, Fits, AllFit, EventFits, AllEventsFit};
 
@@ -44,6 +44,11 @@ pub fn follows_the_clauses()
     ensures block { (ps : List Peer) (h : List Act) (e : Event) → MayAll (length ps) h (block ps h e) }
     ensures more { (n : ℕ) (h xs : List Act) → IsPast n h → MayAll n h xs → IsPast n (after h xs) }
     ensures history { (ps : List Peer) (es : List Event) → IsPast (length ps) (after [] (history ps [] es)) }
+{}
+
+/// A command is refused by the first reason that applies, once, and no event else.
+pub fn refuses_with_reason()
+    ensures { (ps : List Peer) (h : List Act) (e : Event) → refusals_in (block ps h e) ≡ one_or_none (event_refusal ps h e) }
 {}
 
 /// After each block a direction without a waiting order of its own has no order that is allowed, for any association that
@@ -100,11 +105,13 @@ pub fn accepts_fresh_keys()
     ensures few { (n : ℕ) (h : List Act) → IsPast n h → (serials h ≤ length (keys h)) × (length (keys h) ≤ 1048576) }
 {}
 
-/// Different halves have different names.
+/// Different halves have different names; and where no two peers have one name, a name tells the number.
 pub fn names_differ()
     ensures inbound { (m n : ℕ) → m < 2 ^ 64 → n < 2 ^ 64 → in_name m ≡ in_name n → m ≡ n }
     ensures outbound { (m n : ℕ) → m < 2 ^ 64 → n < 2 ^ 64 → out_name m ≡ out_name n → m ≡ n }
     ensures both { (m n : ℕ) → in_name m ≡ out_name n → ⊥ }
+    ensures peers { (ps : List Peer) → names_apart ps ≡ true → Named ps }
+    ensures number { (ps : List Peer) → names_apart ps ≡ true → (g : ℕ) → g < length ps → number_of (name_of ps g) ps ≡ g }
 {}
 
 /// An ordered list of policies is the last one accepted for its gateway, so the lists never go back.
