@@ -3,3 +3,4 @@ pub mod Lets
 pub mod Arrives
 pub mod Handles
 pub mod Told
+pub mod MayOrders
