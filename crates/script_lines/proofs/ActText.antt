@@ -36,9 +36,9 @@ use Rattle.script_lines.specs.Words.{◌>>=◌, or_fault, each, is_space, words,
 use Rattle.ikeless_tree.specs.Check.{is_gateway_octet, is_gateway}
 use Rattle.script_lines.specs.Entry.{entry_of, entries_of}
 use Rattle.script_lines.specs.Event.{known_of, unless_fault, policy_in, let_in, event_in, event_of}
-use Rattle.script_lines.specs.Text.{hex_text, why_text, entry_text, entries_text, act_text}
+use Rattle.script_lines.specs.Text.{hex_text, why_text, entry_text, entries_text, act_text, event_text}
 use Rattle.script_lines.specs.Act.{why_of, took_in, force_in, packet_in, drop_in, act_in, as_spelled, act_of}
-use Rattle.script_lines.specs.Spelling.{are_spelled, HasWindow, IsListed, IsActUnder, IsEventUnder, AreOctets, IsEntry, IsAct, told_as}
+use Rattle.script_lines.specs.Spelling.{are_spelled, HasWindow, IsListed, IsActUnder, IsEventUnder, AreOctets, IsEntry, IsAct, IsEvent}
 use Rattle.script_lines.proofs.PartText.{is_graph, graph_printable, also, value_graph, hexdigits_graph, name_graph, all_behind, not_word, each_holds, each_mapped, behind_mapped, split_behind}
 use Rattle.script_lines.proofs.EntryText.{each_of, entry_read, entry_graph}
 
@@ -297,28 +297,30 @@ act_again digits gateways (acts.Policy g list) all under is = policy_line gatewa
 act_again digits gateways (acts.Let g o) all under is = let_line digits gateways g o (named_spelled gateways g all under) under is
 act_again digits gateways (acts.Clear g o) all under is = clear_line digits gateways g o (named_spelled gateways g all under) under is
 act_again digits gateways (acts.Drop g w) all under is = drop_line gateways g w (named_spelled gateways g all under) under
+act_again digits gateways a all under is = absurd under
 
 -- ---- events
 
 policy_event : (gateways : List Peer) (g : List ℕ) (list : List SpdEntry) → is_gateway g ≡ true → IsListed list → All IsEntry list
-    → event_of gateways (act_text (acts.Policy g list)) ≡ Ok (events.Policy g list)
-unfolding act_text event_in policy_in AreWords
+    → event_of gateways (event_text (events.Policy g list)) ≡ Ok (events.Policy g list)
+unfolding event_text event_in policy_in AreWords
 policy_event gateways g list spelled is are =
     let few = few_words list is in
     let read = list_read list is are in
     let fits = is.fits in
-    event_line gateways (events.Policy g list) (act_text (acts.Policy g list)) (codes "policy") (g ∷ map entry_text list) (policy_words g list)
+    event_line gateways (events.Policy g list) (event_text (events.Policy g list)) (codes "policy") (g ∷ map entry_text list) (policy_words g list)
     (refl, (name_word g spelled, list_words list is are)) (rw (few, spelled, read, fits) refl)
 
 let_event : ReadsDigits → (gateways : List Peer) (g octets : List ℕ) → is_gateway g ≡ true → is_gateway_of gateways g ≡ true → AreOctets octets
-    → event_of gateways (act_text (acts.Let g octets)) ≡ Ok (events.Let g octets)
-unfolding act_text event_in let_in AreWords
+    → event_of gateways (event_text (events.Let g octets)) ≡ Ok (events.Let g octets)
+unfolding event_text event_in let_in AreWords
 let_event digits gateways g octets spelled named are =
     let read = hex_read digits octets are in
-    event_line gateways (events.Let g octets) (act_text (acts.Let g octets)) (codes "let") (g ∷ hex_text octets ∷ []) (two_words (codes "let ") g (hex_text octets))
+    event_line gateways (events.Let g octets) (event_text (events.Let g octets)) (codes "let") (g ∷ hex_text octets ∷ []) (two_words (codes "let ") g (hex_text octets))
     (refl, (name_word g spelled, (hex_word octets are, tt))) (rw (named, read) refl)
 
-pub event_again : ReadsDigits → (gateways : List Peer) (e : Event) → are_spelled gateways ≡ true → IsEventUnder gateways e → IsAct (told_as e)
-    → event_of gateways (act_text (told_as e)) ≡ Ok e
+pub event_again : ReadsDigits → (gateways : List Peer) (e : Event) → are_spelled gateways ≡ true → IsEventUnder gateways e → IsEvent e
+    → event_of gateways (event_text e) ≡ Ok e
 event_again digits gateways (events.Policy g list) all under is = policy_event gateways g list under.0 under.1 is
 event_again digits gateways (events.Let g o) all under is = let_event digits gateways g o (named_spelled gateways g all under) under is
+event_again digits gateways e all under is = absurd under

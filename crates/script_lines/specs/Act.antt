@@ -80,7 +80,7 @@ spelling_fault (acts.Took k) = faults.Number
 spelling_fault (acts.Policy g list) = faults.Entry
 spelling_fault (acts.Let g o) = faults.Hex
 spelling_fault (acts.Clear g o) = faults.Hex
-spelling_fault (acts.Drop g w) = faults.Word
+spelling_fault _ = faults.Word
 
 -- an act has one spelling
 unfoldable pub as_spelled : List ℕ → Act → Result Act LineFault

@@ -32,11 +32,13 @@ IsActUnder gateways (acts.Policy g list) = IsTrue (is_named gateways g) × IsLis
 IsActUnder gateways (acts.Let g o) = IsTrue (is_named gateways g)
 IsActUnder gateways (acts.Clear g o) = IsTrue (is_named gateways g)
 IsActUnder gateways (acts.Drop g w) = IsTrue (is_named gateways g)
+IsActUnder gateways _ = ⊥
 
 -- a policy may be commanded for any name
 abbrev pub IsEventUnder : List Peer → Event → Type 0
 IsEventUnder gateways (events.Policy g list) = IsTrue (is_gateway g) × IsListed list
 IsEventUnder gateways (events.Let g o) = IsTrue (is_named gateways g)
+IsEventUnder gateways _ = ⊥
 
 -- ---- what the types say of their values
 
@@ -66,9 +68,9 @@ IsAct (acts.Took k) = k < 2 ^ 64
 IsAct (acts.Policy g list) = All IsEntry list
 IsAct (acts.Let g o) = AreOctets o
 IsAct (acts.Clear g o) = AreOctets o
-IsAct (acts.Drop g w) = Unit {0}
+IsAct _ = Unit {0}
 
--- an event's line in its canonical spelling is the line of an act
-abbrev pub told_as : Event → Act
-told_as (events.Policy g list) = acts.Policy g list
-told_as (events.Let g o) = acts.Let g o
+abbrev pub IsEvent : Event → Type 0
+IsEvent (events.Policy g list) = All IsEntry list
+IsEvent (events.Let g o) = AreOctets o
+IsEvent _ = Unit {0}

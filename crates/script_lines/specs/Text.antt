@@ -15,6 +15,8 @@ use Rattle.ikeless_tree.specs.declared.reply.DropWhy.{DropWhy}
 use Rattle.ikeless_tree.specs.declared.reply.DropWhy.TheVariants as why
 use Rattle.hist_acts.specs.declared.act.Act.{Act}
 use Rattle.hist_acts.specs.declared.act.Act.TheVariants as acts
+use Rattle.hist_acts.specs.declared.event.Event.{Event}
+use Rattle.hist_acts.specs.declared.event.Event.TheVariants as events
 
 -- octets as digits, or a dash for none
 abbrev pub hex_text : List ℕ → List ℕ
@@ -94,6 +96,13 @@ act_text (acts.Policy g list) = codes "policy " ++ (g ++ entries_text list)
 act_text (acts.Let g o) = codes "let " ++ (g ++ 32 ∷ hex_text o)
 act_text (acts.Clear g o) = codes "clear " ++ (g ++ 32 ∷ hex_text o)
 act_text (acts.Drop g w) = codes "drop " ++ (g ++ 32 ∷ why_text w)
+act_text _ = []
+
+-- the line of an event in its canonical spelling, without its LF
+unfoldable pub event_text : Event → List ℕ
+event_text (events.Policy g list) = codes "policy " ++ (g ++ entries_text list)
+event_text (events.Let g o) = codes "let " ++ (g ++ 32 ∷ hex_text o)
+event_text _ = []
 
 abbrev pub line_of : Act → List ℕ
 line_of a = act_text a ++ 10 ∷ []

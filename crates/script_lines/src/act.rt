@@ -166,7 +166,7 @@ fn misspelled(act: &Act) -> LineFault
         Act::Took(_) => LineFault::Number,
         Act::Policy(_, _) => LineFault::Entry,
         Act::Let(_, _) | Act::Clear(_, _) => LineFault::Hex,
-        Act::Drop(_, _) => LineFault::Word,
+        _ => LineFault::Word,
     }
 }
 

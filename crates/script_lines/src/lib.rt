@@ -13,7 +13,7 @@ mod write;
 
 pub use act::read_act;
 pub use event::read_event;
-pub use header::read_header;
+pub use header::{are_text, read_header};
 pub use hist_acts::{Act, Acts, Event, Header};
 pub use laws::{
     act_read_again, event_read_again, headers_name_gateways, read_acts_are_spelled,

@@ -217,6 +217,7 @@ pub fn put_act(out: &mut Vec<u8>, act: &Act) -> Result<(), NoMemory>
         Act::Let(g, o) => put_packet(out, b"let ", g, o),
         Act::Clear(g, o) => put_packet(out, b"clear ", g, o),
         Act::Drop(g, why) => put_drop(out, g, *why),
+        _ => Ok(()),
     }
 }
 
