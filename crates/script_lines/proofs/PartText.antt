@@ -68,7 +68,7 @@ ports_part c h =
     (λ x. either _ _ (is_part c) (value_part c) (one is_part 45 c refl) x)
     (one is_part 43 c refl) h
 
-word_part : (c : ℕ) → is_word_octet c ≡ true → is_part c ≡ true
+pub word_part : (c : ℕ) → is_word_octet c ≡ true → is_part c ≡ true
 word_part c h =
     either _ _ (is_part c)
     (λ a. either _ _ (is_part c)

@@ -2,6 +2,7 @@ pub mod Parts
 pub mod Words
 pub mod Entry
 pub mod Header
+pub mod Limits
 pub mod Event
 pub mod Text
 pub mod Act

@@ -1,5 +1,5 @@
 -- How acts are spelled, each in one way.
-use Rattle.std.specs.Prelude.{ℕ, ◌+◌, List, [], ◌∷◌, ◌++◌, Option, Some, None, codes}
+use Rattle.std.specs.Prelude.{ℕ, ◌+◌, Bool, true, false, List, [], ◌∷◌, ◌++◌, map, Option, Some, None, codes}
 use Rattle.std.specs.List.{flat_map}
 use Rattle.std.specs.Fmt.{decimal}
 use Rattle.yang_values.specs.HexText.{digits_text}
@@ -13,6 +13,13 @@ use Rattle.ikeless_tree.specs.declared.entry.Direction.{Direction}
 use Rattle.ikeless_tree.specs.declared.entry.Direction.TheVariants as directions
 use Rattle.ikeless_tree.specs.declared.reply.DropWhy.{DropWhy}
 use Rattle.ikeless_tree.specs.declared.reply.DropWhy.TheVariants as why
+use Rattle.ikeless_tree.specs.declared.association.Limits.{Limits}
+use Rattle.ikeless_tree.specs.declared.command.TunnelSpec.{TunnelSpec}
+use Rattle.ikeless_tree.specs.declared.order.Lane.{Lane}
+use Rattle.ikeless_tree.specs.declared.order.Lane.TheVariants as lanes
+use Rattle.ikeless_tree.specs.declared.reply.GoneWhy.{GoneWhy}
+use Rattle.ikeless_tree.specs.declared.reply.GoneWhy.TheVariants as ends
+use Rattle.ikeless_tree.specs.Words.{refusal_text}
 use Rattle.hist_acts.specs.declared.act.Act.{Act}
 use Rattle.hist_acts.specs.declared.act.Act.TheVariants as acts
 use Rattle.hist_acts.specs.declared.event.Event.{Event}
@@ -89,20 +96,87 @@ entry_text e = name_text e ++ 44 ∷ (use_text e ++ 44 ∷ selector_text e.selec
 abbrev pub entries_text : List SpdEntry → List ℕ
 entries_text es = flat_map (λ e. 32 ∷ entry_text e) es
 
+abbrev pub lane_text : Lane → List ℕ
+lane_text lanes.Down = codes "down"
+lane_text lanes.Up = codes "up"
+lane_text lanes.Note = codes "note"
+
+abbrev pub gone_text : GoneWhy → List ℕ
+gone_text ends.Removed = codes "removed"
+gone_text ends.Hard = codes "hard"
+
+-- seconds, octets, packets and idle seconds
+abbrev pub limits_text : Limits → List ℕ
+limits_text l = decimal l.time ++ 47 ∷ (decimal l.bytes ++ 47 ∷ (decimal l.packets ++ 47 ∷ decimal l.idle))
+
+abbrev pub mode_text : Bool → List ℕ
+mode_text true = codes "now"
+mode_text false = codes "acquire"
+
+-- ---- lines
+
+-- words, each after a space
+abbrev pub spaced : List (List ℕ) → List ℕ
+spaced ws = flat_map (λ w. 32 ∷ w) ws
+
+-- a line of a first word and more words
+abbrev pub line_text : List (List ℕ) → List ℕ
+line_text [] = []
+line_text (w ∷ ws) = w ++ spaced ws
+
+-- the words of an act
+abbrev pub act_words : Act → List (List ℕ)
+act_words (acts.Took k) = codes "@" ∷ decimal k ∷ []
+act_words (acts.Now t) = codes "now" ∷ decimal t ∷ []
+act_words (acts.Boot g) = codes "boot" ∷ g ∷ []
+act_words (acts.Policy g list) = codes "policy" ∷ g ∷ map entry_text list
+act_words (acts.Gone g name w) = codes "gone" ∷ g ∷ name ∷ gone_text w ∷ []
+act_words (acts.Let g o) = codes "let" ∷ g ∷ hex_text o ∷ []
+act_words (acts.Sent g name k o) = codes "sent" ∷ g ∷ name ∷ decimal k ∷ hex_text o ∷ []
+act_words (acts.Clear g o) = codes "clear" ∷ g ∷ hex_text o ∷ []
+act_words (acts.Drop g w) = codes "drop" ∷ g ∷ why_text w ∷ []
+act_words (acts.Arrived g o) = codes "arrived" ∷ g ∷ hex_text o ∷ []
+act_words (acts.Gave g name k o) = codes "gave" ∷ g ∷ name ∷ decimal k ∷ hex_text o ∷ []
+act_words (acts.Pass g o) = codes "pass" ∷ g ∷ hex_text o ∷ []
+act_words (acts.Opened g s) = codes "opened" ∷ g ∷ decimal s ∷ []
+act_words (acts.Cut g s) = codes "cut" ∷ g ∷ decimal s ∷ []
+act_words (acts.Wire g l o) = codes "wire" ∷ g ∷ lane_text l ∷ hex_text o ∷ []
+act_words (acts.Refused w) = codes "refused" ∷ refusal_text w ∷ []
+act_words _ = []
+
 -- one act, without its LF
 unfoldable pub act_text : Act → List ℕ
-act_text (acts.Took k) = codes "@ " ++ decimal k
-act_text (acts.Policy g list) = codes "policy " ++ (g ++ entries_text list)
-act_text (acts.Let g o) = codes "let " ++ (g ++ 32 ∷ hex_text o)
-act_text (acts.Clear g o) = codes "clear " ++ (g ++ 32 ∷ hex_text o)
-act_text (acts.Drop g w) = codes "drop " ++ (g ++ 32 ∷ why_text w)
-act_text _ = []
+act_text a = line_text (act_words a)
 
--- the line of an event in its canonical spelling, without its LF
+abbrev pub tunnel_words : TunnelSpec → List (List ℕ)
+tunnel_words s =
+    decimal s.reqid ∷ mode_text s.now ∷ s.first ∷ s.second ∷ prefix_text s.first_prefix ∷ prefix_text s.second_prefix
+    ∷ decimal s.window ∷ limits_text s.hard ∷ limits_text s.soft ∷ []
+
+-- the words of an event in their canonical spelling
+abbrev pub event_words : Event → List (List ℕ)
+event_words (events.Let g o) = codes "let" ∷ g ∷ hex_text o ∷ []
+event_words (events.Arrive g o) = codes "arrive" ∷ g ∷ hex_text o ∷ []
+event_words (events.ArriveSent g k) = codes "arrive" ∷ g ∷ (35 ∷ decimal k) ∷ []
+event_words (events.ArriveFlip g k n b) = codes "arrive" ∷ g ∷ (35 ∷ decimal k) ∷ codes "flip" ∷ decimal n ∷ decimal b ∷ []
+event_words (events.ArriveTtl g k t) = codes "arrive" ∷ g ∷ (35 ∷ decimal k) ∷ codes "ttl" ∷ decimal t ∷ []
+event_words (events.Now t) = codes "now" ∷ decimal t ∷ []
+event_words (events.Boot g) = codes "boot" ∷ g ∷ []
+event_words (events.Open g) = codes "open" ∷ g ∷ []
+event_words (events.Cut g) = codes "cut" ∷ g ∷ []
+event_words (events.Down g) = codes "down" ∷ g ∷ []
+event_words (events.Up g) = codes "up" ∷ g ∷ []
+event_words (events.Note g) = codes "note" ∷ g ∷ []
+event_words (events.Wire g l) = codes "wire" ∷ g ∷ lane_text l ∷ []
+event_words (events.Policy g list) = codes "policy" ∷ g ∷ map entry_text list
+event_words (events.Tunnel s) = codes "tunnel" ∷ tunnel_words s
+event_words (events.End n) = codes "end" ∷ decimal n ∷ []
+event_words (events.Rekey n) = codes "rekey" ∷ decimal n ∷ []
+event_words (events.Keys o) = codes "keys" ∷ hex_text o ∷ []
+
+-- an event, without its LF
 unfoldable pub event_text : Event → List ℕ
-event_text (events.Policy g list) = codes "policy " ++ (g ++ entries_text list)
-event_text (events.Let g o) = codes "let " ++ (g ++ 32 ∷ hex_text o)
-event_text _ = []
+event_text e = line_text (event_words e)
 
 abbrev pub line_of : Act → List ℕ
 line_of a = act_text a ++ 10 ∷ []

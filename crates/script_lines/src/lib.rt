@@ -6,9 +6,12 @@ mod entry;
 mod event;
 mod header;
 mod laws;
+mod limits;
 mod parts;
 #[cfg(test)]
 mod tests;
+mod tunnel;
+mod words;
 mod write;
 
 pub use act::read_act;

@@ -314,7 +314,7 @@ const NO_ACTS: &str = "\
 drop a no-sa\r|octet\n\
 |word\n\
 @1|word\n\
-sent a 00|word\n\
+sends a 00|word\n\
 world seq-last 1 a=192.0.2.1|word\n\
 @|count\n\
 @ 1 |count\n\
