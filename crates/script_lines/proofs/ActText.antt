@@ -1,5 +1,5 @@
 -- The line of an act is read as that act.
-use Rattle.std.proofs.Common.{◌≡◌, ℕ, zero, suc, ◌-◌, ◌^◌, ◌<◌, ◌≤◌, ◌&&◌, ◌||◌, nat_le, Bool, true, false, List, [], ◌∷◌, ◌++◌, length, take, drop, map, Result, Ok, inl, inr, ◌⊎◌, refl, sym, ap, ◌∙◌, arith}
+use Rattle.std.proofs.Common.{◌≡◌, ℕ, ◌-◌, ◌^◌, ◌<◌, ◌≤◌, ◌&&◌, ◌||◌, nat_le, Bool, true, false, List, [], ◌∷◌, ◌++◌, length, take, drop, map, Result, Ok, inl, inr, ◌⊎◌, refl, sym, ap, ◌∙◌, arith}
 use Rattle.std.specs.Prelude.{codes}
 use Rattle.std.specs.List.{All, list_all, flat_map}
 use Rattle.std.specs.Str.{bytes_eq}
@@ -28,19 +28,12 @@ use Rattle.script_lines.specs.declared.act.Opening.{Opening}
 use Rattle.script_lines.specs.Words.{◌>>=◌, words, is_printable, known_of, octets_of, number_in}
 use Rattle.script_lines.specs.Event.{unless_fault, time_in, reqid_in, gateway_in}
 use Rattle.script_lines.specs.Text.{hex_text, why_text, lane_text, gone_text, entry_text, line_text, act_words, act_text}
-use Rattle.script_lines.specs.Act.{why_of, gone_of, refusal_of, half_name_of, force_in, packet_in, sealed_of, sealed_in, drop_in, gone_at, gone_in, opening_in, shown_of, under_way_at, under_way_in, refused_in, base_act_in, packet_act_in, act_in, as_spelled, act_of}
+use Rattle.script_lines.specs.Act.{why_of, gone_of, refusal_of, force_in, packet_in, sealed_of, sealed_in, drop_in, gone_at, gone_in, opening_in, shown_of, under_way_at, under_way_in, refused_in, base_act_in, packet_act_in, act_in, as_spelled, act_of}
 use Rattle.script_lines.specs.Spelling.{are_spelled, IsListed, IsActUnder, AreOctets, IsEntry, IsAct}
-use Rattle.script_lines.proofs.PartText.{is_part, is_graph, word_part, also, as_graph}
+use Rattle.script_lines.proofs.PartText.{is_graph}
+use Rattle.script_lines.proofs.ActLine.{act_line, half_name_word}
+use Rattle.script_lines.proofs.SessionActs.{put_line, order_line, handled_line, answered_line, notice_line, heard_line}
 use Rattle.script_lines.proofs.LineText.{AreWords, ReadsDigits, line_words, line_printable, number_word, number_again, lane_read, lane_word, named_spelled, name_word, hex_word, hex_read, list_read, list_words, few_words}
-
-act_line : (gateways : List Peer) (a : Act) (w : List ℕ) (ws : List (List ℕ)) → act_words a ≡ w ∷ ws → AreWords (w ∷ ws)
-    → act_in gateways (w ∷ ws) ≡ Ok a → act_of gateways (act_text a) ≡ Ok a
-unfolding act_of as_spelled act_text
-act_line gateways a w ws e are read =
-    let p : list_all is_printable (line_text (act_words a)) ≡ true = ap (λ us. list_all is_printable (line_text us)) e ∙ line_printable w ws are in
-    let s : words (line_text (act_words a)) ≡ w ∷ ws = ap (λ us. words (line_text us)) e ∙ line_words w ws are in
-    let same : bytes_eq (line_text (act_words a)) (line_text (act_words a)) ≡ true = (bytes_eq-Decides (line_text (act_words a)) (line_text (act_words a))).1 refl in
-    rw (p, s, read, same) refl
 
 -- ---- why a packet is dropped
 
@@ -113,30 +106,6 @@ refusal_word refusals.TunnelLimit = refl
 refusal_word refusals.KeySeen = refl
 refusal_word refusals.KeyLength = refl
 refusal_word refusals.KeyLimit = refl
-
--- ---- names of halves
-
-taken_all : (q : ℕ → Bool) (n : ℕ) (t : List ℕ) → list_all q (take n t) ≡ true → list_all q (drop n t) ≡ true → list_all q t ≡ true
-taken_all q zero t front back = back
-taken_all q (suc n) [] front back = refl
-taken_all q (suc n) (c ∷ cs) front back = let p = and_parts _ _ front in and_from _ _ p.0 (taken_all q n cs p.1 back)
-
-front_part : (front name : List ℕ) → list_all is_part front ≡ true → has_front front name ≡ true → list_all is_part name ≡ true
-front_part front name good has =
-    let p = and_parts _ _ (and_parts _ _ has).1 in
-    let serial : list_all is_word_octet (drop (length front) name) ≡ true = (and_parts _ _ p.1).1 in
-    let same : take (length front) name ≡ front = (bytes_eq-Decides (take (length front) name) front).0 p.0 in
-    taken_all is_part (length front) name (ap (list_all is_part) same ∙ good) (also is_word_octet is_part word_part (drop (length front) name) serial)
-
--- the name of a half has neither a space nor a comma
-pub half_name_part : (name : List ℕ) → is_sad_name name ≡ true → list_all is_part name ≡ true
-half_name_part name is = elim (or_cases (has_front (codes "in/") name) (has_front (codes "out/") name) is) [
-  | inl x ↦ front_part (codes "in/") name refl x
-  | inr y ↦ front_part (codes "out/") name refl y
-]
-
-pub half_name_word : (name : List ℕ) → is_sad_name name ≡ true → list_all is_graph name ≡ true
-half_name_word name is = as_graph name (half_name_part name is)
 
 -- ---- acts of packets
 
@@ -289,6 +258,7 @@ act_again digits gateways (acts.Took k) all under is = took_line gateways k is
 act_again digits gateways (acts.Now t) all under is = now_line gateways t is
 act_again digits gateways (acts.Boot g) all under is = boot_line gateways g (named_spelled gateways g all under) under
 act_again digits gateways (acts.Policy g list) all under is = policy_line gateways g list (named_spelled gateways g all under.0) under.0 under.1 is
+act_again digits gateways (acts.Put g e) all under is = put_line digits gateways g e (named_spelled gateways g all under.0) under.0 under.1 is
 act_again digits gateways (acts.Gone g name w) all under is = gone_line gateways g name w (named_spelled gateways g all under.0) under.0 under.1
 act_again digits gateways (acts.Let g o) all under is = let_line digits gateways g o (named_spelled gateways g all under) under is
 act_again digits gateways (acts.Sent g name k o) all under is = sent_line digits gateways g name k o (named_spelled gateways g all under.0) under.0 under.1 is.0 is.1
@@ -299,6 +269,10 @@ act_again digits gateways (acts.Gave g name k o) all under is = gave_line digits
 act_again digits gateways (acts.Pass g o) all under is = pass_line digits gateways g o (named_spelled gateways g all under) under is
 act_again digits gateways (acts.Opened g s) all under is = opened_line gateways g s (named_spelled gateways g all under) under is
 act_again digits gateways (acts.Cut g s) all under is = cut_line gateways g s (named_spelled gateways g all under) under is
+act_again digits gateways (acts.Order g s n o) all under is = order_line digits gateways g s n o (named_spelled gateways g all under.0) under.0 under.1 is.0 is.1 is.2
+act_again digits gateways (acts.Handled g s n a) all under is = handled_line digits gateways g s n a (named_spelled gateways g all under.0) under.0 under.1 is.0 is.1 is.2
+act_again digits gateways (acts.Answered g s n a) all under is = answered_line digits gateways g s n a (named_spelled gateways g all under.0) under.0 under.1 is.0 is.1 is.2
+act_again digits gateways (acts.Notice g s n) all under is = notice_line digits gateways g s n (named_spelled gateways g all under.0) under.0 under.1 is.0 is.1
+act_again digits gateways (acts.Heard g s n) all under is = heard_line digits gateways g s n (named_spelled gateways g all under.0) under.0 under.1 is.0 is.1
 act_again digits gateways (acts.Wire g l o) all under is = wire_line digits gateways g l o (named_spelled gateways g all under.0) under.0 under.1 is
 act_again digits gateways (acts.Refused w) all under is = refused_line gateways w
-act_again digits gateways a all under is = absurd under

@@ -13,18 +13,14 @@ use Rattle.hist_acts.specs.Gateways.{is_named}
 use Rattle.script_lines.specs.declared.act.Packet.{Packet}
 use Rattle.script_lines.specs.declared.act.Sealed.{Sealed}
 use Rattle.script_lines.specs.declared.act.Opening.{Opening}
-use Rattle.script_lines.specs.Words.{◌>>=◌, words, is_printable, known_of, octets_of, lane_of, number_in}
+use Rattle.script_lines.specs.Words.{◌>>=◌, words, is_printable, known_of, half_name_of, octets_of, lane_of, number_in}
 use Rattle.script_lines.specs.Entry.{entries_of}
 use Rattle.script_lines.specs.Event.{unless_fault, time_in, reqid_in, gateway_in}
-use Rattle.script_lines.specs.Act.{why_of, gone_of, refusal_of, half_name_of, force_in, packet_in, sealed_of, sealed_in, drop_in, gone_at, gone_in, opening_in, shown_of, under_way_at, under_way_in, refused_in, base_act_in, packet_act_in, act_in, act_of, as_spelled, spelling_fault}
+use Rattle.script_lines.specs.Act.{why_of, gone_of, refusal_of, force_in, packet_in, sealed_of, sealed_in, drop_in, gone_at, gone_in, opening_in, shown_of, under_way_at, under_way_in, refused_in, base_act_in, packet_act_in, act_in, act_of, as_spelled, spelling_fault}
 use Rattle.script_lines.specs.Spelling.{IsListed, IsActUnder}
 use Rattle.script_lines.specs.Text.{act_text}
 use Rattle.script_lines.proofs.TakenSteps.{after, passed, either, inside, listed, known_named}
-
-half_named : (w n : List ℕ) → half_name_of w ≡ Ok n → is_sad_name n ≡ true
-half_named w n is =
-    passed (is_sad_name n ≡ true) (is_sad_name w) (Ok w) faults.Entry n is
-    (λ named same. let e : w ≡ n = cc in ap is_sad_name (sym e) ∙ named)
+use Rattle.script_lines.proofs.SpelledSession.{half_named, put_under, session_act_under}
 
 force_under : (gateways : List Peer) (ws : List (List ℕ)) (a : Act) → force_in gateways ws ≡ Ok a → IsActUnder gateways a
 unfolding force_in
@@ -140,6 +136,7 @@ unfolding base_act_in
 base_under gateways w ws a is =
     let P : Type 0 = IsActUnder gateways a in
     either P (bytes_eq w (codes "policy")) _ _ a is (force_under gateways ws a)
+    (λ is0. either P (bytes_eq w (codes "put")) _ _ a is0 (put_under gateways ws a)
     (λ is2. either P (bytes_eq w (codes "gone")) _ _ a is2 (gone_under gateways ws a)
     (λ is3. either P (bytes_eq w (codes "opened")) _ _ a is3
     (λ read. after P (opening_in gateways ws) _ a read
@@ -148,7 +145,7 @@ base_under gateways w ws a is =
     (λ read. after P (opening_in gateways ws) _ a read
     (λ s opened same. let e : acts.Cut s.gateway s.session ≡ a = cc in subst (IsActUnder gateways) e (opening_under gateways ws s opened)))
     (λ is5. either P (bytes_eq w (codes "wire")) _ _ a is5 (under_way_under gateways ws a)
-    (λ is6. passed P (bytes_eq w (codes "refused")) _ faults.Word a is6 (λ _ read. refused_under gateways ws a read))))))
+    (λ is6. either P (bytes_eq w (codes "refused")) _ _ a is6 (refused_under gateways ws a) (session_act_under gateways w ws a)))))))
 
 packet_act_under : (gateways : List Peer) (w : List ℕ) (ws : List (List ℕ)) (a : Act) → packet_act_in gateways w ws ≡ Ok a → IsActUnder gateways a
 unfolding packet_act_in

@@ -4,7 +4,7 @@ use Rattle.std.specs.List.{list_all}
 use Rattle.std.specs.Str.{bytes_eq}
 use Rattle.ikl_base.specs.declared.status.LineFault.{LineFault}
 use Rattle.ikl_base.specs.declared.status.LineFault.TheVariants as faults
-use Rattle.ikeless_tree.specs.Check.{spd_fault, is_sad_name}
+use Rattle.ikeless_tree.specs.Check.{spd_fault}
 use Rattle.ikeless_tree.specs.Words.{refusal_text}
 use Rattle.ikeless_tree.specs.declared.command.Peer.{Peer}
 use Rattle.ikeless_tree.specs.declared.command.Refusal.{Refusal}
@@ -18,9 +18,11 @@ use Rattle.hist_acts.specs.declared.act.Act.TheVariants as acts
 use Rattle.script_lines.specs.declared.act.Packet.{Packet}
 use Rattle.script_lines.specs.declared.act.Sealed.{Sealed}
 use Rattle.script_lines.specs.declared.act.Opening.{Opening}
-use Rattle.script_lines.specs.Words.{◌>>=◌, words, is_printable, known_of, octets_of, lane_of, number_in}
+use Rattle.script_lines.specs.Words.{◌>>=◌, words, is_printable, known_of, half_name_of, octets_of, lane_of, number_in}
 use Rattle.script_lines.specs.Entry.{entries_of}
 use Rattle.script_lines.specs.Event.{unless_fault, time_in, reqid_in, gateway_in}
+use Rattle.script_lines.specs.Half.{half_of}
+use Rattle.script_lines.specs.Session.{place_of, order_of, replied_in, noticed_in}
 use Rattle.script_lines.specs.Text.{act_text}
 
 -- why a packet is dropped
@@ -63,10 +65,6 @@ refusal_of w =
     else if bytes_eq w (refusal_text refusals.KeyLimit) then Ok refusals.KeyLimit
     else Err faults.Word
 
--- the name of a half
-abbrev pub half_name_of : List ℕ → Result (List ℕ) LineFault
-half_name_of w = if is_sad_name w then Ok w else Err faults.Entry
-
 -- a gateway, and a list that can be in force there
 unfoldable pub force_in : List Peer → List (List ℕ) → Result Act LineFault
 force_in gateways [] = Err faults.Count
@@ -94,6 +92,14 @@ sealed_in gateways _ = Err faults.Count
 unfoldable pub drop_in : List Peer → List (List ℕ) → Result Act LineFault
 drop_in gateways (gateway ∷ w ∷ []) = known_of gateways gateway >>= (λ g. why_of w >>= (λ y. Ok (acts.Drop g y)))
 drop_in gateways _ = Err faults.Count
+
+unfoldable pub put_at : List Peer → List ℕ → List ℕ → Result Act LineFault
+put_at gateways gateway half = known_of gateways gateway >>= (λ g. half_of half >>= (λ e. Ok (acts.Put g e)))
+
+-- a gateway, and a half that can be installed there
+unfoldable pub put_in : List Peer → List (List ℕ) → Result Act LineFault
+put_in gateways (gateway ∷ half ∷ []) = put_at gateways gateway half
+put_in gateways _ = Err faults.Count
 
 unfoldable pub gone_at : List Peer → List ℕ → List ℕ → List ℕ → Result Act LineFault
 gone_at gateways gateway name w =
@@ -127,16 +133,36 @@ unfoldable pub refused_in : List (List ℕ) → Result Act LineFault
 refused_in (w ∷ []) = refusal_of w >>= (λ y. Ok (acts.Refused y))
 refused_in _ = Err faults.Count
 
+unfoldable pub order_at : List Peer → List ℕ → List ℕ → List ℕ → List ℕ → List (List ℕ) → Result Act LineFault
+order_at gateways gateway session request w ws =
+    place_of gateways gateway session request >>= (λ p. order_of w ws >>= (λ o. Ok (acts.Order p.gateway p.session p.request o)))
+
+-- a gateway, the numbers of a session and of a request in it, and an order
+unfoldable pub order_in : List Peer → List (List ℕ) → Result Act LineFault
+order_in gateways (gateway ∷ session ∷ request ∷ w ∷ ws) = order_at gateways gateway session request w ws
+order_in gateways _ = Err faults.Count
+
+-- orders, answers and notices
+unfoldable pub session_act_in : List Peer → List ℕ → List (List ℕ) → Result Act LineFault
+session_act_in gateways w ws =
+    if bytes_eq w (codes "order") then order_in gateways ws
+    else if bytes_eq w (codes "handled") then replied_in gateways ws >>= (λ r. Ok (acts.Handled r.place.gateway r.place.session r.place.request r.answer))
+    else if bytes_eq w (codes "answered") then replied_in gateways ws >>= (λ r. Ok (acts.Answered r.place.gateway r.place.session r.place.request r.answer))
+    else if bytes_eq w (codes "notice") then noticed_in gateways ws >>= (λ n. Ok (acts.Notice n.gateway n.session n.notice))
+    else if bytes_eq w (codes "heard") then noticed_in gateways ws >>= (λ n. Ok (acts.Heard n.gateway n.session n.notice))
+    else Err faults.Word
+
 -- what happens to databases and sessions
 unfoldable pub base_act_in : List Peer → List ℕ → List (List ℕ) → Result Act LineFault
 base_act_in gateways w ws =
     if bytes_eq w (codes "policy") then force_in gateways ws
+    else if bytes_eq w (codes "put") then put_in gateways ws
     else if bytes_eq w (codes "gone") then gone_in gateways ws
     else if bytes_eq w (codes "opened") then opening_in gateways ws >>= (λ s. Ok (acts.Opened s.gateway s.session))
     else if bytes_eq w (codes "cut") then opening_in gateways ws >>= (λ s. Ok (acts.Cut s.gateway s.session))
     else if bytes_eq w (codes "wire") then under_way_in gateways ws
     else if bytes_eq w (codes "refused") then refused_in ws
-    else Err faults.Word
+    else session_act_in gateways w ws
 
 -- what happens to packets
 unfoldable pub packet_act_in : List Peer → List ℕ → List (List ℕ) → Result Act LineFault
@@ -169,6 +195,10 @@ spelling_fault (acts.Arrived g o) = faults.Hex
 spelling_fault (acts.Gave g name k o) = faults.Hex
 spelling_fault (acts.Pass g o) = faults.Hex
 spelling_fault (acts.Wire g l o) = faults.Hex
+spelling_fault (acts.Put g e) = faults.Entry
+spelling_fault (acts.Order g s n o) = faults.Entry
+spelling_fault (acts.Notice g s n) = faults.Entry
+spelling_fault (acts.Heard g s n) = faults.Entry
 spelling_fault _ = faults.Word
 
 -- an act has one spelling

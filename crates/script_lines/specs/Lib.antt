@@ -4,6 +4,8 @@ pub mod Entry
 pub mod Header
 pub mod Limits
 pub mod Event
+pub mod Half
+pub mod Session
 pub mod Text
 pub mod Act
 pub mod Spelling

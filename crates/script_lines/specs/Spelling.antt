@@ -1,10 +1,15 @@
 -- Which acts and events a line can spell under the gateways of a header.
 use Rattle.std.specs.Prelude.{◌≡◌, ℕ, ◌^◌, ◌<◌, ◌≤◌, nat_le, Bool, IsTrue, List, length, Option, Some, None, All}
 use Rattle.std.specs.List.{list_all}
-use Rattle.ikeless_tree.specs.Check.{spd_fault, is_gateway, is_sad_name, is_window}
+use Rattle.ikeless_tree.specs.Check.{spd_fault, sad_fault, is_spd_name, is_gateway, is_sad_name, is_window}
 use Rattle.ikeless_tree.specs.declared.association.Limits.{Limits}
 use Rattle.ikeless_tree.specs.declared.command.Peer.{Peer}
 use Rattle.ikeless_tree.specs.declared.command.TunnelSpec.{TunnelSpec}
+use Rattle.ikeless_tree.specs.declared.association.SadEntry.{SadEntry}
+use Rattle.ikeless_tree.specs.declared.order.Notice.{Notice}
+use Rattle.ikeless_tree.specs.declared.order.Notice.TheVariants as notices
+use Rattle.ikeless_tree.specs.declared.order.Order.{Order}
+use Rattle.ikeless_tree.specs.declared.order.Order.TheVariants as orders
 use Rattle.ikeless_tree.specs.declared.entry.Range.{Range}
 use Rattle.ikeless_tree.specs.declared.entry.Selector.{Selector}
 use Rattle.ikeless_tree.specs.declared.entry.SpdEntry.{SpdEntry}
@@ -14,6 +19,7 @@ use Rattle.hist_acts.specs.declared.event.Event.{Event}
 use Rattle.hist_acts.specs.declared.event.Event.TheVariants as events
 use Rattle.hist_acts.specs.Gateways.{is_named}
 use Rattle.yang_values.specs.Addresses.{IsAddress}
+use Rattle.script_lines.specs.Session.{is_packet}
 
 -- the gateways have names that a line can spell
 abbrev pub are_spelled : List Peer → Bool
@@ -34,12 +40,32 @@ IsKnown gateways g = IsTrue (is_named gateways g)
 abbrev pub IsHalfName : List ℕ → Type 0
 IsHalfName name = IsTrue (is_sad_name name)
 
+-- a half can be installed
+abbrev pub IsInstallable : SadEntry → Type 0
+IsInstallable e = sad_fault e ≡ None
+
+abbrev pub IsOrderSpelled : Order → Type 0
+IsOrderSpelled orders.Read = Unit {0}
+IsOrderSpelled (orders.Policy list) = IsListed list
+IsOrderSpelled (orders.Put e) = IsInstallable e
+IsOrderSpelled (orders.Remove name) = IsHalfName name
+
+abbrev pub AreHalfNames : List (List ℕ) → Type 0
+AreHalfNames names = All IsHalfName names
+
+abbrev pub IsNoticeSpelled : Notice → Type 0
+IsNoticeSpelled (notices.Acquire policy s) = IsTrue (is_spd_name policy) × IsTrue (is_packet s)
+IsNoticeSpelled (notices.Expire name soft counts) = IsHalfName name
+IsNoticeSpelled (notices.SeqOverflow name) = IsHalfName name
+IsNoticeSpelled (notices.BadSpi spi) = Unit {0}
+
 -- an act's gateway is one of the header, and its half has a name of the tree
 abbrev pub IsActUnder : List Peer → Act → Type 0
 IsActUnder gateways (acts.Took k) = Unit {0}
 IsActUnder gateways (acts.Now t) = Unit {0}
 IsActUnder gateways (acts.Boot g) = IsKnown gateways g
 IsActUnder gateways (acts.Policy g list) = IsKnown gateways g × IsListed list
+IsActUnder gateways (acts.Put g e) = IsKnown gateways g × IsInstallable e
 IsActUnder gateways (acts.Gone g name w) = IsKnown gateways g × IsHalfName name
 IsActUnder gateways (acts.Let g o) = IsKnown gateways g
 IsActUnder gateways (acts.Sent g name k o) = IsKnown gateways g × IsHalfName name
@@ -50,9 +76,13 @@ IsActUnder gateways (acts.Gave g name k o) = IsKnown gateways g × IsHalfName na
 IsActUnder gateways (acts.Pass g o) = IsKnown gateways g
 IsActUnder gateways (acts.Opened g s) = IsKnown gateways g
 IsActUnder gateways (acts.Cut g s) = IsKnown gateways g
+IsActUnder gateways (acts.Order g s n o) = IsKnown gateways g × IsOrderSpelled o
+IsActUnder gateways (acts.Handled g s n a) = IsKnown gateways g × AreHalfNames a.names
+IsActUnder gateways (acts.Answered g s n a) = IsKnown gateways g × AreHalfNames a.names
+IsActUnder gateways (acts.Notice g s n) = IsKnown gateways g × IsNoticeSpelled n
+IsActUnder gateways (acts.Heard g s n) = IsKnown gateways g × IsNoticeSpelled n
 IsActUnder gateways (acts.Wire g l o) = IsKnown gateways g × IsTrue (nat_le (length o) 4096)
 IsActUnder gateways (acts.Refused w) = Unit {0}
-IsActUnder gateways _ = ⊥
 
 -- an event's gateway is one of the header, but a command may be for any name; what is counted is counted from 1
 abbrev pub IsEventUnder : List Peer → Event → Type 0
@@ -111,6 +141,29 @@ pub record IsTunnel (s : TunnelSpec) : Type 0 where
   pub hard : AreLimits s.hard
   pub soft : AreLimits s.soft
 
+pub record IsHalf (e : SadEntry) : Type 0 where
+  pub reqid : e.reqid < 2 ^ 64
+  pub spi : e.spi < 2 ^ 32
+  pub window : e.window < 2 ^ 32
+  pub selector : IsSelector e.selector
+  pub key : AreOctets e.key
+  pub local : IsAddress e.local
+  pub remote : IsAddress e.remote
+  pub hard : AreLimits e.hard
+  pub soft : AreLimits e.soft
+
+abbrev pub IsOrder : Order → Type 0
+IsOrder orders.Read = Unit {0}
+IsOrder (orders.Policy list) = All IsEntry list
+IsOrder (orders.Put e) = IsHalf e
+IsOrder (orders.Remove name) = Unit {0}
+
+abbrev pub IsNotice : Notice → Type 0
+IsNotice (notices.Acquire policy s) = IsSelector s
+IsNotice (notices.Expire name soft counts) = AreLimits counts
+IsNotice (notices.SeqOverflow name) = Unit {0}
+IsNotice (notices.BadSpi spi) = spi < 2 ^ 32
+
 abbrev pub IsAct : Act → Type 0
 IsAct (acts.Took k) = k < 2 ^ 64
 IsAct (acts.Now t) = t < 2 ^ 32
@@ -123,6 +176,12 @@ IsAct (acts.Gave g name k o) = (k < 2 ^ 64) × AreOctets o
 IsAct (acts.Pass g o) = AreOctets o
 IsAct (acts.Opened g s) = s < 2 ^ 32
 IsAct (acts.Cut g s) = s < 2 ^ 32
+IsAct (acts.Put g e) = IsHalf e
+IsAct (acts.Order g s n o) = (s < 2 ^ 32) × (n < 2 ^ 64) × IsOrder o
+IsAct (acts.Handled g s n a) = (s < 2 ^ 32) × (n < 2 ^ 64) × (a.status < 65536)
+IsAct (acts.Answered g s n a) = (s < 2 ^ 32) × (n < 2 ^ 64) × (a.status < 65536)
+IsAct (acts.Notice g s n) = (s < 2 ^ 32) × IsNotice n
+IsAct (acts.Heard g s n) = (s < 2 ^ 32) × IsNotice n
 IsAct (acts.Wire g l o) = AreOctets o
 IsAct _ = Unit {0}
 

@@ -2,6 +2,7 @@
 use Rattle.std.specs.Prelude.{ℕ, ◌+◌, Bool, true, false, List, [], ◌∷◌, ◌++◌, map, Option, Some, None, codes}
 use Rattle.std.specs.List.{flat_map}
 use Rattle.std.specs.Fmt.{decimal}
+use Rattle.yang_values.specs.Addresses.{address_text}
 use Rattle.yang_values.specs.HexText.{digits_text}
 use Rattle.yang_values.specs.Prefixes.{prefix_text}
 use Rattle.ikeless_tree.specs.declared.entry.Range.{Range}
@@ -19,7 +20,16 @@ use Rattle.ikeless_tree.specs.declared.order.Lane.{Lane}
 use Rattle.ikeless_tree.specs.declared.order.Lane.TheVariants as lanes
 use Rattle.ikeless_tree.specs.declared.reply.GoneWhy.{GoneWhy}
 use Rattle.ikeless_tree.specs.declared.reply.GoneWhy.TheVariants as ends
-use Rattle.ikeless_tree.specs.Words.{refusal_text}
+use Rattle.ikeless_tree.specs.Words.{refusal_text, tag_text}
+use Rattle.ikeless_tree.specs.declared.association.Df.{Df}
+use Rattle.ikeless_tree.specs.declared.association.Df.TheVariants as dfs
+use Rattle.ikeless_tree.specs.declared.association.SadEntry.{SadEntry}
+use Rattle.ikeless_tree.specs.declared.order.Answer.{Answer}
+use Rattle.ikeless_tree.specs.declared.order.Notice.{Notice}
+use Rattle.ikeless_tree.specs.declared.order.Notice.TheVariants as notices
+use Rattle.ikeless_tree.specs.declared.order.Order.{Order}
+use Rattle.ikeless_tree.specs.declared.order.Order.TheVariants as orders
+use Rattle.ikeless_tree.specs.declared.reply.Tag.{Tag}
 use Rattle.hist_acts.specs.declared.act.Act.{Act}
 use Rattle.hist_acts.specs.declared.act.Act.TheVariants as acts
 use Rattle.hist_acts.specs.declared.event.Event.{Event}
@@ -113,6 +123,40 @@ abbrev pub mode_text : Bool → List ℕ
 mode_text true = codes "now"
 mode_text false = codes "acquire"
 
+abbrev pub df_text : Df → List ℕ
+df_text dfs.Clear = codes "clear"
+df_text dfs.Set = codes "set"
+df_text dfs.Copy = codes "copy"
+
+abbrev pub half_numbers_text : SadEntry → List ℕ
+half_numbers_text e = decimal e.reqid ++ 44 ∷ (decimal e.spi ++ 44 ∷ decimal e.window)
+
+abbrev pub half_tunnel_text : SadEntry → List ℕ
+half_tunnel_text e = address_text e.local ++ 44 ∷ (address_text e.remote ++ 44 ∷ df_text e.df)
+
+abbrev pub half_lifetimes_text : SadEntry → List ℕ
+half_lifetimes_text e = limits_text e.hard ++ 44 ∷ limits_text e.soft
+
+abbrev pub half_keys_text : SadEntry → List ℕ
+half_keys_text e = digits_text e.key ++ 44 ∷ (half_tunnel_text e ++ 44 ∷ half_lifetimes_text e)
+
+-- fifteen parts with commas between them
+unfoldable pub half_text : SadEntry → List ℕ
+half_text e = e.name ++ 44 ∷ (half_numbers_text e ++ 44 ∷ (selector_text e.selector ++ 44 ∷ half_keys_text e))
+
+-- a dash for none, or the names with commas between them
+abbrev pub names_text : List (List ℕ) → List ℕ
+names_text [] = codes "-"
+names_text (n ∷ ns) = n ++ flat_map (λ m. 44 ∷ m) ns
+
+abbrev pub tag_word : Option Tag → List ℕ
+tag_word None = codes "-"
+tag_word (Some t) = tag_text t
+
+abbrev pub soft_text : Bool → List ℕ
+soft_text true = codes "soft"
+soft_text false = codes "hard"
+
 -- ---- lines
 
 -- words, each after a space
@@ -124,12 +168,28 @@ abbrev pub line_text : List (List ℕ) → List ℕ
 line_text [] = []
 line_text (w ∷ ws) = w ++ spaced ws
 
+abbrev pub order_words : Order → List (List ℕ)
+order_words orders.Read = codes "read" ∷ []
+order_words (orders.Policy list) = codes "policy" ∷ map entry_text list
+order_words (orders.Put e) = codes "put" ∷ half_text e ∷ []
+order_words (orders.Remove name) = codes "remove" ∷ name ∷ []
+
+abbrev pub answer_words : Answer → List (List ℕ)
+answer_words a = decimal a.status ∷ tag_word a.tag ∷ names_text a.names ∷ []
+
+abbrev pub notice_words : Notice → List (List ℕ)
+notice_words (notices.Acquire policy s) = codes "acquire" ∷ policy ∷ selector_text s ∷ []
+notice_words (notices.Expire name soft counts) = codes "expire" ∷ name ∷ soft_text soft ∷ limits_text counts ∷ []
+notice_words (notices.SeqOverflow name) = codes "overflow" ∷ name ∷ []
+notice_words (notices.BadSpi spi) = codes "bad-spi" ∷ decimal spi ∷ []
+
 -- the words of an act
 abbrev pub act_words : Act → List (List ℕ)
 act_words (acts.Took k) = codes "@" ∷ decimal k ∷ []
 act_words (acts.Now t) = codes "now" ∷ decimal t ∷ []
 act_words (acts.Boot g) = codes "boot" ∷ g ∷ []
 act_words (acts.Policy g list) = codes "policy" ∷ g ∷ map entry_text list
+act_words (acts.Put g e) = codes "put" ∷ g ∷ half_text e ∷ []
 act_words (acts.Gone g name w) = codes "gone" ∷ g ∷ name ∷ gone_text w ∷ []
 act_words (acts.Let g o) = codes "let" ∷ g ∷ hex_text o ∷ []
 act_words (acts.Sent g name k o) = codes "sent" ∷ g ∷ name ∷ decimal k ∷ hex_text o ∷ []
@@ -140,9 +200,13 @@ act_words (acts.Gave g name k o) = codes "gave" ∷ g ∷ name ∷ decimal k ∷
 act_words (acts.Pass g o) = codes "pass" ∷ g ∷ hex_text o ∷ []
 act_words (acts.Opened g s) = codes "opened" ∷ g ∷ decimal s ∷ []
 act_words (acts.Cut g s) = codes "cut" ∷ g ∷ decimal s ∷ []
+act_words (acts.Order g s n o) = codes "order" ∷ g ∷ decimal s ∷ decimal n ∷ order_words o
+act_words (acts.Handled g s n a) = codes "handled" ∷ g ∷ decimal s ∷ decimal n ∷ answer_words a
+act_words (acts.Answered g s n a) = codes "answered" ∷ g ∷ decimal s ∷ decimal n ∷ answer_words a
+act_words (acts.Notice g s n) = codes "notice" ∷ g ∷ decimal s ∷ notice_words n
+act_words (acts.Heard g s n) = codes "heard" ∷ g ∷ decimal s ∷ notice_words n
 act_words (acts.Wire g l o) = codes "wire" ∷ g ∷ lane_text l ∷ hex_text o ∷ []
 act_words (acts.Refused w) = codes "refused" ∷ refusal_text w ∷ []
-act_words _ = []
 
 -- one act, without its LF
 unfoldable pub act_text : Act → List ℕ

@@ -5,7 +5,7 @@ use Rattle.std.specs.Str.{bytes_eq}
 use Rattle.ikl_base.specs.declared.status.LineFault.{LineFault}
 use Rattle.ikl_base.specs.declared.status.LineFault.TheVariants as faults
 use Rattle.ikl_base.specs.declared.address.Prefix.{Prefix}
-use Rattle.ikeless_tree.specs.Check.{is_gateway}
+use Rattle.ikeless_tree.specs.Check.{is_gateway, is_sad_name}
 use Rattle.ikeless_tree.specs.declared.command.Peer.{Peer}
 use Rattle.ikeless_tree.specs.declared.order.Lane.{Lane}
 use Rattle.ikeless_tree.specs.declared.order.Lane.TheVariants as lanes
@@ -43,6 +43,10 @@ gateway_of w = if is_gateway w then Ok w else Err faults.Gateway
 -- the name of one of the gateways
 abbrev pub known_of : List Peer → List ℕ → Result (List ℕ) LineFault
 known_of gateways w = if is_named gateways w then Ok w else Err faults.Gateway
+
+-- the name of a half
+abbrev pub half_name_of : List ℕ → Result (List ℕ) LineFault
+half_name_of w = if is_sad_name w then Ok w else Err faults.Entry
 
 -- a lane between a gateway and its controller
 abbrev pub lane_of : List ℕ → Result Lane LineFault

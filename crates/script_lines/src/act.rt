@@ -3,17 +3,20 @@ ghost use Rattle.std.specs.Prelude.{◌≡◌, List, ℕ};
 ghost use Rattle.std.specs.Str.{bytes_eq};
 ghost use Rattle.ikl_base.specs.Answers.{Gives};
 ghost use Rattle.ikeless_tree.specs.Words.{refusal_text};
+ghost use Rattle.hist_acts.specs.declared.act.Act.TheVariants as acts;
 ghost use Rattle.script_lines.specs.Parts.{texts};
-ghost use Rattle.script_lines.specs.Act.{why_of, gone_of, refusal_of, half_name_of, force_in, packet_in, sealed_of, sealed_in, drop_in, gone_at, gone_in, opening_in, shown_of, under_way_at, under_way_in, refused_in, base_act_in, packet_act_in, act_in, spelling_fault, as_spelled, act_of};
+ghost use Rattle.script_lines.specs.Act.{why_of, gone_of, refusal_of, force_in, put_at, put_in, packet_in, sealed_of, sealed_in, drop_in, gone_at, gone_in, opening_in, shown_of, under_way_at, under_way_in, refused_in, order_at, order_in, session_act_in, base_act_in, packet_act_in, act_in, spelling_fault, as_spelled, act_of};
 
 use crate::entry::entries;
 use crate::event::{MOST_ENTRIES, known_alone, reqid, time};
+use crate::half::half;
 use crate::header::are_text;
 use crate::parts::{is_word, parts};
-use crate::words::{known, lane, octets, u32_from, u64_from};
+use crate::session::{Replied, noticed_from, order_from, place_from, replied_from};
+use crate::words::{half_name, known, lane, octets, u32_from, u64_from};
 use crate::write::put_act;
 use hist_acts::{Act, Header};
-use ikeless_tree::{DropWhy, GoneWhy, Peers, Refusal, check_spd, names_half};
+use ikeless_tree::{DropWhy, GoneWhy, Peers, Refusal, check_spd};
 use ikl_base::{LineFault, Name, Octets, OrMemory};
 use std::alloc::Global;
 
@@ -105,17 +108,6 @@ fn refusal(word: &[u8]) -> Result<Refusal, LineFault>
         Ok(Refusal::KeyLimit)
     } else {
         Err(LineFault::Word)
-    }
-}
-
-/// The name of a half.
-pub fn half_name(alloc: Global, word: &[u8]) -> Result<Name, OrMemory<LineFault>>
-    ensures { Gives result (half_name_of word.now) }
-{
-    if names_half(word) {
-        Ok(Name::from_slice(alloc, word)?)
-    } else {
-        Err(OrMemory::Refused(LineFault::Entry))
     }
 }
 
@@ -223,6 +215,34 @@ fn dropped(alloc: Global, gateways: &Peers, words: &[&[u8]]) -> Result<Act, OrMe
     }
 }
 
+#[tactic(auto, unfolding(crate::specs::Act::put_at))]
+fn installed(
+    alloc: Global,
+    gateways: &Peers,
+    name: &[u8],
+    word: &[u8],
+) -> Result<Act, OrMemory<LineFault>>
+    ensures { Gives result (put_at gateways.now name.now word.now) }
+{
+    let name = known(alloc, gateways, name)?;
+    let entry = half(alloc, word)?;
+    Ok(Act::Put(name, entry))
+}
+
+#[tactic(auto, unfolding(crate::specs::Act::put_in))]
+fn installed_from(
+    alloc: Global,
+    gateways: &Peers,
+    words: &[&[u8]],
+) -> Result<Act, OrMemory<LineFault>>
+    ensures { Gives result (put_in gateways.now (texts words.now)) }
+{
+    match words {
+        [name, word] => installed(alloc, gateways, name, word),
+        _ => Err(OrMemory::Refused(LineFault::Count)),
+    }
+}
+
 #[tactic(auto, unfolding(crate::specs::Act::gone_at))]
 fn gone_from(
     alloc: Global,
@@ -324,6 +344,77 @@ fn refused(words: &[&[u8]]) -> Result<Act, LineFault>
     }
 }
 
+#[tactic(auto, unfolding(crate::specs::Act::order_at))]
+fn ordered(
+    alloc: Global,
+    gateways: &Peers,
+    at: (&[u8], &[u8], &[u8]),
+    first: &[u8],
+    rest: &[&[u8]],
+) -> Result<Act, OrMemory<LineFault>>
+    ensures { Gives result (order_at gateways.now at.entry.0.now at.entry.1.now at.entry.2.now first.now (texts rest.now)) }
+{
+    let place = place_from(alloc, gateways, at.0, at.1, at.2)?;
+    let order = order_from(alloc, first, rest)?;
+    Ok(Act::Order(place.gateway, place.session, place.request, order))
+}
+
+#[tactic(auto, unfolding(crate::specs::Act::order_in))]
+fn ordered_from(
+    alloc: Global,
+    gateways: &Peers,
+    words: &[&[u8]],
+) -> Result<Act, OrMemory<LineFault>>
+    ensures { Gives result (order_in gateways.now (texts words.now)) }
+{
+    match words {
+        [name, session, request, first, rest @ ..] => {
+            ordered(alloc, gateways, (name, session, request), first, rest)
+        }
+        _ => Err(OrMemory::Refused(LineFault::Count)),
+    }
+}
+
+fn handled(replied: Replied) -> Act
+    ensures { result ≡ acts.Handled replied.place.gateway replied.place.session replied.place.request replied.answer }
+{
+    let place = replied.place;
+    Act::Handled(place.gateway, place.session, place.request, replied.answer)
+}
+
+fn answered(replied: Replied) -> Act
+    ensures { result ≡ acts.Answered replied.place.gateway replied.place.session replied.place.request replied.answer }
+{
+    let place = replied.place;
+    Act::Answered(place.gateway, place.session, place.request, replied.answer)
+}
+
+#[tactic(auto, unfolding(crate::specs::Act::session_act_in))]
+fn session_act(
+    alloc: Global,
+    gateways: &Peers,
+    first: &[u8],
+    rest: &[&[u8]],
+) -> Result<Act, OrMemory<LineFault>>
+    ensures { Gives result (session_act_in gateways.now first.now (texts rest.now)) }
+{
+    if is_word(first, b"order") {
+        ordered_from(alloc, gateways, rest)
+    } else if is_word(first, b"handled") {
+        Ok(handled(replied_from(alloc, gateways, rest)?))
+    } else if is_word(first, b"answered") {
+        Ok(answered(replied_from(alloc, gateways, rest)?))
+    } else if is_word(first, b"notice") {
+        let noticed = noticed_from(alloc, gateways, rest)?;
+        Ok(Act::Notice(noticed.gateway, noticed.session, noticed.notice))
+    } else if is_word(first, b"heard") {
+        let noticed = noticed_from(alloc, gateways, rest)?;
+        Ok(Act::Heard(noticed.gateway, noticed.session, noticed.notice))
+    } else {
+        Err(OrMemory::Refused(LineFault::Word))
+    }
+}
+
 #[tactic(auto, unfolding(crate::specs::Act::base_act_in))]
 fn base_act(
     alloc: Global,
@@ -335,6 +426,8 @@ fn base_act(
 {
     if is_word(first, b"policy") {
         force(alloc, gateways, rest)
+    } else if is_word(first, b"put") {
+        installed_from(alloc, gateways, rest)
     } else if is_word(first, b"gone") {
         gone(alloc, gateways, rest)
     } else if is_word(first, b"opened") {
@@ -348,7 +441,7 @@ fn base_act(
     } else if is_word(first, b"refused") {
         Ok(refused(rest)?)
     } else {
-        Err(OrMemory::Refused(LineFault::Word))
+        session_act(alloc, gateways, first, rest)
     }
 }
 
@@ -411,7 +504,11 @@ fn misspelled(act: &Act) -> LineFault
     ensures { result ≡ spelling_fault act.now }
 {
     match act {
-        Act::Policy(_, _) => LineFault::Entry,
+        Act::Policy(_, _)
+        | Act::Put(_, _)
+        | Act::Order(_, _, _, _)
+        | Act::Notice(_, _, _)
+        | Act::Heard(_, _, _) => LineFault::Entry,
         Act::Let(_, _)
         | Act::Sent(_, _, _, _)
         | Act::Clear(_, _)

@@ -4,15 +4,19 @@
 mod act;
 mod entry;
 mod event;
+mod half;
 mod header;
 mod laws;
 mod limits;
 mod parts;
+mod session;
 #[cfg(test)]
 mod tests;
 mod tunnel;
 mod words;
 mod write;
+mod write_half;
+mod write_session;
 
 pub use act::read_act;
 pub use event::read_event;

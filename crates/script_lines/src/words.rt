@@ -2,10 +2,10 @@
 ghost use Rattle.std.specs.Prelude.{◌≡◌, ◌-◌, ◌^◌};
 ghost use Rattle.ikl_base.specs.Answers.{Gives};
 ghost use Rattle.hist_acts.specs.Gateways.{is_named};
-ghost use Rattle.script_lines.specs.Words.{gateway_of, octets_of, number_in, prefix_in, known_of, lane_of};
+ghost use Rattle.script_lines.specs.Words.{gateway_of, octets_of, number_in, prefix_in, known_of, half_name_of, lane_of};
 
 use crate::parts::is_word;
-use ikeless_tree::{Lane, Peers, names_gateway};
+use ikeless_tree::{Lane, Peers, names_gateway, names_half};
 use ikl_base::{LineFault, Name, Octets, OrMemory, Prefix};
 use std::alloc::Global;
 use yang_values::{read_digits, read_number, read_prefix, read_u64};
@@ -26,6 +26,16 @@ pub fn u32_from(fault: LineFault, word: &[u8]) -> Result<u32, LineFault>
 {
     match read_number(word, 4_294_967_295) {
         Ok(n) => Ok(n as u32),
+        Err(_) => Err(fault),
+    }
+}
+
+/// A uint16.
+pub fn u16_from(fault: LineFault, word: &[u8]) -> Result<u16, LineFault>
+    ensures { result ≡ number_in fault 65535 word.now }
+{
+    match read_number(word, 65535) {
+        Ok(n) => Ok(n as u16),
         Err(_) => Err(fault),
     }
 }
@@ -78,6 +88,17 @@ pub fn known(alloc: Global, gateways: &Peers, word: &[u8]) -> Result<Name, OrMem
         Ok(Name::from_slice(alloc, word)?)
     } else {
         Err(OrMemory::Refused(LineFault::Gateway))
+    }
+}
+
+/// The name of a half.
+pub fn half_name(alloc: Global, word: &[u8]) -> Result<Name, OrMemory<LineFault>>
+    ensures { Gives result (half_name_of word.now) }
+{
+    if names_half(word) {
+        Ok(Name::from_slice(alloc, word)?)
+    } else {
+        Err(OrMemory::Refused(LineFault::Entry))
     }
 }
 

@@ -3,23 +3,27 @@ ghost use Rattle.std.specs.Prelude.{◌≡◌, ◌++◌, ◌∷◌, [], IfOk, On
 ghost use Rattle.std.specs.List.{flat_map};
 ghost use Rattle.std.specs.Fmt.{decimal};
 ghost use Rattle.ikeless_tree.specs.Words.{refusal_text};
-ghost use Rattle.script_lines.specs.Text.{hex_text, why_text, lane_text, gone_text, spaced, line_text, direction_text, action_text, proto_text, range_text, more_ranges_text, ports_text, prefixes_text, both_ports_text, selector_text, name_text, use_text, entry_text, entries_text, act_text, line_of, text_of};
+ghost use Rattle.script_lines.specs.Text.{hex_text, why_text, lane_text, gone_text, half_text, spaced, line_text, direction_text, action_text, proto_text, range_text, more_ranges_text, ports_text, prefixes_text, both_ports_text, selector_text, name_text, use_text, entry_text, entries_text, act_text, line_of, text_of};
 
+use crate::write_session::{put_answer, put_half_word, put_notice, put_order};
 use hist_acts::{Act, Acts, Header};
 use ikeless_tree::{
-    Action, Direction, DropWhy, Entries, GoneWhy, Lane, Ports, Range, Refusal, Selector, SpdEntry,
+    Action, Direction, DropWhy, Entries, GoneWhy, Lane, Ports, Range, Refusal, SadEntry, Selector,
+    SpdEntry,
 };
 use ikl_base::{Name, NoMemory, Octets};
 use std::alloc::Global;
 use yang_values::{put_digits, put_number, put_prefix};
 
-fn put(out: &mut Vec<u8>, text: &[u8]) -> Result<(), NoMemory>
+/// Adds a text.
+pub fn put(out: &mut Vec<u8>, text: &[u8]) -> Result<(), NoMemory>
     ensures { OnOk result (out.new.items ≡ out.old.items ++ text.now) }
 {
     Ok(out.extend_from_slice(text)?)
 }
 
-fn put_octet(out: &mut Vec<u8>, octet: u8) -> Result<(), NoMemory>
+/// Adds an octet.
+pub fn put_octet(out: &mut Vec<u8>, octet: u8) -> Result<(), NoMemory>
     ensures { OnOk result (out.new.items ≡ out.old.items ++ octet ∷ []) }
 {
     Ok(out.push(octet)?)
@@ -133,8 +137,9 @@ fn put_both_ports(out: &mut Vec<u8>, selector: &Selector) -> Result<(), NoMemory
     put_ports(out, &selector.remote_ports)
 }
 
+/// A selector, with commas between its parts.
 #[tactic(auto, unfolding(crate::specs::Text::selector_text))]
-fn put_selector(out: &mut Vec<u8>, selector: &Selector) -> Result<(), NoMemory>
+pub fn put_selector(out: &mut Vec<u8>, selector: &Selector) -> Result<(), NoMemory>
     ensures { OnOk result (out.new.items ≡ out.old.items ++ selector_text selector.now) }
 {
     put_prefixes(out, selector)?;
@@ -181,15 +186,16 @@ fn put_entries(out: &mut Vec<u8>, list: &[SpdEntry]) -> Result<(), NoMemory>
     Ok(())
 }
 
-// A word after a space.
-fn put_word(out: &mut Vec<u8>, word: &[u8]) -> Result<(), NoMemory>
+/// A word after a space.
+pub fn put_word(out: &mut Vec<u8>, word: &[u8]) -> Result<(), NoMemory>
     ensures { OnOk result (out.new.items ≡ out.old.items ++ 32 ∷ word.now) }
 {
     put_octet(out, b' ')?;
     put(out, word)
 }
 
-fn put_number_word(out: &mut Vec<u8>, n: u64) -> Result<(), NoMemory>
+/// A number after a space.
+pub fn put_number_word(out: &mut Vec<u8>, n: u64) -> Result<(), NoMemory>
     ensures { OnOk result (out.new.items ≡ out.old.items ++ 32 ∷ decimal n) }
 {
     put_octet(out, b' ')?;
@@ -235,6 +241,13 @@ fn put_refusal_word(out: &mut Vec<u8>, why: Refusal) -> Result<(), NoMemory>
     put_word(out, why.text().as_bytes())
 }
 
+fn put_installed(out: &mut Vec<u8>, g: &Name, entry: &SadEntry) -> Result<(), NoMemory>
+    ensures { OnOk result (out.new.items ≡ out.old.items ++ line_text (codes "put" ∷ g.now ∷ half_text entry.now ∷ [])) }
+{
+    put_at(out, b"put", g)?;
+    put_half_word(out, entry)
+}
+
 // What happened, and at which gateway.
 fn put_at(out: &mut Vec<u8>, what: &[u8], g: &Name) -> Result<(), NoMemory>
     ensures { OnOk result (out.new.items ≡ out.old.items ++ line_text (what.now ∷ g.now ∷ [])) }
@@ -250,7 +263,8 @@ fn put_counted(out: &mut Vec<u8>, what: &[u8], n: u64) -> Result<(), NoMemory>
     put_number_word(out, n)
 }
 
-fn put_entry_words(out: &mut Vec<u8>, list: &[SpdEntry]) -> Result<(), NoMemory>
+/// Entries, each after a space.
+pub fn put_entry_words(out: &mut Vec<u8>, list: &[SpdEntry]) -> Result<(), NoMemory>
     ensures { OnOk result (out.new.items ≡ out.old.items ++ spaced (map entry_text list.now)) }
 {
     put_entries(out, list)?;
@@ -271,7 +285,8 @@ fn put_packet(out: &mut Vec<u8>, what: &[u8], g: &Name, o: &Octets) -> Result<()
     put_hex_word(out, o)
 }
 
-fn put_opening(out: &mut Vec<u8>, what: &[u8], g: &Name, s: u32) -> Result<(), NoMemory>
+/// What happened, at which gateway, and the number of a session.
+pub fn put_opening(out: &mut Vec<u8>, what: &[u8], g: &Name, s: u32) -> Result<(), NoMemory>
     ensures { OnOk result (out.new.items ≡ out.old.items ++ line_text (what.now ∷ g.now ∷ decimal s ∷ [])) }
 {
     put_at(out, what, g)?;
@@ -344,6 +359,7 @@ pub fn put_act(out: &mut Vec<u8>, act: &Act) -> Result<(), NoMemory>
         Act::Now(t) => put_counted(out, b"now", u64::from(*t)),
         Act::Boot(g) => put_at(out, b"boot", g),
         Act::Policy(g, list) => put_policy(out, g, list),
+        Act::Put(g, entry) => put_installed(out, g, entry),
         Act::Gone(g, half, why) => put_gone(out, g, half, *why),
         Act::Let(g, o) => put_packet(out, b"let", g, o),
         Act::Sent(g, half, number, o) => put_sealed(out, b"sent", (g, half), *number, o),
@@ -354,9 +370,13 @@ pub fn put_act(out: &mut Vec<u8>, act: &Act) -> Result<(), NoMemory>
         Act::Pass(g, o) => put_packet(out, b"pass", g, o),
         Act::Opened(g, s) => put_opening(out, b"opened", g, *s),
         Act::Cut(g, s) => put_opening(out, b"cut", g, *s),
+        Act::Order(g, s, n, order) => put_order(out, g, *s, *n, order),
+        Act::Handled(g, s, n, answer) => put_answer(out, b"handled", g, *s, *n, answer),
+        Act::Answered(g, s, n, answer) => put_answer(out, b"answered", g, *s, *n, answer),
+        Act::Notice(g, s, notice) => put_notice(out, b"notice", g, *s, notice),
+        Act::Heard(g, s, notice) => put_notice(out, b"heard", g, *s, notice),
         Act::Wire(g, lane, o) => put_wire(out, g, *lane, o),
         Act::Refused(why) => put_refused(out, *why),
-        _ => Ok(()),
     }
 }
 
