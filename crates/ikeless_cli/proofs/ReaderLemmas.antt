@@ -9,10 +9,9 @@ use Rattle.hist_acts.specs.declared.event.Header.{Header}
 use Rattle.ikeless_tree.specs.declared.command.Peer.{Peer}
 use Rattle.hist_acts.specs.Past.{after}
 use Rattle.hist_gateway.specs.History.{block, history}
-use Rattle.script_lines.specs.Event.{event_of}
 use Rattle.script_lines.specs.Text.{text_of, line_of}
 use Rattle.ikeless_cli.specs.declared.world.World.{World}
-use Rattle.ikeless_cli.specs.Script.{IsLine, AreLines, AreEvents, IsScript, acts_of, joined}
+use Rattle.ikeless_cli.specs.Script.{line_event, IsLine, AreLines, AreEvents, IsScript, acts_of, joined}
 use Rattle.ikeless_cli.specs.World.{StandsFor}
 use Rattle.ikl_base.specs.Outside.{Gains, Loses, HasRisen, AtEnd}
 use Rattle.ikl_base.specs.declared.status.Status.{Status}
@@ -35,7 +34,7 @@ AreLines-push [] line are is = (is, tt)
 AreLines-push (l ∷ ls) line are is = (are.0, AreLines-push ls line are.1 is)
 
 AreEvents-push : (gateways : List Peer) (lines : List (List ℕ)) (events : List Event) (line : List ℕ) (e : Event) →
-    AreEvents gateways lines events → event_of gateways line ≡ Ok e → AreEvents gateways (lines ++ line ∷ []) (events ++ e ∷ [])
+    AreEvents gateways lines events → line_event gateways line ≡ Ok e → AreEvents gateways (lines ++ line ∷ []) (events ++ e ∷ [])
 AreEvents-push gateways [] [] line e are is = (is, tt)
 AreEvents-push gateways [] (d ∷ ds) line e are is = absurd are
 AreEvents-push gateways (l ∷ ls) [] line e are is = absurd are
@@ -48,7 +47,7 @@ text_of-append xs ys = flat_map-append line_of xs ys
 pub takes-event : (w w' : World) (e : Event) (acts : List Act) (line text : List ℕ) →
     ((gateways : List Peer) (h : List Act) (events : List Event) (e : Event) → history gateways h (events ++ e ∷ []) ≡ history gateways h events ++ block gateways (after h (history gateways h events)) e) →
     ((h xs ys : List Act) → after h (xs ++ ys) ≡ after (after h xs) ys) →
-    event_of w.header.gateways line ≡ Ok e → w'.header ≡ w.header →
+    line_event w.header.gateways line ≡ Ok e → w'.header ≡ w.header →
     ((h : List Act) → StandsFor w h → (acts ≡ block w.header.gateways h e) × StandsFor w' (after h (block w.header.gateways h e))) →
     text ≡ text_of acts → TakesLine (Some w) (Some w') line text
 takes-event w w' e acts line text goes past says header step written = record {

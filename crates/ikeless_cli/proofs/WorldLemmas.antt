@@ -22,6 +22,7 @@ pub acts_at-block : (w : World) (h : List Act) (e : Event) → StandsFor w h →
 unfolding block
 acts_at-block w h (events.Policy g list) s = λ i. acts.Took (s.taken i + 1) ∷ (if is_named w.header.gateways g then acts.Policy g list ∷ [] else [])
 acts_at-block w h (events.Let g o) s = λ i. acts.Took (s.taken i + 1) ∷ acts.Let g o ∷ answer g (s.lists g i) o ∷ []
+acts_at-block w h e s = λ i. acts.Took (s.taken i + 1) ∷ []
 
 -- a packet's answer is Clear or Drop
 abbrev pub IsAnswer : Act → List ℕ → List ℕ → Type 0
@@ -47,6 +48,7 @@ lists_after-force : (w : World) (h : List Act) (e : Event) → ((g : List ℕ) (
 unfolding block
 lists_after-force w h (events.Policy name list) answers s g = lists-policy w h name list g (is_named w.header.gateways name) s
 lists_after-force w h (events.Let name o) answers s g = s.lists g ∙ sym (force-answer g name o (answer name (force name h) o) (acts.Let name o ∷ acts.Took (events_taken h + 1) ∷ h) (answers name (force name h) o))
+lists_after-force w h e answers s g = s.lists g
 
 events_taken-policy : (h : List Act) (name : List ℕ) (list : List SpdEntry) (is_here : Bool) →
     events_taken h + 1 ≡ events_taken (after (acts.Took (events_taken h + 1) ∷ h) (if is_here then acts.Policy name list ∷ [] else []))
@@ -59,6 +61,7 @@ unfolding block
 events_taken-block gateways h (events.Policy name list) answers = events_taken-policy h name list (is_named gateways name)
 events_taken-block gateways h (events.Let name o) answers =
     sym (events_taken-answer name o (answer name (force name h) o) (acts.Let name o ∷ acts.Took (events_taken h + 1) ∷ h) (answers name (force name h) o))
+events_taken-block gateways h e answers = refl
 
 -- what is kept after an event stands for the past after its block
 pub stands-after : (w w' : World) (h : List Act) (e : Event) → ((g : List ℕ) (list : List SpdEntry) (o : List ℕ) → IsAnswer (answer g list o) g o) → StandsFor w h →

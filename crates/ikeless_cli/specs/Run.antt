@@ -11,9 +11,8 @@ use Rattle.hist_acts.specs.declared.event.Header.{Header}
 use Rattle.hist_acts.specs.Past.{after}
 use Rattle.hist_gateway.specs.Safe.{Safe}
 use Rattle.script_lines.specs.Header.{header_of}
-use Rattle.script_lines.specs.Event.{event_of}
 use Rattle.script_lines.specs.Text.{text_of}
-use Rattle.ikeless_cli.specs.Script.{HasNoLf, IsLine, AreLines, joined, IsScript, acts_of}
+use Rattle.ikeless_cli.specs.Script.{HasNoLf, IsLine, AreLines, joined, line_event, IsScript, acts_of}
 
 -- The octets read are the lines taken and a rest, and the octets to be written are the text of what happened at them.
 pub record Taken (input text : List ℕ) (header : Option Header) (lines : List (List ℕ)) (events : List Event) (rest : List ℕ) : Type 0 where
@@ -26,7 +25,7 @@ pub record Taken (input text : List ℕ) (header : Option Header) (lines : List 
 -- the next line can't be taken, for this reason
 abbrev pub Refuses : Option Header → List ℕ → LineFault → Type 0
 Refuses None line reason = header_of line ≡ Err reason
-Refuses (Some h) line reason = event_of h.gateways line ≡ Err reason
+Refuses (Some h) line reason = line_event h.gateways line ≡ Err reason
 
 -- a whole line is the first of the rest, and can't be taken
 pub record IsBadLine (header : Option Header) (rest : List ℕ) (reason : LineFault) : Type 0 where

@@ -21,8 +21,9 @@ pub record StandsFor (w : World) (h : List Act) : Type 0 where
 abbrev pub acts_at : World → Event → List Act
 acts_at w (events.Policy g list) = acts.Took (w.taken + 1) ∷ (if is_named w.header.gateways g then acts.Policy g list ∷ [] else [])
 acts_at w (events.Let g o) = acts.Took (w.taken + 1) ∷ acts.Let g o ∷ answer g (kept_for w.lists.items g) o ∷ []
+acts_at w _ = acts.Took (w.taken + 1) ∷ []
 
 -- what is kept after an event
 abbrev pub lists_after : World → Event → List Forced
 lists_after w (events.Policy g list) = if is_named w.header.gateways g then with_list g list w.lists.items else w.lists.items
-lists_after w (events.Let g o) = w.lists.items
+lists_after w _ = w.lists.items

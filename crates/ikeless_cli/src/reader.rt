@@ -2,12 +2,14 @@
 ghost use Rattle.std.specs.Prelude.{◌≡◌, ◌≢◌, ◌+◌, ◌<◌, ◌^◌, ◌≤◌, List, ℕ, length, OnOk, OnErr, IfOk, IfErr, Some, [], ◌∷◌, ◌++◌, vec_len, false};
 ghost use Rattle.ikl_base.specs.Outside.{Gains, HasCause, IsCalm, HasFailed};
 ghost use Rattle.ikl_base.specs.declared.status.Status.TheVariants as statuses;
+ghost use Rattle.ikl_base.specs.Answers.{Gives};
 ghost use Rattle.ikeless_cli.specs.Run.{is_read_fault};
+ghost use Rattle.ikeless_cli.specs.Script.{begins_with, is_taken, line_event};
 ghost use Rattle.ikeless_cli.specs.Reader.{taken_of, lines_of, TakesLine, RefusesLine, Reads, Goes, EndsWith, IsCounted, SinkTells, broke_of};
 
 use crate::world::World;
 use ikl_base::{Failed, LineFault, OrMemory, Sink, Status};
-use script_lines::{put_acts, read_event, read_header};
+use script_lines::{Event, Header, are_text, put_acts, read_event, read_header};
 use std::alloc::Global;
 
 const LINE_LIMIT: usize = 1_048_576;
@@ -55,6 +57,40 @@ fn write_all<K: Sink>(output: &mut K, piece: &[u8]) -> Result<(), Failed>
     Ok(())
 }
 
+// Whether the first word of a line is this one.
+fn begins(word: &[u8], line: &[u8]) -> bool
+    ensures { result ≡ begins_with word.now line.now }
+{
+    match word {
+        [] => match line {
+            [] => true,
+            [next, ..] => *next == b' ',
+        },
+        [letter, letters @ ..] => match line {
+            [] => false,
+            [octet, octets @ ..] => octet == letter && begins(letters, octets),
+        },
+    }
+}
+
+fn takes(line: &[u8]) -> bool
+    ensures { result ≡ is_taken line.now }
+{
+    begins(b"policy", line) || begins(b"let", line)
+}
+
+// The event that a line says in a run, which takes lists and packets from inside alone.
+#[tactic(auto, unfolding(crate::specs::Script::line_event))]
+fn read_line(alloc: Global, header: &Header, line: &[u8]) -> Result<Event, OrMemory<LineFault>>
+    ensures { Gives result (line_event header.now.gateways line.now) }
+{
+    if are_text(line) && !takes(line) {
+        return Err(OrMemory::Refused(LineFault::Word));
+    }
+    let event = read_event(alloc, header, line)?;
+    Ok(event)
+}
+
 // The text of the block of a line after the header.
 fn take_event(alloc: Global, world: &mut World, line: &[u8]) -> Result<Vec<u8>, OrMemory<LineFault>>
     requires { world.old.taken < 2 ^ 63 }
@@ -62,7 +98,7 @@ fn take_event(alloc: Global, world: &mut World, line: &[u8]) -> Result<Vec<u8>, 
     ensures refused { IfErr result (RefusesLine (Some world.old) line.now) }
     ensures count { world.new.taken ≤ world.old.taken + 1 }
 {
-    let event = read_event(alloc, &world.header, line)?;
+    let event = read_line(alloc, &world.header, line)?;
     let acts = world.step(event)?;
     let mut text = Vec::new(alloc);
     put_acts(&mut text, &acts)?;

@@ -99,6 +99,7 @@ impl World {
         match e {
             Event::Policy(g, list) => self.on_policy(g, list),
             Event::Let(g, o) => self.on_let(g, o),
+            _ => self.took(),
         }
     }
 

@@ -1,133 +1,39 @@
 -- The line of an act is read as that act.
-use Rattle.std.proofs.Common.{◌≡◌, ℕ, ◌+◌, ◌-◌, ◌^◌, ◌<◌, ◌≤◌, ◌==◌, ◌&&◌, not, nat_lt, nat_le, Bool, true, false, List, [], ◌∷◌, ◌++◌, length, map, Option, Some, None, Result, Ok, Err, cond, inl, inr, refl, sym, ap, ◌∙◌, arith, append-nil}
+use Rattle.std.proofs.Common.{◌≡◌, ℕ, ◌-◌, ◌^◌, ◌<◌, ◌≤◌, ◌&&◌, ◌||◌, nat_le, Bool, true, false, List, [], ◌∷◌, ◌++◌, length, take, drop, map, Result, Ok, inl, inr, ◌⊎◌, refl, sym, ap, ◌∙◌, arith}
 use Rattle.std.specs.Prelude.{codes}
-use Rattle.std.specs.List.{All, AllByRecursion, list_all, list_any, slice_split, flat_map}
+use Rattle.std.specs.List.{All, list_all, flat_map}
 use Rattle.std.specs.Str.{bytes_eq}
-use Rattle.std.specs.Char.{is_ascii_hexdigit}
 use Rattle.std.specs.Fmt.{decimal}
-use Rattle.std.proofs.lemmas.Bool.{and_parts, and_from, or_cases, ltb-false, le-leb}
-use Rattle.std.proofs.lemmas.List.{length-map}
-use Rattle.std.proofs.lemmas.List.Elements.{recursion_from_All}
+use Rattle.std.proofs.lemmas.Bool.{and_parts, and_from, or_cases}
 use Rattle.std.proofs.lemmas.List.Folds.{list_all-append}
 use Rattle.std.proofs.lemmas.Slice.Eq.{bytes_eq-Decides}
-use Rattle.ikl_base.specs.declared.status.LineFault.{LineFault}
 use Rattle.ikl_base.specs.declared.status.LineFault.TheVariants as faults
-use Rattle.ikeless_tree.specs.Check.{is_named, is_spd_name, is_window, has_empty_range, has_many_ranges, entry_fault, first_of, entries_fault, spd_fault}
+use Rattle.ikeless_tree.specs.Check.{is_gateway, is_sad_name, has_front, is_serial, is_word_octet}
+use Rattle.ikeless_tree.specs.Words.{refusal_text}
 use Rattle.ikeless_tree.specs.declared.command.Peer.{Peer}
+use Rattle.ikeless_tree.specs.declared.command.Refusal.{Refusal}
+use Rattle.ikeless_tree.specs.declared.command.Refusal.TheVariants as refusals
 use Rattle.ikeless_tree.specs.declared.entry.SpdEntry.{SpdEntry}
+use Rattle.ikeless_tree.specs.declared.order.Lane.{Lane}
 use Rattle.ikeless_tree.specs.declared.reply.DropWhy.{DropWhy}
 use Rattle.ikeless_tree.specs.declared.reply.DropWhy.TheVariants as why
-use Rattle.ikeless_tree.specs.declared.reply.TreeFault.{TreeFault}
-use Rattle.ikeless_tree.specs.declared.reply.TreeFault.TheVariants as tree_faults
-use Rattle.ikeless_tree.specs.declared.reply.Feature.TheVariants as features
+use Rattle.ikeless_tree.specs.declared.reply.GoneWhy.{GoneWhy}
+use Rattle.ikeless_tree.specs.declared.reply.GoneWhy.TheVariants as ends
 use Rattle.hist_acts.specs.declared.act.Act.{Act}
 use Rattle.hist_acts.specs.declared.act.Act.TheVariants as acts
-use Rattle.hist_acts.specs.declared.event.Event.{Event}
-use Rattle.hist_acts.specs.declared.event.Event.TheVariants as events
 use Rattle.hist_acts.specs.Gateways.{is_named as is_gateway_of}
-use Rattle.hex.specs.Hex.{encode_with, lower_digits}
-use Rattle.yang_values.specs.HexText.{digits_of, digits_text, pair_text}
-use Rattle.yang_values.specs.Prefixes.{is_value_octet}
-use Rattle.yang_values.proofs.JoinedText.{lacks_mark}
-use Rattle.yang_values.proofs.ValueText.{apart, number_of-decimal, pair_digits}
-use Rattle.yang_values.proofs.PrefixText.{decimal_octets}
 use Rattle.script_lines.specs.declared.act.Packet.{Packet}
-use Rattle.script_lines.specs.Words.{◌>>=◌, or_fault, each, is_space, words, is_printable, gateway_of, octets_of}
-use Rattle.ikeless_tree.specs.Check.{is_gateway_octet, is_gateway}
-use Rattle.script_lines.specs.Entry.{entry_of, entries_of}
-use Rattle.script_lines.specs.Event.{known_of, unless_fault, policy_in, let_in, event_in, event_of}
-use Rattle.script_lines.specs.Text.{hex_text, why_text, entry_text, entries_text, act_text}
-use Rattle.script_lines.specs.Act.{why_of, took_in, force_in, packet_in, drop_in, act_in, as_spelled, act_of}
-use Rattle.script_lines.specs.Spelling.{are_spelled, HasWindow, IsListed, IsActUnder, IsEventUnder, AreOctets, IsEntry, IsAct, told_as}
-use Rattle.script_lines.proofs.PartText.{is_graph, graph_printable, also, value_graph, hexdigits_graph, name_graph, all_behind, not_word, each_holds, each_mapped, behind_mapped, split_behind}
-use Rattle.script_lines.proofs.EntryText.{each_of, entry_read, entry_graph}
-
--- ---- a line and its words
-
-AreWords : List (List ℕ) → Type 0
-AreWords ws = AllByRecursion (λ w. list_all is_graph w ≡ true) ws
-
-no_space : (w : List ℕ) → list_all is_graph w ≡ true → All (λ c. is_space c ≡ false) w
-no_space w all = lacks_mark is_graph is_space (λ c. apart is_graph c 32 refl) w all
-
-line_words : (w : List ℕ) (ws : List (List ℕ)) → AreWords (w ∷ ws) → words (w ++ flat_map (λ u. 32 ∷ u) ws) ≡ w ∷ ws
-unfolding AreWords
-line_words w ws are =
-    split_behind is_space 32 refl w ws
-    (each_holds (λ t. list_all is_graph t ≡ true) (λ t. All (λ c. is_space c ≡ false) t) no_space (w ∷ ws) are)
-
-printable : (w : List ℕ) → list_all is_graph w ≡ true → list_all is_printable w ≡ true
-printable w all = also is_graph is_printable graph_printable w all
-
-line_printable : (w : List ℕ) (ws : List (List ℕ)) → AreWords (w ∷ ws) → list_all is_printable (w ++ flat_map (λ u. 32 ∷ u) ws) ≡ true
-unfolding AreWords
-line_printable w ws are =
-    list_all-append is_printable w (flat_map (λ u. 32 ∷ u) ws)
-    ∙ and_from _ _ (printable w are.0)
-    (all_behind is_printable 32 refl ws
-    (each_holds (λ t. list_all is_graph t ≡ true) (λ t. list_all is_printable t ≡ true) printable ws are.1))
-
-act_line : (gateways : List Peer) (a : Act) (w : List ℕ) (ws : List (List ℕ)) → act_text a ≡ w ++ flat_map (λ u. 32 ∷ u) ws → AreWords (w ∷ ws)
-    → act_in gateways (w ∷ ws) ≡ Ok a → act_of gateways (act_text a) ≡ Ok a
-unfolding act_of as_spelled
-act_line gateways a w ws e are read =
-    let p : list_all is_printable (act_text a) ≡ true = ap (list_all is_printable) e ∙ line_printable w ws are in
-    let s : words (act_text a) ≡ w ∷ ws = ap words e ∙ line_words w ws are in
-    let same : bytes_eq (act_text a) (act_text a) ≡ true = (bytes_eq-Decides (act_text a) (act_text a)).1 refl in
-    rw (p, s, read, same) refl
-
-event_line : (gateways : List Peer) (e : Event) (line w : List ℕ) (ws : List (List ℕ)) → line ≡ w ++ flat_map (λ u. 32 ∷ u) ws → AreWords (w ∷ ws)
-    → event_in gateways (w ∷ ws) ≡ Ok e → event_of gateways line ≡ Ok e
-unfolding event_of
-event_line gateways e line w ws is are read =
-    let p : list_all is_printable line ≡ true = ap (list_all is_printable) is ∙ line_printable w ws are in
-    let s : words line ≡ w ∷ ws = ap words is ∙ line_words w ws are in
-    rw (p, s, read) refl
-
--- ---- gateways and octets
-
--- the name of a gateway can be spelled
-pub named_spelled : (gateways : List Peer) (g : List ℕ) → are_spelled gateways ≡ true → is_gateway_of gateways g ≡ true → is_gateway g ≡ true
-named_spelled [] g all named = cc
-named_spelled (p ∷ ps) g all named =
-    let both = and_parts (is_gateway p.name) (are_spelled ps) all in
-    elim (or_cases (bytes_eq p.name g) (is_gateway_of ps g) named) [
-      | inl same ↦ ap is_gateway (sym ((bytes_eq-Decides p.name g).0 same)) ∙ both.0
-      | inr rest ↦ named_spelled ps g both.1 rest
-    ]
-
-name_word : (g : List ℕ) → is_gateway g ≡ true → list_all is_graph g ≡ true
-name_word g is = name_graph g (and_parts _ _ is).1
-
-digit_pairs : (octets : List ℕ) → AllByRecursion (λ o. o < 256) octets → list_all is_ascii_hexdigit (digits_text octets) ≡ true
-unfolding encode_with
-digit_pairs [] all = refl
-digit_pairs (o ∷ os) all =
-    let one = pair_digits o all.0 in
-    let rest = digit_pairs os all.1 in
-    list_all-append is_ascii_hexdigit (pair_text o) (digits_text os) ∙ and_from _ _ one rest
-
-abbrev pub ReadsDigits : Type 0
-ReadsDigits = (first : ℕ) (rest : List ℕ) → All (λ o. o < 256) (first ∷ rest) → digits_of (digits_text (first ∷ rest)) ≡ Ok (first ∷ rest)
-
-hex_word : (octets : List ℕ) → AreOctets octets → list_all is_graph (hex_text octets) ≡ true
-hex_word [] are = refl
-hex_word (o ∷ os) are = hexdigits_graph (digits_text (o ∷ os)) (digit_pairs (o ∷ os) (recursion_from_All (λ x. x < 256) (o ∷ os) are))
-
-hex_read : ReadsDigits → (octets : List ℕ) → AreOctets octets → octets_of (hex_text octets) ≡ Ok octets
-hex_read digits [] are = refl
-hex_read digits (o ∷ os) are =
-    let dash = not_word is_ascii_hexdigit (digits_text (o ∷ os)) (codes "-") (digit_pairs (o ∷ os) (recursion_from_All (λ x. x < 256) (o ∷ os) are)) refl in
-    let read = digits o os are in
-    rw (dash, read) refl
-
-packet_read : ReadsDigits → (gateways : List Peer) (g octets : List ℕ) → is_gateway_of gateways g ≡ true → AreOctets octets
-    → packet_in gateways (g ∷ hex_text octets ∷ []) ≡ Ok (record { gateway = g; octets = octets })
-unfolding packet_in
-packet_read digits gateways g octets named are = rw (named, hex_read digits octets are) refl
-
-two_words : (front g w : List ℕ) → front ++ (g ++ 32 ∷ w) ≡ front ++ (g ++ flat_map (λ u. 32 ∷ u) (w ∷ []))
-two_words front g w = ap (λ t. front ++ (g ++ 32 ∷ t)) (sym (append-nil w))
+use Rattle.script_lines.specs.declared.act.Sealed.{Sealed}
+use Rattle.script_lines.specs.declared.act.Opening.{Opening}
+use Rattle.script_lines.specs.Words.{◌>>=◌, words, is_printable, known_of, octets_of, number_in}
+use Rattle.script_lines.specs.Event.{unless_fault, time_in, reqid_in, gateway_in}
+use Rattle.script_lines.specs.Text.{hex_text, why_text, lane_text, gone_text, entry_text, line_text, act_words, act_text}
+use Rattle.script_lines.specs.Act.{why_of, gone_of, refusal_of, force_in, packet_in, sealed_of, sealed_in, drop_in, gone_at, gone_in, opening_in, shown_of, under_way_at, under_way_in, refused_in, base_act_in, packet_act_in, act_in, as_spelled, act_of}
+use Rattle.script_lines.specs.Spelling.{are_spelled, IsListed, IsActUnder, AreOctets, IsEntry, IsAct}
+use Rattle.script_lines.proofs.PartText.{is_graph}
+use Rattle.script_lines.proofs.ActLine.{act_line, half_name_word}
+use Rattle.script_lines.proofs.SessionActs.{put_line, order_line, handled_line, answered_line, notice_line, heard_line}
+use Rattle.script_lines.proofs.LineText.{AreWords, ReadsDigits, line_words, line_printable, number_word, number_again, lane_read, lane_word, named_spelled, name_word, hex_word, hex_read, list_read, list_words, few_words}
 
 -- ---- why a packet is dropped
 
@@ -172,72 +78,125 @@ why_word why.Dummy = refl
 why_word why.Inner = refl
 why_word why.Selector = refl
 
--- ---- lists that can be in force
+end_read : (w : GoneWhy) → gone_of (gone_text w) ≡ Ok w
+end_read ends.Removed = refl
+end_read ends.Hard = refl
 
--- what a good entry's name and ranges are
-GoodEntry : SpdEntry → Type 0
-GoodEntry e = (is_spd_name e.name ≡ true) × (has_many_ranges e.selector ≡ false)
+end_word : (w : GoneWhy) → list_all is_graph (gone_text w) ≡ true
+end_word ends.Removed = refl
+end_word ends.Hard = refl
 
-good_entry : (before : List SpdEntry) (e : SpdEntry) → entry_fault before e ≡ None → GoodEntry e
-unfolding entry_fault GoodEntry
-good_entry before e none =
-    by_tests (list_any (is_named e.name) before) (is_spd_name e.name) (is_window e.window) (has_empty_range e.selector) (has_many_ranges e.selector) none
-  where
-    by_tests : (twice named window empty many : Bool)
-        → cond twice (Some tree_faults.DuplicateName) (cond (not named) (Some tree_faults.BadName) (cond (not window) (Some tree_faults.BadWindow)
-        (cond empty (Some tree_faults.EmptyRange) (cond many (Some (tree_faults.Unsupported features.Ports)) None)))) ≡ None
-        → (named ≡ true) × (many ≡ false)
-    by_tests false true true false false h = (refl, refl)
-    by_tests false true true false true h = cc
-    by_tests false true true true many h = cc
-    by_tests false true false empty many h = cc
-    by_tests false false window empty many h = cc
-    by_tests true named window empty many h = cc
+refusal_read : (w : Refusal) → refusal_of (refusal_text w) ≡ Ok w
+unfolding refusal_of
+refusal_read refusals.UnknownGateway = refl
+refusal_read refusals.SameGateway = refl
+refusal_read refusals.TunnelExists = refl
+refusal_read refusals.NoTunnel = refl
+refusal_read refusals.TunnelLimit = refl
+refusal_read refusals.KeySeen = refl
+refusal_read refusals.KeyLength = refl
+refusal_read refusals.KeyLimit = refl
 
-first_none : (o rest : Option TreeFault) → first_of o rest ≡ None → (o ≡ None) × (rest ≡ None)
-first_none None rest h = (refl, h)
-first_none (Some fault) rest h = cc
+refusal_word : (w : Refusal) → list_all is_graph (refusal_text w) ≡ true
+refusal_word refusals.UnknownGateway = refl
+refusal_word refusals.SameGateway = refl
+refusal_word refusals.TunnelExists = refl
+refusal_word refusals.NoTunnel = refl
+refusal_word refusals.TunnelLimit = refl
+refusal_word refusals.KeySeen = refl
+refusal_word refusals.KeyLength = refl
+refusal_word refusals.KeyLimit = refl
 
-good_entries : (before list : List SpdEntry) → entries_fault before list ≡ None → AllByRecursion GoodEntry list
-good_entries before [] none = tt
-good_entries before (e ∷ es) none =
-    let both = first_none (entry_fault before e) (entries_fault (before ++ e ∷ []) es) none in
-    (good_entry before e both.0, good_entries (before ++ e ∷ []) es both.1)
+-- ---- acts of packets
 
-spd_parts : (list : List SpdEntry) → spd_fault list ≡ None → (length list ≤ 256) × AllByRecursion GoodEntry list
-unfolding spd_fault
-spd_parts list none = by_length (nat_lt 256 (length list)) refl none
-  where
-    by_length : (b : Bool) → nat_lt 256 (length list) ≡ b → cond b (Some tree_faults.TooMany) (entries_fault [] list) ≡ None
-        → (length list ≤ 256) × AllByRecursion GoodEntry list
-    by_length false few h = (ltb-false 256 (length list) few, good_entries [] list h)
-    by_length true many h = cc
+packet_read : ReadsDigits → (gateways : List Peer) (g octets : List ℕ) → is_gateway_of gateways g ≡ true → AreOctets octets
+    → packet_in gateways (g ∷ hex_text octets ∷ []) ≡ Ok (record { gateway = g; octets = octets })
+unfolding packet_in
+packet_read digits gateways g octets named are = rw (named, hex_read digits octets are) refl
 
-all_read : (list : List SpdEntry) → AllByRecursion IsEntry list → AllByRecursion HasWindow list → AllByRecursion GoodEntry list
-    → AllByRecursion (λ e. entry_of (entry_text e) ≡ Ok e) list
-unfolding GoodEntry
-all_read [] are windows good = tt
-all_read (e ∷ es) are windows good = (entry_read e are.0 windows.0 good.0.0 good.0.1, all_read es are.1 windows.1 good.1)
-
-all_words : (list : List SpdEntry) → AllByRecursion IsEntry list → AllByRecursion GoodEntry list → AllByRecursion (λ e. list_all is_graph (entry_text e) ≡ true) list
-unfolding GoodEntry
-all_words [] are good = tt
-all_words (e ∷ es) are good = (entry_graph e are.0 good.0.0, all_words es are.1 good.1)
-
-list_read : (list : List SpdEntry) → IsListed list → All IsEntry list → entries_of (map entry_text list) ≡ Ok list
-list_read list is are =
-    each_of entry_of entry_text list
-    (all_read list (recursion_from_All IsEntry list are) (recursion_from_All HasWindow list is.windows) (spd_parts list is.fits).1)
-
-list_words : (list : List SpdEntry) → IsListed list → All IsEntry list → AreWords (map entry_text list)
+packet_words : (what g octets : List ℕ) → list_all is_graph what ≡ true → is_gateway g ≡ true → AreOctets octets → AreWords (what ∷ g ∷ hex_text octets ∷ [])
 unfolding AreWords
-list_words list is are =
-    each_mapped (λ t. list_all is_graph t ≡ true) entry_text list (all_words list (recursion_from_All IsEntry list are) (spd_parts list is.fits).1)
+packet_words what g octets word spelled are = (word, (name_word g spelled, (hex_word octets are, tt)))
 
-few_words : (list : List SpdEntry) → IsListed list → nat_le (length (map entry_text list)) 256 ≡ true
-few_words list is =
-    let few = (spd_parts list is.fits).0 in
-    le-leb _ 256 (let e = length-map list entry_text in omega (arith, e, few))
+let_line : ReadsDigits → (gateways : List Peer) (g octets : List ℕ) → is_gateway g ≡ true → is_gateway_of gateways g ≡ true → AreOctets octets
+    → act_of gateways (act_text (acts.Let g octets)) ≡ Ok (acts.Let g octets)
+unfolding act_in packet_act_in
+let_line digits gateways g octets spelled named are =
+    act_line gateways (acts.Let g octets) (codes "let") (g ∷ hex_text octets ∷ []) refl (packet_words (codes "let") g octets refl spelled are)
+    (rw (packet_read digits gateways g octets named are) refl)
+
+clear_line : ReadsDigits → (gateways : List Peer) (g octets : List ℕ) → is_gateway g ≡ true → is_gateway_of gateways g ≡ true → AreOctets octets
+    → act_of gateways (act_text (acts.Clear g octets)) ≡ Ok (acts.Clear g octets)
+unfolding act_in packet_act_in
+clear_line digits gateways g octets spelled named are =
+    act_line gateways (acts.Clear g octets) (codes "clear") (g ∷ hex_text octets ∷ []) refl (packet_words (codes "clear") g octets refl spelled are)
+    (rw (packet_read digits gateways g octets named are) refl)
+
+arrived_line : ReadsDigits → (gateways : List Peer) (g octets : List ℕ) → is_gateway g ≡ true → is_gateway_of gateways g ≡ true → AreOctets octets
+    → act_of gateways (act_text (acts.Arrived g octets)) ≡ Ok (acts.Arrived g octets)
+unfolding act_in packet_act_in
+arrived_line digits gateways g octets spelled named are =
+    act_line gateways (acts.Arrived g octets) (codes "arrived") (g ∷ hex_text octets ∷ []) refl (packet_words (codes "arrived") g octets refl spelled are)
+    (rw (packet_read digits gateways g octets named are) refl)
+
+pass_line : ReadsDigits → (gateways : List Peer) (g octets : List ℕ) → is_gateway g ≡ true → is_gateway_of gateways g ≡ true → AreOctets octets
+    → act_of gateways (act_text (acts.Pass g octets)) ≡ Ok (acts.Pass g octets)
+unfolding act_in packet_act_in
+pass_line digits gateways g octets spelled named are =
+    act_line gateways (acts.Pass g octets) (codes "pass") (g ∷ hex_text octets ∷ []) refl (packet_words (codes "pass") g octets refl spelled are)
+    (rw (packet_read digits gateways g octets named are) refl)
+
+sealed_read : ReadsDigits → (gateways : List Peer) (g name : List ℕ) (k : ℕ) (octets : List ℕ) → is_gateway_of gateways g ≡ true → is_sad_name name ≡ true → k < 2 ^ 64 → AreOctets octets
+    → sealed_in gateways (g ∷ name ∷ decimal k ∷ hex_text octets ∷ []) ≡ Ok (record { gateway = g; half = name; number = k; octets = octets })
+unfolding sealed_in sealed_of
+sealed_read digits gateways g name k octets named half small are =
+    rw (named, half, number_again faults.Number k (2 ^ 64 - 1) small (omega arith), hex_read digits octets are) refl
+
+sealed_words : (what g name : List ℕ) (k : ℕ) (octets : List ℕ) → list_all is_graph what ≡ true → is_gateway g ≡ true → is_sad_name name ≡ true → k < 2 ^ 64 → AreOctets octets
+    → AreWords (what ∷ g ∷ name ∷ decimal k ∷ hex_text octets ∷ [])
+unfolding AreWords
+sealed_words what g name k octets word spelled half small are =
+    (word, (name_word g spelled, (half_name_word name half, (number_word k small, (hex_word octets are, tt)))))
+
+sent_line : ReadsDigits → (gateways : List Peer) (g name : List ℕ) (k : ℕ) (octets : List ℕ) → is_gateway g ≡ true → is_gateway_of gateways g ≡ true → is_sad_name name ≡ true
+    → k < 2 ^ 64 → AreOctets octets → act_of gateways (act_text (acts.Sent g name k octets)) ≡ Ok (acts.Sent g name k octets)
+unfolding act_in
+sent_line digits gateways g name k octets spelled named half small are =
+    act_line gateways (acts.Sent g name k octets) (codes "sent") (g ∷ name ∷ decimal k ∷ hex_text octets ∷ []) refl
+    (sealed_words (codes "sent") g name k octets refl spelled half small are) (rw (sealed_read digits gateways g name k octets named half small are) refl)
+
+gave_line : ReadsDigits → (gateways : List Peer) (g name : List ℕ) (k : ℕ) (octets : List ℕ) → is_gateway g ≡ true → is_gateway_of gateways g ≡ true → is_sad_name name ≡ true
+    → k < 2 ^ 64 → AreOctets octets → act_of gateways (act_text (acts.Gave g name k octets)) ≡ Ok (acts.Gave g name k octets)
+unfolding act_in
+gave_line digits gateways g name k octets spelled named half small are =
+    act_line gateways (acts.Gave g name k octets) (codes "gave") (g ∷ name ∷ decimal k ∷ hex_text octets ∷ []) refl
+    (sealed_words (codes "gave") g name k octets refl spelled half small are) (rw (sealed_read digits gateways g name k octets named half small are) refl)
+
+drop_line : (gateways : List Peer) (g : List ℕ) (w : DropWhy) → is_gateway g ≡ true → is_gateway_of gateways g ≡ true
+    → act_of gateways (act_text (acts.Drop g w)) ≡ Ok (acts.Drop g w)
+unfolding act_in drop_in AreWords
+drop_line gateways g w spelled named =
+    act_line gateways (acts.Drop g w) (codes "drop") (g ∷ why_text w ∷ []) refl (refl, (name_word g spelled, (why_word w, tt)))
+    (rw (named, why_read w) refl)
+
+-- ---- the other acts
+
+took_line : (gateways : List Peer) (k : ℕ) → k < 2 ^ 64 → act_of gateways (act_text (acts.Took k)) ≡ Ok (acts.Took k)
+unfolding act_in reqid_in AreWords
+took_line gateways k small =
+    act_line gateways (acts.Took k) (codes "@") (decimal k ∷ []) refl (refl, (number_word k small, tt))
+    (rw (number_again faults.Number k (2 ^ 64 - 1) small (omega arith)) refl)
+
+now_line : (gateways : List Peer) (t : ℕ) → t < 2 ^ 32 → act_of gateways (act_text (acts.Now t)) ≡ Ok (acts.Now t)
+unfolding act_in time_in AreWords
+now_line gateways t small =
+    act_line gateways (acts.Now t) (codes "now") (decimal t ∷ []) refl (refl, (number_word t (omega arith), tt))
+    (rw (number_again faults.Number t (2 ^ 32 - 1) (omega arith) (omega arith)) refl)
+
+boot_line : (gateways : List Peer) (g : List ℕ) → is_gateway g ≡ true → is_gateway_of gateways g ≡ true → act_of gateways (act_text (acts.Boot g)) ≡ Ok (acts.Boot g)
+unfolding act_in gateway_in AreWords
+boot_line gateways g spelled named =
+    act_line gateways (acts.Boot g) (codes "boot") (g ∷ []) refl (refl, (name_word g spelled, tt)) (rw named refl)
 
 force_read : (gateways : List Peer) (g : List ℕ) (list : List SpdEntry) → is_gateway_of gateways g ≡ true → IsListed list → All IsEntry list
     → force_in gateways (g ∷ map entry_text list) ≡ Ok (acts.Policy g list)
@@ -248,77 +207,72 @@ force_read gateways g list named is are =
     let fits = is.fits in
     rw (few, named, read, fits) refl
 
-policy_words : (g : List ℕ) (list : List SpdEntry)
-    → codes "policy " ++ (g ++ entries_text list) ≡ codes "policy" ++ flat_map (λ u. 32 ∷ u) (g ∷ map entry_text list)
-policy_words g list = ap (λ t. codes "policy " ++ (g ++ t)) (behind_mapped 32 entry_text list)
-
--- ---- acts
-
-took_line : (gateways : List Peer) (k : ℕ) → k < 2 ^ 64 → act_of gateways (act_text (acts.Took k)) ≡ Ok (acts.Took k)
-unfolding act_text act_in took_in AreWords
-took_line gateways k small =
-    let e : act_text (acts.Took k) ≡ codes "@" ++ flat_map (λ u. 32 ∷ u) (decimal k ∷ []) = ap (λ t. codes "@ " ++ t) (sym (append-nil (decimal k))) in
-    let n = number_of-decimal k (2 ^ 64 - 1) small (omega arith) in
-    act_line gateways (acts.Took k) (codes "@") (decimal k ∷ []) e (refl, (value_graph (decimal k) (decimal_octets k small), tt)) (rw n refl)
-
 policy_line : (gateways : List Peer) (g : List ℕ) (list : List SpdEntry) → is_gateway g ≡ true → is_gateway_of gateways g ≡ true → IsListed list → All IsEntry list
     → act_of gateways (act_text (acts.Policy g list)) ≡ Ok (acts.Policy g list)
-unfolding act_text act_in AreWords
+unfolding act_in packet_act_in base_act_in AreWords
 policy_line gateways g list spelled named is are =
-    act_line gateways (acts.Policy g list) (codes "policy") (g ∷ map entry_text list) (policy_words g list)
+    act_line gateways (acts.Policy g list) (codes "policy") (g ∷ map entry_text list) refl
     (refl, (name_word g spelled, list_words list is are)) (force_read gateways g list named is are)
 
-let_line : ReadsDigits → (gateways : List Peer) (g octets : List ℕ) → is_gateway g ≡ true → is_gateway_of gateways g ≡ true → AreOctets octets
-    → act_of gateways (act_text (acts.Let g octets)) ≡ Ok (acts.Let g octets)
-unfolding act_text act_in AreWords
-let_line digits gateways g octets spelled named are =
-    act_line gateways (acts.Let g octets) (codes "let") (g ∷ hex_text octets ∷ []) (two_words (codes "let ") g (hex_text octets))
-    (refl, (name_word g spelled, (hex_word octets are, tt))) (rw (packet_read digits gateways g octets named are) refl)
+gone_line : (gateways : List Peer) (g name : List ℕ) (w : GoneWhy) → is_gateway g ≡ true → is_gateway_of gateways g ≡ true → is_sad_name name ≡ true
+    → act_of gateways (act_text (acts.Gone g name w)) ≡ Ok (acts.Gone g name w)
+unfolding act_in packet_act_in base_act_in gone_in gone_at AreWords
+gone_line gateways g name w spelled named half =
+    act_line gateways (acts.Gone g name w) (codes "gone") (g ∷ name ∷ gone_text w ∷ []) refl
+    (refl, (name_word g spelled, (half_name_word name half, (end_word w, tt)))) (rw (named, half, end_read w) refl)
 
-clear_line : ReadsDigits → (gateways : List Peer) (g octets : List ℕ) → is_gateway g ≡ true → is_gateway_of gateways g ≡ true → AreOctets octets
-    → act_of gateways (act_text (acts.Clear g octets)) ≡ Ok (acts.Clear g octets)
-unfolding act_text act_in AreWords
-clear_line digits gateways g octets spelled named are =
-    act_line gateways (acts.Clear g octets) (codes "clear") (g ∷ hex_text octets ∷ []) (two_words (codes "clear ") g (hex_text octets))
-    (refl, (name_word g spelled, (hex_word octets are, tt))) (rw (packet_read digits gateways g octets named are) refl)
+opening_read : (gateways : List Peer) (g : List ℕ) (s : ℕ) → is_gateway_of gateways g ≡ true → s < 2 ^ 32
+    → opening_in gateways (g ∷ decimal s ∷ []) ≡ Ok (record { gateway = g; session = s })
+unfolding opening_in
+opening_read gateways g s named small = rw (named, number_again faults.Number s (2 ^ 32 - 1) (omega arith) (omega arith)) refl
 
-drop_line : (gateways : List Peer) (g : List ℕ) (w : DropWhy) → is_gateway g ≡ true → is_gateway_of gateways g ≡ true
-    → act_of gateways (act_text (acts.Drop g w)) ≡ Ok (acts.Drop g w)
-unfolding act_text act_in drop_in AreWords
-drop_line gateways g w spelled named =
-    let read = why_read w in
-    act_line gateways (acts.Drop g w) (codes "drop") (g ∷ why_text w ∷ []) (two_words (codes "drop ") g (why_text w))
-    (refl, (name_word g spelled, (why_word w, tt))) (rw (named, read) refl)
+opened_line : (gateways : List Peer) (g : List ℕ) (s : ℕ) → is_gateway g ≡ true → is_gateway_of gateways g ≡ true → s < 2 ^ 32
+    → act_of gateways (act_text (acts.Opened g s)) ≡ Ok (acts.Opened g s)
+unfolding act_in packet_act_in base_act_in AreWords
+opened_line gateways g s spelled named small =
+    act_line gateways (acts.Opened g s) (codes "opened") (g ∷ decimal s ∷ []) refl (refl, (name_word g spelled, (number_word s (omega arith), tt)))
+    (rw (opening_read gateways g s named small) refl)
+
+cut_line : (gateways : List Peer) (g : List ℕ) (s : ℕ) → is_gateway g ≡ true → is_gateway_of gateways g ≡ true → s < 2 ^ 32
+    → act_of gateways (act_text (acts.Cut g s)) ≡ Ok (acts.Cut g s)
+unfolding act_in packet_act_in base_act_in AreWords
+cut_line gateways g s spelled named small =
+    act_line gateways (acts.Cut g s) (codes "cut") (g ∷ decimal s ∷ []) refl (refl, (name_word g spelled, (number_word s (omega arith), tt)))
+    (rw (opening_read gateways g s named small) refl)
+
+wire_line : ReadsDigits → (gateways : List Peer) (g : List ℕ) (l : Lane) (octets : List ℕ) → is_gateway g ≡ true → is_gateway_of gateways g ≡ true
+    → nat_le (length octets) 4096 ≡ true → AreOctets octets → act_of gateways (act_text (acts.Wire g l octets)) ≡ Ok (acts.Wire g l octets)
+unfolding act_in packet_act_in base_act_in under_way_in under_way_at AreWords
+wire_line digits gateways g l octets spelled named few are =
+    act_line gateways (acts.Wire g l octets) (codes "wire") (g ∷ lane_text l ∷ hex_text octets ∷ []) refl
+    (refl, (name_word g spelled, (lane_word l, (hex_word octets are, tt)))) (rw (named, lane_read l, hex_read digits octets are, few) refl)
+
+refused_line : (gateways : List Peer) (w : Refusal) → act_of gateways (act_text (acts.Refused w)) ≡ Ok (acts.Refused w)
+unfolding act_in packet_act_in base_act_in refused_in AreWords
+refused_line gateways w =
+    act_line gateways (acts.Refused w) (codes "refused") (refusal_text w ∷ []) refl (refl, (refusal_word w, tt)) (rw (refusal_read w) refl)
 
 pub act_again : ReadsDigits → (gateways : List Peer) (a : Act) → are_spelled gateways ≡ true → IsActUnder gateways a → IsAct a
     → act_of gateways (act_text a) ≡ Ok a
 act_again digits gateways (acts.Took k) all under is = took_line gateways k is
+act_again digits gateways (acts.Now t) all under is = now_line gateways t is
+act_again digits gateways (acts.Boot g) all under is = boot_line gateways g (named_spelled gateways g all under) under
 act_again digits gateways (acts.Policy g list) all under is = policy_line gateways g list (named_spelled gateways g all under.0) under.0 under.1 is
+act_again digits gateways (acts.Put g e) all under is = put_line digits gateways g e (named_spelled gateways g all under.0) under.0 under.1 is
+act_again digits gateways (acts.Gone g name w) all under is = gone_line gateways g name w (named_spelled gateways g all under.0) under.0 under.1
 act_again digits gateways (acts.Let g o) all under is = let_line digits gateways g o (named_spelled gateways g all under) under is
+act_again digits gateways (acts.Sent g name k o) all under is = sent_line digits gateways g name k o (named_spelled gateways g all under.0) under.0 under.1 is.0 is.1
 act_again digits gateways (acts.Clear g o) all under is = clear_line digits gateways g o (named_spelled gateways g all under) under is
 act_again digits gateways (acts.Drop g w) all under is = drop_line gateways g w (named_spelled gateways g all under) under
-
--- ---- events
-
-policy_event : (gateways : List Peer) (g : List ℕ) (list : List SpdEntry) → is_gateway g ≡ true → IsListed list → All IsEntry list
-    → event_of gateways (act_text (acts.Policy g list)) ≡ Ok (events.Policy g list)
-unfolding act_text event_in policy_in AreWords
-policy_event gateways g list spelled is are =
-    let few = few_words list is in
-    let read = list_read list is are in
-    let fits = is.fits in
-    event_line gateways (events.Policy g list) (act_text (acts.Policy g list)) (codes "policy") (g ∷ map entry_text list) (policy_words g list)
-    (refl, (name_word g spelled, list_words list is are)) (rw (few, spelled, read, fits) refl)
-
-let_event : ReadsDigits → (gateways : List Peer) (g octets : List ℕ) → is_gateway g ≡ true → is_gateway_of gateways g ≡ true → AreOctets octets
-    → event_of gateways (act_text (acts.Let g octets)) ≡ Ok (events.Let g octets)
-unfolding act_text event_in let_in AreWords
-let_event digits gateways g octets spelled named are =
-    let read = hex_read digits octets are in
-    event_line gateways (events.Let g octets) (act_text (acts.Let g octets)) (codes "let") (g ∷ hex_text octets ∷ []) (two_words (codes "let ") g (hex_text octets))
-    (refl, (name_word g spelled, (hex_word octets are, tt))) (rw (named, read) refl)
-
-pub event_again : ReadsDigits → (gateways : List Peer) (e : Event) → are_spelled gateways ≡ true → IsEventUnder gateways e → IsAct (told_as e)
-    → event_of gateways (act_text (told_as e)) ≡ Ok e
-event_again digits gateways (events.Policy g list) all under is = policy_event gateways g list under.0 under.1 is
-event_again digits gateways (events.Let g o) all under is = let_event digits gateways g o (named_spelled gateways g all under) under is
+act_again digits gateways (acts.Arrived g o) all under is = arrived_line digits gateways g o (named_spelled gateways g all under) under is
+act_again digits gateways (acts.Gave g name k o) all under is = gave_line digits gateways g name k o (named_spelled gateways g all under.0) under.0 under.1 is.0 is.1
+act_again digits gateways (acts.Pass g o) all under is = pass_line digits gateways g o (named_spelled gateways g all under) under is
+act_again digits gateways (acts.Opened g s) all under is = opened_line gateways g s (named_spelled gateways g all under) under is
+act_again digits gateways (acts.Cut g s) all under is = cut_line gateways g s (named_spelled gateways g all under) under is
+act_again digits gateways (acts.Order g s n o) all under is = order_line digits gateways g s n o (named_spelled gateways g all under.0) under.0 under.1 is.0 is.1 is.2
+act_again digits gateways (acts.Handled g s n a) all under is = handled_line digits gateways g s n a (named_spelled gateways g all under.0) under.0 under.1 is.0 is.1 is.2
+act_again digits gateways (acts.Answered g s n a) all under is = answered_line digits gateways g s n a (named_spelled gateways g all under.0) under.0 under.1 is.0 is.1 is.2
+act_again digits gateways (acts.Notice g s n) all under is = notice_line digits gateways g s n (named_spelled gateways g all under.0) under.0 under.1 is.0 is.1
+act_again digits gateways (acts.Heard g s n) all under is = heard_line digits gateways g s n (named_spelled gateways g all under.0) under.0 under.1 is.0 is.1
+act_again digits gateways (acts.Wire g l o) all under is = wire_line digits gateways g l o (named_spelled gateways g all under.0) under.0 under.1 is
+act_again digits gateways (acts.Refused w) all under is = refused_line gateways w

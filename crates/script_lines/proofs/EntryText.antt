@@ -112,7 +112,7 @@ ports_read (r ∷ rs) are few =
     let x = each_of range_of range_text (r ∷ rs) (each_holds ArePorts (λ y. range_of (range_text y) ≡ Ok y) range_read (r ∷ rs) are) in
     rw (any, s, n, x) refl
 
-ports_are_part : (rs : List Range) → AllByRecursion ArePorts rs → list_all is_part (ports_text rs) ≡ true
+pub ports_are_part : (rs : List Range) → AllByRecursion ArePorts rs → list_all is_part (ports_text rs) ≡ true
 ports_are_part [] are = refl
 ports_are_part (r ∷ rs) are = also is_ports_octet is_part ports_part (ports_text (r ∷ rs)) (some_octets r rs are)
 
@@ -145,19 +145,19 @@ proto_read (Some n) is =
     let x = number_read n 255 (omega arith) (omega arith) in
     rw (any, x) refl
 
-number_is_part : (n : ℕ) → n < 2 ^ 64 → list_all is_part (decimal n) ≡ true
+pub number_is_part : (n : ℕ) → n < 2 ^ 64 → list_all is_part (decimal n) ≡ true
 number_is_part n small = also is_value_octet is_part value_part (decimal n) (decimal_octets n small)
 
-proto_is_part : (o : Option ℕ) → IsProto o → list_all is_part (proto_text o) ≡ true
+pub proto_is_part : (o : Option ℕ) → IsProto o → list_all is_part (proto_text o) ≡ true
 proto_is_part None is = refl
 proto_is_part (Some n) is = let small : n < 256 = is in number_is_part n (omega arith)
 
-prefix_is_part : (p : Prefix) → IsAddress p.addr → list_all is_part (prefix_text p) ≡ true
+pub prefix_is_part : (p : Prefix) → IsAddress p.addr → list_all is_part (prefix_text p) ≡ true
 prefix_is_part p is = also is_value_octet is_part value_part (prefix_text p) (prefix_plain p is)
 
 -- ---- an entry
 
-selector_parts : Selector → List (List ℕ)
+unfoldable pub selector_parts : Selector → List (List ℕ)
 selector_parts s = prefix_text s.local ∷ prefix_text s.remote ∷ proto_text s.proto ∷ ports_text s.local_ports ∷ ports_text s.remote_ports ∷ []
 
 pub few_ranges : (s : Selector) → has_many_ranges s ≡ false → (length s.local_ports ≤ 8) × (length s.remote_ports ≤ 8)
@@ -169,7 +169,7 @@ few_ranges s few = halves (nat_lt 8 (length s.local_ports)) (nat_lt 8 (length s.
     halves false true e f h = cc
     halves true b e f h = cc
 
-selector_read : (s : Selector) → IsSelector s → has_many_ranges s ≡ false → selector_in (selector_parts s) ≡ Ok s
+pub selector_read : (s : Selector) → IsSelector s → has_many_ranges s ≡ false → selector_in (selector_parts s) ≡ Ok s
 unfolding selector_in selector_of selector_parts
 selector_read s is few =
     let counts = few_ranges s few in
@@ -240,7 +240,7 @@ are_parts e is name =
       ),
     )
 
-no_comma : (t : List ℕ) → list_all is_part t ≡ true → All (λ c. is_comma c ≡ false) t
+pub no_comma : (t : List ℕ) → list_all is_part t ≡ true → All (λ c. is_comma c ≡ false) t
 no_comma t all = lacks_mark is_part is_comma (λ c. apart is_part c 44 refl) t all
 
 pub entry_read : (e : SpdEntry) → IsEntry e → e.window ≡ 64 → is_spd_name e.name ≡ true → has_many_ranges e.selector ≡ false → entry_of (entry_text e) ≡ Ok e

@@ -48,7 +48,7 @@ between low high c h k e =
 one : (q : ℕ → Bool) (mark c : ℕ) → q mark ≡ true → (c == mark) ≡ true → q c ≡ true
 one q mark c passes e = ap q (eqb-true c mark e) ∙ passes
 
-hexdigit_part : (c : ℕ) → is_ascii_hexdigit c ≡ true → is_part c ≡ true
+pub hexdigit_part : (c : ℕ) → is_ascii_hexdigit c ≡ true → is_part c ≡ true
 hexdigit_part c h =
     either _ _ (is_part c)
     (λ x. either _ _ (is_part c) (between 48 57 c (omega arith) (omega arith)) (between 65 70 c (omega arith) (omega arith)) x)
@@ -68,7 +68,7 @@ ports_part c h =
     (λ x. either _ _ (is_part c) (value_part c) (one is_part 45 c refl) x)
     (one is_part 43 c refl) h
 
-word_part : (c : ℕ) → is_word_octet c ≡ true → is_part c ≡ true
+pub word_part : (c : ℕ) → is_word_octet c ≡ true → is_part c ≡ true
 word_part c h =
     either _ _ (is_part c)
     (λ a. either _ _ (is_part c)

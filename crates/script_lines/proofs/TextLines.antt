@@ -14,7 +14,8 @@ use Rattle.script_lines.specs.Act.{act_in, as_spelled, act_of}
 use Rattle.script_lines.specs.Spelling.{are_spelled, IsActUnder, IsAct}
 use Rattle.script_lines.specs.Text.{act_text, line_of, text_of}
 use Rattle.script_lines.proofs.PartText.{each_holds}
-use Rattle.script_lines.proofs.ActText.{ReadsDigits, act_again}
+use Rattle.script_lines.proofs.LineText.{ReadsDigits}
+use Rattle.script_lines.proofs.ActText.{act_again}
 
 abbrev is_line_end : ℕ → Bool
 is_line_end c = c == 10

@@ -5,16 +5,24 @@ use Rattle.std.specs.Str.{bytes_eq}
 use Rattle.ikl_base.specs.declared.status.LineFault.{LineFault}
 use Rattle.ikl_base.specs.declared.status.LineFault.TheVariants as faults
 use Rattle.ikeless_tree.specs.Check.{spd_fault}
+use Rattle.ikeless_tree.specs.Words.{refusal_text}
 use Rattle.ikeless_tree.specs.declared.command.Peer.{Peer}
+use Rattle.ikeless_tree.specs.declared.command.Refusal.{Refusal}
+use Rattle.ikeless_tree.specs.declared.command.Refusal.TheVariants as refusals
 use Rattle.ikeless_tree.specs.declared.reply.DropWhy.{DropWhy}
 use Rattle.ikeless_tree.specs.declared.reply.DropWhy.TheVariants as why
+use Rattle.ikeless_tree.specs.declared.reply.GoneWhy.{GoneWhy}
+use Rattle.ikeless_tree.specs.declared.reply.GoneWhy.TheVariants as ends
 use Rattle.hist_acts.specs.declared.act.Act.{Act}
 use Rattle.hist_acts.specs.declared.act.Act.TheVariants as acts
-use Rattle.yang_values.specs.Numbers.{number_of}
 use Rattle.script_lines.specs.declared.act.Packet.{Packet}
-use Rattle.script_lines.specs.Words.{◌>>=◌, or_fault, words, is_printable, octets_of}
+use Rattle.script_lines.specs.declared.act.Sealed.{Sealed}
+use Rattle.script_lines.specs.declared.act.Opening.{Opening}
+use Rattle.script_lines.specs.Words.{◌>>=◌, words, is_printable, known_of, half_name_of, octets_of, lane_of, number_in}
 use Rattle.script_lines.specs.Entry.{entries_of}
-use Rattle.script_lines.specs.Event.{known_of, unless_fault}
+use Rattle.script_lines.specs.Event.{unless_fault, time_in, reqid_in, gateway_in}
+use Rattle.script_lines.specs.Half.{half_of}
+use Rattle.script_lines.specs.Session.{place_of, order_of, replied_in, noticed_in}
 use Rattle.script_lines.specs.Text.{act_text}
 
 -- why a packet is dropped
@@ -40,10 +48,22 @@ why_of w =
     else if bytes_eq w (codes "selector") then Ok why.Selector
     else Err faults.Word
 
--- the number of an event
-unfoldable pub took_in : List (List ℕ) → Result Act LineFault
-took_in (k ∷ []) = or_fault faults.Number (number_of (2 ^ 64 - 1) k) >>= (λ n. Ok (acts.Took n))
-took_in _ = Err faults.Count
+-- how a half ended
+abbrev pub gone_of : List ℕ → Result GoneWhy LineFault
+gone_of w = if bytes_eq w (codes "removed") then Ok ends.Removed else if bytes_eq w (codes "hard") then Ok ends.Hard else Err faults.Word
+
+-- why a command is refused
+unfoldable pub refusal_of : List ℕ → Result Refusal LineFault
+refusal_of w =
+    if bytes_eq w (refusal_text refusals.UnknownGateway) then Ok refusals.UnknownGateway
+    else if bytes_eq w (refusal_text refusals.SameGateway) then Ok refusals.SameGateway
+    else if bytes_eq w (refusal_text refusals.TunnelExists) then Ok refusals.TunnelExists
+    else if bytes_eq w (refusal_text refusals.NoTunnel) then Ok refusals.NoTunnel
+    else if bytes_eq w (refusal_text refusals.TunnelLimit) then Ok refusals.TunnelLimit
+    else if bytes_eq w (refusal_text refusals.KeySeen) then Ok refusals.KeySeen
+    else if bytes_eq w (refusal_text refusals.KeyLength) then Ok refusals.KeyLength
+    else if bytes_eq w (refusal_text refusals.KeyLimit) then Ok refusals.KeyLimit
+    else Err faults.Word
 
 -- a gateway, and a list that can be in force there
 unfoldable pub force_in : List Peer → List (List ℕ) → Result Act LineFault
@@ -58,29 +78,128 @@ unfoldable pub packet_in : List Peer → List (List ℕ) → Result Packet LineF
 packet_in gateways (gateway ∷ octets ∷ []) = known_of gateways gateway >>= (λ g. octets_of octets >>= (λ o. Ok (record { gateway = g; octets = o })))
 packet_in gateways _ = Err faults.Count
 
+unfoldable pub sealed_of : List Peer → List ℕ → List ℕ → List ℕ → List ℕ → Result Sealed LineFault
+sealed_of gateways gateway name number octets =
+    known_of gateways gateway >>= (λ g. half_name_of name >>= (λ n. number_in faults.Number (2 ^ 64 - 1) number >>= (λ k. octets_of octets >>= (λ o.
+    Ok (record { gateway = g; half = n; number = k; octets = o })))))
+
+-- a gateway, a half, a sequence number and octets
+unfoldable pub sealed_in : List Peer → List (List ℕ) → Result Sealed LineFault
+sealed_in gateways (gateway ∷ name ∷ number ∷ octets ∷ []) = sealed_of gateways gateway name number octets
+sealed_in gateways _ = Err faults.Count
+
 -- a gateway, and why a packet is dropped there
 unfoldable pub drop_in : List Peer → List (List ℕ) → Result Act LineFault
 drop_in gateways (gateway ∷ w ∷ []) = known_of gateways gateway >>= (λ g. why_of w >>= (λ y. Ok (acts.Drop g y)))
 drop_in gateways _ = Err faults.Count
 
+unfoldable pub put_at : List Peer → List ℕ → List ℕ → Result Act LineFault
+put_at gateways gateway half = known_of gateways gateway >>= (λ g. half_of half >>= (λ e. Ok (acts.Put g e)))
+
+-- a gateway, and a half that can be installed there
+unfoldable pub put_in : List Peer → List (List ℕ) → Result Act LineFault
+put_in gateways (gateway ∷ half ∷ []) = put_at gateways gateway half
+put_in gateways _ = Err faults.Count
+
+unfoldable pub gone_at : List Peer → List ℕ → List ℕ → List ℕ → Result Act LineFault
+gone_at gateways gateway name w =
+    known_of gateways gateway >>= (λ g. half_name_of name >>= (λ n. gone_of w >>= (λ y. Ok (acts.Gone g n y))))
+
+-- a gateway, a half and how it ended
+unfoldable pub gone_in : List Peer → List (List ℕ) → Result Act LineFault
+gone_in gateways (gateway ∷ name ∷ w ∷ []) = gone_at gateways gateway name w
+gone_in gateways _ = Err faults.Count
+
+-- a gateway, and the number of a session
+unfoldable pub opening_in : List Peer → List (List ℕ) → Result Opening LineFault
+opening_in gateways (gateway ∷ session ∷ []) =
+    known_of gateways gateway >>= (λ g. number_in faults.Number (2 ^ 32 - 1) session >>= (λ s. Ok (record { gateway = g; session = s })))
+opening_in gateways _ = Err faults.Count
+
+-- at most 4096 octets
+abbrev pub shown_of : List ℕ → Result (List ℕ) LineFault
+shown_of w = octets_of w >>= (λ o. if nat_le (length o) 4096 then Ok o else Err faults.Hex)
+
+unfoldable pub under_way_at : List Peer → List ℕ → List ℕ → List ℕ → Result Act LineFault
+under_way_at gateways gateway lane octets =
+    known_of gateways gateway >>= (λ g. lane_of lane >>= (λ l. shown_of octets >>= (λ o. Ok (acts.Wire g l o))))
+
+-- a gateway, a lane and octets
+unfoldable pub under_way_in : List Peer → List (List ℕ) → Result Act LineFault
+under_way_in gateways (gateway ∷ lane ∷ octets ∷ []) = under_way_at gateways gateway lane octets
+under_way_in gateways _ = Err faults.Count
+
+unfoldable pub refused_in : List (List ℕ) → Result Act LineFault
+refused_in (w ∷ []) = refusal_of w >>= (λ y. Ok (acts.Refused y))
+refused_in _ = Err faults.Count
+
+unfoldable pub order_at : List Peer → List ℕ → List ℕ → List ℕ → List ℕ → List (List ℕ) → Result Act LineFault
+order_at gateways gateway session request w ws =
+    place_of gateways gateway session request >>= (λ p. order_of w ws >>= (λ o. Ok (acts.Order p.gateway p.session p.request o)))
+
+-- a gateway, the numbers of a session and of a request in it, and an order
+unfoldable pub order_in : List Peer → List (List ℕ) → Result Act LineFault
+order_in gateways (gateway ∷ session ∷ request ∷ w ∷ ws) = order_at gateways gateway session request w ws
+order_in gateways _ = Err faults.Count
+
+-- orders, answers and notices
+unfoldable pub session_act_in : List Peer → List ℕ → List (List ℕ) → Result Act LineFault
+session_act_in gateways w ws =
+    if bytes_eq w (codes "order") then order_in gateways ws
+    else if bytes_eq w (codes "handled") then replied_in gateways ws >>= (λ r. Ok (acts.Handled r.place.gateway r.place.session r.place.request r.answer))
+    else if bytes_eq w (codes "answered") then replied_in gateways ws >>= (λ r. Ok (acts.Answered r.place.gateway r.place.session r.place.request r.answer))
+    else if bytes_eq w (codes "notice") then noticed_in gateways ws >>= (λ n. Ok (acts.Notice n.gateway n.session n.notice))
+    else if bytes_eq w (codes "heard") then noticed_in gateways ws >>= (λ n. Ok (acts.Heard n.gateway n.session n.notice))
+    else Err faults.Word
+
+-- what happens to databases and sessions
+unfoldable pub base_act_in : List Peer → List ℕ → List (List ℕ) → Result Act LineFault
+base_act_in gateways w ws =
+    if bytes_eq w (codes "policy") then force_in gateways ws
+    else if bytes_eq w (codes "put") then put_in gateways ws
+    else if bytes_eq w (codes "gone") then gone_in gateways ws
+    else if bytes_eq w (codes "opened") then opening_in gateways ws >>= (λ s. Ok (acts.Opened s.gateway s.session))
+    else if bytes_eq w (codes "cut") then opening_in gateways ws >>= (λ s. Ok (acts.Cut s.gateway s.session))
+    else if bytes_eq w (codes "wire") then under_way_in gateways ws
+    else if bytes_eq w (codes "refused") then refused_in ws
+    else session_act_in gateways w ws
+
+-- what happens to packets
+unfoldable pub packet_act_in : List Peer → List ℕ → List (List ℕ) → Result Act LineFault
+packet_act_in gateways w ws =
+    if bytes_eq w (codes "let") then packet_in gateways ws >>= (λ p. Ok (acts.Let p.gateway p.octets))
+    else if bytes_eq w (codes "clear") then packet_in gateways ws >>= (λ p. Ok (acts.Clear p.gateway p.octets))
+    else if bytes_eq w (codes "arrived") then packet_in gateways ws >>= (λ p. Ok (acts.Arrived p.gateway p.octets))
+    else if bytes_eq w (codes "pass") then packet_in gateways ws >>= (λ p. Ok (acts.Pass p.gateway p.octets))
+    else base_act_in gateways w ws
+
 -- first the word that says what happened, then the number of words, then the words from left to right
 unfoldable pub act_in : List Peer → List (List ℕ) → Result Act LineFault
 act_in gateways [] = Err faults.Word
 act_in gateways (w ∷ ws) =
-    if bytes_eq w (codes "@") then took_in ws
-    else if bytes_eq w (codes "policy") then force_in gateways ws
-    else if bytes_eq w (codes "let") then packet_in gateways ws >>= (λ p. Ok (acts.Let p.gateway p.octets))
-    else if bytes_eq w (codes "clear") then packet_in gateways ws >>= (λ p. Ok (acts.Clear p.gateway p.octets))
+    if bytes_eq w (codes "@") then reqid_in ws >>= (λ k. Ok (acts.Took k))
+    else if bytes_eq w (codes "now") then time_in ws >>= (λ t. Ok (acts.Now t))
+    else if bytes_eq w (codes "boot") then gateway_in gateways ws >>= (λ g. Ok (acts.Boot g))
+    else if bytes_eq w (codes "sent") then sealed_in gateways ws >>= (λ s. Ok (acts.Sent s.gateway s.half s.number s.octets))
+    else if bytes_eq w (codes "gave") then sealed_in gateways ws >>= (λ s. Ok (acts.Gave s.gateway s.half s.number s.octets))
     else if bytes_eq w (codes "drop") then drop_in gateways ws
-    else Err faults.Word
+    else packet_act_in gateways w ws
 
 -- the kind of the words that alone may be spelled in another way
 abbrev pub spelling_fault : Act → LineFault
-spelling_fault (acts.Took k) = faults.Number
 spelling_fault (acts.Policy g list) = faults.Entry
 spelling_fault (acts.Let g o) = faults.Hex
+spelling_fault (acts.Sent g name k o) = faults.Hex
 spelling_fault (acts.Clear g o) = faults.Hex
-spelling_fault (acts.Drop g w) = faults.Word
+spelling_fault (acts.Arrived g o) = faults.Hex
+spelling_fault (acts.Gave g name k o) = faults.Hex
+spelling_fault (acts.Pass g o) = faults.Hex
+spelling_fault (acts.Wire g l o) = faults.Hex
+spelling_fault (acts.Put g e) = faults.Entry
+spelling_fault (acts.Order g s n o) = faults.Entry
+spelling_fault (acts.Notice g s n) = faults.Entry
+spelling_fault (acts.Heard g s n) = faults.Entry
+spelling_fault _ = faults.Word
 
 -- an act has one spelling
 unfoldable pub as_spelled : List ℕ → Act → Result Act LineFault

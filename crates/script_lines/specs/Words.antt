@@ -5,7 +5,11 @@ use Rattle.std.specs.Str.{bytes_eq}
 use Rattle.ikl_base.specs.declared.status.LineFault.{LineFault}
 use Rattle.ikl_base.specs.declared.status.LineFault.TheVariants as faults
 use Rattle.ikl_base.specs.declared.address.Prefix.{Prefix}
-use Rattle.ikeless_tree.specs.Check.{is_gateway}
+use Rattle.ikeless_tree.specs.Check.{is_gateway, is_sad_name}
+use Rattle.ikeless_tree.specs.declared.command.Peer.{Peer}
+use Rattle.ikeless_tree.specs.declared.order.Lane.{Lane}
+use Rattle.ikeless_tree.specs.declared.order.Lane.TheVariants as lanes
+use Rattle.hist_acts.specs.Gateways.{is_named}
 use Rattle.yang_values.specs.declared.value.BadValue.{BadValue}
 use Rattle.yang_values.specs.Numbers.{number_of}
 use Rattle.yang_values.specs.Prefixes.{prefix_of}
@@ -32,8 +36,32 @@ words line = slice_split is_space line
 abbrev pub is_printable : ℕ → Bool
 is_printable c = nat_le 32 c && nat_le c 126
 
+-- the name of a gateway, which the header may lack
 abbrev pub gateway_of : List ℕ → Result (List ℕ) LineFault
 gateway_of w = if is_gateway w then Ok w else Err faults.Gateway
+
+-- the name of one of the gateways
+abbrev pub known_of : List Peer → List ℕ → Result (List ℕ) LineFault
+known_of gateways w = if is_named gateways w then Ok w else Err faults.Gateway
+
+-- the name of a half
+abbrev pub half_name_of : List ℕ → Result (List ℕ) LineFault
+half_name_of w = if is_sad_name w then Ok w else Err faults.Entry
+
+-- a lane between a gateway and its controller
+abbrev pub lane_of : List ℕ → Result Lane LineFault
+lane_of w =
+    if bytes_eq w (codes "down") then Ok lanes.Down
+    else if bytes_eq w (codes "up") then Ok lanes.Up
+    else if bytes_eq w (codes "note") then Ok lanes.Note
+    else Err faults.Mode
+
+-- a number that is at most this
+abbrev pub number_in : LineFault → ℕ → List ℕ → Result ℕ LineFault
+number_in fault most w = or_fault fault (number_of most w)
+
+abbrev pub prefix_in : LineFault → List ℕ → Result Prefix LineFault
+prefix_in fault w = or_fault fault (prefix_of w)
 
 -- octets as hex digits, or a dash for none
 abbrev pub octets_of : List ℕ → Result (List ℕ) LineFault

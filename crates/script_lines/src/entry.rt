@@ -129,8 +129,9 @@ fn ports(alloc: Global, word: &[u8]) -> Result<Ports, OrMemory<LineFault>>
     ranges(alloc, words.as_slice())
 }
 
+/// The selector of two prefixes, a protocol and two lists of ports.
 #[tactic(auto, unfolding(crate::specs::Entry::selector_of))]
-fn selector(
+pub fn selector(
     alloc: Global,
     prefixes: (&[u8], &[u8]),
     protocol: &[u8],
@@ -174,8 +175,9 @@ fn purpose(way: &[u8], reqid: &[u8], says: &[u8]) -> Result<Use, LineFault>
     })
 }
 
+/// The selector that five parts stand for.
 #[tactic(auto, unfolding(crate::specs::Entry::selector_in))]
-fn selector_from(alloc: Global, words: &[&[u8]]) -> Result<Selector, OrMemory<LineFault>>
+pub fn selector_from(alloc: Global, words: &[&[u8]]) -> Result<Selector, OrMemory<LineFault>>
     ensures { Gives result (selector_in (texts words.now)) }
 {
     match words {

@@ -7,8 +7,8 @@ ghost use Rattle.hist_acts.specs.declared.event.Header.{Header};
 ghost use Rattle.script_lines.specs.Act.{act_of};
 ghost use Rattle.script_lines.specs.Event.{event_of};
 ghost use Rattle.script_lines.specs.Header.{header_of};
-ghost use Rattle.script_lines.specs.Spelling.{are_spelled, IsActUnder, IsEventUnder, IsAct, told_as};
-ghost use Rattle.script_lines.specs.Text.{act_text, text_of};
+ghost use Rattle.script_lines.specs.Spelling.{are_spelled, IsActUnder, IsEventUnder, IsAct, IsEvent};
+ghost use Rattle.script_lines.specs.Text.{act_text, event_text, text_of};
 
 /// The gateways of a header have names that a line can spell.
 pub fn headers_name_gateways()
@@ -36,8 +36,8 @@ pub fn act_read_again()
 
 /// The line of an event in its canonical spelling is read as that event.
 pub fn event_read_again()
-    ensures { (gateways : List Peer) (e : Event) → IsTrue (are_spelled gateways) → IsEventUnder gateways e → IsAct (told_as e)
-        → event_of gateways (act_text (told_as e)) ≡ Ok e }
+    ensures { (gateways : List Peer) (e : Event) → IsTrue (are_spelled gateways) → IsEventUnder gateways e → IsEvent e
+        → event_of gateways (event_text e) ≡ Ok e }
 {
     yang_values::digits_read_again();
 }

@@ -1,21 +1,29 @@
 // Writes the lines of a transcript.
-ghost use Rattle.std.specs.Prelude.{◌≡◌, ◌++◌, ◌∷◌, [], IfOk, OnOk, List, ℕ, codes};
+ghost use Rattle.std.specs.Prelude.{◌≡◌, ◌++◌, ◌∷◌, [], IfOk, OnOk, List, ℕ, map, codes};
 ghost use Rattle.std.specs.List.{flat_map};
-ghost use Rattle.script_lines.specs.Text.{hex_text, why_text, direction_text, action_text, proto_text, range_text, more_ranges_text, ports_text, prefixes_text, both_ports_text, selector_text, name_text, use_text, entry_text, entries_text, act_text, line_of, text_of};
+ghost use Rattle.std.specs.Fmt.{decimal};
+ghost use Rattle.ikeless_tree.specs.Words.{refusal_text};
+ghost use Rattle.script_lines.specs.Text.{hex_text, why_text, lane_text, gone_text, half_text, spaced, line_text, direction_text, action_text, proto_text, range_text, more_ranges_text, ports_text, prefixes_text, both_ports_text, selector_text, name_text, use_text, entry_text, entries_text, act_text, line_of, text_of};
 
+use crate::write_session::{put_answer, put_half_word, put_notice, put_order};
 use hist_acts::{Act, Acts, Header};
-use ikeless_tree::{Action, Direction, DropWhy, Entries, Ports, Range, Selector, SpdEntry};
+use ikeless_tree::{
+    Action, Direction, DropWhy, Entries, GoneWhy, Lane, Ports, Range, Refusal, SadEntry, Selector,
+    SpdEntry,
+};
 use ikl_base::{Name, NoMemory, Octets};
 use std::alloc::Global;
 use yang_values::{put_digits, put_number, put_prefix};
 
-fn put(out: &mut Vec<u8>, text: &[u8]) -> Result<(), NoMemory>
+/// Adds a text.
+pub fn put(out: &mut Vec<u8>, text: &[u8]) -> Result<(), NoMemory>
     ensures { OnOk result (out.new.items ≡ out.old.items ++ text.now) }
 {
     Ok(out.extend_from_slice(text)?)
 }
 
-fn put_octet(out: &mut Vec<u8>, octet: u8) -> Result<(), NoMemory>
+/// Adds an octet.
+pub fn put_octet(out: &mut Vec<u8>, octet: u8) -> Result<(), NoMemory>
     ensures { OnOk result (out.new.items ≡ out.old.items ++ octet ∷ []) }
 {
     Ok(out.push(octet)?)
@@ -129,8 +137,9 @@ fn put_both_ports(out: &mut Vec<u8>, selector: &Selector) -> Result<(), NoMemory
     put_ports(out, &selector.remote_ports)
 }
 
+/// A selector, with commas between its parts.
 #[tactic(auto, unfolding(crate::specs::Text::selector_text))]
-fn put_selector(out: &mut Vec<u8>, selector: &Selector) -> Result<(), NoMemory>
+pub fn put_selector(out: &mut Vec<u8>, selector: &Selector) -> Result<(), NoMemory>
     ensures { OnOk result (out.new.items ≡ out.old.items ++ selector_text selector.now) }
 {
     put_prefixes(out, selector)?;
@@ -177,30 +186,167 @@ fn put_entries(out: &mut Vec<u8>, list: &[SpdEntry]) -> Result<(), NoMemory>
     Ok(())
 }
 
-fn put_policy(out: &mut Vec<u8>, g: &Name, list: &Entries) -> Result<(), NoMemory>
-    ensures { OnOk result (out.new.items ≡ out.old.items ++ (codes "policy " ++ (g.now ++ entries_text list.now))) }
+/// A word after a space.
+pub fn put_word(out: &mut Vec<u8>, word: &[u8]) -> Result<(), NoMemory>
+    ensures { OnOk result (out.new.items ≡ out.old.items ++ 32 ∷ word.now) }
 {
-    put(out, b"policy ")?;
-    put(out, g.as_slice())?;
-    put_entries(out, list.as_slice())
+    put_octet(out, b' ')?;
+    put(out, word)
+}
+
+/// A number after a space.
+pub fn put_number_word(out: &mut Vec<u8>, n: u64) -> Result<(), NoMemory>
+    ensures { OnOk result (out.new.items ≡ out.old.items ++ 32 ∷ decimal n) }
+{
+    put_octet(out, b' ')?;
+    put_number(out, n)
+}
+
+fn put_hex_word(out: &mut Vec<u8>, octets: &Octets) -> Result<(), NoMemory>
+    ensures { OnOk result (out.new.items ≡ out.old.items ++ 32 ∷ hex_text octets.now) }
+{
+    put_octet(out, b' ')?;
+    put_hex(out, octets.as_slice())
+}
+
+fn put_why_word(out: &mut Vec<u8>, why: DropWhy) -> Result<(), NoMemory>
+    ensures { OnOk result (out.new.items ≡ out.old.items ++ 32 ∷ why_text why) }
+{
+    put_octet(out, b' ')?;
+    put_why(out, why)
+}
+
+fn put_end_word(out: &mut Vec<u8>, why: GoneWhy) -> Result<(), NoMemory>
+    ensures { OnOk result (out.new.items ≡ out.old.items ++ 32 ∷ gone_text why) }
+{
+    match why {
+        GoneWhy::Removed => put_word(out, b"removed"),
+        GoneWhy::Hard => put_word(out, b"hard"),
+    }
+}
+
+fn put_lane_word(out: &mut Vec<u8>, lane: Lane) -> Result<(), NoMemory>
+    ensures { OnOk result (out.new.items ≡ out.old.items ++ 32 ∷ lane_text lane) }
+{
+    match lane {
+        Lane::Down => put_word(out, b"down"),
+        Lane::Up => put_word(out, b"up"),
+        Lane::Note => put_word(out, b"note"),
+    }
+}
+
+fn put_refusal_word(out: &mut Vec<u8>, why: Refusal) -> Result<(), NoMemory>
+    ensures { OnOk result (out.new.items ≡ out.old.items ++ 32 ∷ refusal_text why) }
+{
+    put_word(out, why.text().as_bytes())
+}
+
+fn put_installed(out: &mut Vec<u8>, g: &Name, entry: &SadEntry) -> Result<(), NoMemory>
+    ensures { OnOk result (out.new.items ≡ out.old.items ++ line_text (codes "put" ∷ g.now ∷ half_text entry.now ∷ [])) }
+{
+    put_at(out, b"put", g)?;
+    put_half_word(out, entry)
+}
+
+// What happened, and at which gateway.
+fn put_at(out: &mut Vec<u8>, what: &[u8], g: &Name) -> Result<(), NoMemory>
+    ensures { OnOk result (out.new.items ≡ out.old.items ++ line_text (what.now ∷ g.now ∷ [])) }
+{
+    put(out, what)?;
+    put_word(out, g.as_slice())
+}
+
+fn put_counted(out: &mut Vec<u8>, what: &[u8], n: u64) -> Result<(), NoMemory>
+    ensures { OnOk result (out.new.items ≡ out.old.items ++ line_text (what.now ∷ decimal n ∷ [])) }
+{
+    put(out, what)?;
+    put_number_word(out, n)
+}
+
+/// Entries, each after a space.
+pub fn put_entry_words(out: &mut Vec<u8>, list: &[SpdEntry]) -> Result<(), NoMemory>
+    ensures { OnOk result (out.new.items ≡ out.old.items ++ spaced (map entry_text list.now)) }
+{
+    put_entries(out, list)?;
+    Ok(())
+}
+
+fn put_policy(out: &mut Vec<u8>, g: &Name, list: &Entries) -> Result<(), NoMemory>
+    ensures { OnOk result (out.new.items ≡ out.old.items ++ line_text (codes "policy" ∷ g.now ∷ map entry_text list.now)) }
+{
+    put_at(out, b"policy", g)?;
+    put_entry_words(out, list.as_slice())
 }
 
 fn put_packet(out: &mut Vec<u8>, what: &[u8], g: &Name, o: &Octets) -> Result<(), NoMemory>
-    ensures { OnOk result (out.new.items ≡ out.old.items ++ (what.now ++ (g.now ++ 32 ∷ hex_text o.now))) }
+    ensures { OnOk result (out.new.items ≡ out.old.items ++ line_text (what.now ∷ g.now ∷ hex_text o.now ∷ [])) }
 {
-    put(out, what)?;
-    put(out, g.as_slice())?;
-    put_octet(out, b' ')?;
-    put_hex(out, o.as_slice())
+    put_at(out, what, g)?;
+    put_hex_word(out, o)
+}
+
+/// What happened, at which gateway, and the number of a session.
+pub fn put_opening(out: &mut Vec<u8>, what: &[u8], g: &Name, s: u32) -> Result<(), NoMemory>
+    ensures { OnOk result (out.new.items ≡ out.old.items ++ line_text (what.now ∷ g.now ∷ decimal s ∷ [])) }
+{
+    put_at(out, what, g)?;
+    put_number_word(out, u64::from(s))
+}
+
+fn put_half_at(out: &mut Vec<u8>, what: &[u8], g: &Name, half: &Name) -> Result<(), NoMemory>
+    ensures { OnOk result (out.new.items ≡ out.old.items ++ line_text (what.now ∷ g.now ∷ half.now ∷ [])) }
+{
+    put_at(out, what, g)?;
+    put_word(out, half.as_slice())
+}
+
+fn put_numbered(out: &mut Vec<u8>, number: u64, o: &Octets) -> Result<(), NoMemory>
+    ensures { OnOk result (out.new.items ≡ out.old.items ++ spaced (decimal number ∷ hex_text o.now ∷ [])) }
+{
+    put_number_word(out, number)?;
+    put_hex_word(out, o)
 }
 
 fn put_drop(out: &mut Vec<u8>, g: &Name, why: DropWhy) -> Result<(), NoMemory>
-    ensures { OnOk result (out.new.items ≡ out.old.items ++ (codes "drop " ++ (g.now ++ 32 ∷ why_text why))) }
+    ensures { OnOk result (out.new.items ≡ out.old.items ++ line_text (codes "drop" ∷ g.now ∷ why_text why ∷ [])) }
 {
-    put(out, b"drop ")?;
-    put(out, g.as_slice())?;
-    put_octet(out, b' ')?;
-    put_why(out, why)
+    put_at(out, b"drop", g)?;
+    put_why_word(out, why)
+}
+
+fn put_gone(out: &mut Vec<u8>, g: &Name, half: &Name, why: GoneWhy) -> Result<(), NoMemory>
+    ensures { OnOk result (out.new.items ≡ out.old.items ++ line_text (codes "gone" ∷ g.now ∷ half.now ∷ gone_text why ∷ [])) }
+{
+    put_half_at(out, b"gone", g, half)?;
+    put_end_word(out, why)
+}
+
+fn put_wire(out: &mut Vec<u8>, g: &Name, lane: Lane, o: &Octets) -> Result<(), NoMemory>
+    ensures { OnOk result (out.new.items ≡ out.old.items ++ line_text (codes "wire" ∷ g.now ∷ lane_text lane ∷ hex_text o.now ∷ [])) }
+{
+    put_at(out, b"wire", g)?;
+    put_lane_word(out, lane)?;
+    put_hex_word(out, o)
+}
+
+fn put_refused(out: &mut Vec<u8>, why: Refusal) -> Result<(), NoMemory>
+    ensures { OnOk result (out.new.items ≡ out.old.items ++ line_text (codes "refused" ∷ refusal_text why ∷ [])) }
+{
+    put(out, b"refused")?;
+    put_refusal_word(out, why)
+}
+
+fn put_sealed(
+    out: &mut Vec<u8>,
+    what: &[u8],
+    at: (&Name, &Name),
+    number: u64,
+    o: &Octets,
+) -> Result<(), NoMemory>
+    ensures { OnOk result (out.new.items ≡ out.old.items ++ line_text (what.now ∷ at.entry.0.now ∷ at.entry.1.now ∷ decimal number ∷ hex_text o.now ∷ [])) }
+{
+    put_half_at(out, what, at.0, at.1)?;
+    put_numbered(out, number, o)
 }
 
 /// Adds the line of an act, without its LF.
@@ -209,14 +355,28 @@ pub fn put_act(out: &mut Vec<u8>, act: &Act) -> Result<(), NoMemory>
     ensures { OnOk result (out.new.items ≡ out.old.items ++ act_text act.now) }
 {
     match act {
-        Act::Took(k) => {
-            put(out, b"@ ")?;
-            put_number(out, *k)
-        }
+        Act::Took(k) => put_counted(out, b"@", *k),
+        Act::Now(t) => put_counted(out, b"now", u64::from(*t)),
+        Act::Boot(g) => put_at(out, b"boot", g),
         Act::Policy(g, list) => put_policy(out, g, list),
-        Act::Let(g, o) => put_packet(out, b"let ", g, o),
-        Act::Clear(g, o) => put_packet(out, b"clear ", g, o),
+        Act::Put(g, entry) => put_installed(out, g, entry),
+        Act::Gone(g, half, why) => put_gone(out, g, half, *why),
+        Act::Let(g, o) => put_packet(out, b"let", g, o),
+        Act::Sent(g, half, number, o) => put_sealed(out, b"sent", (g, half), *number, o),
+        Act::Clear(g, o) => put_packet(out, b"clear", g, o),
         Act::Drop(g, why) => put_drop(out, g, *why),
+        Act::Arrived(g, o) => put_packet(out, b"arrived", g, o),
+        Act::Gave(g, half, number, o) => put_sealed(out, b"gave", (g, half), *number, o),
+        Act::Pass(g, o) => put_packet(out, b"pass", g, o),
+        Act::Opened(g, s) => put_opening(out, b"opened", g, *s),
+        Act::Cut(g, s) => put_opening(out, b"cut", g, *s),
+        Act::Order(g, s, n, order) => put_order(out, g, *s, *n, order),
+        Act::Handled(g, s, n, answer) => put_answer(out, b"handled", g, *s, *n, answer),
+        Act::Answered(g, s, n, answer) => put_answer(out, b"answered", g, *s, *n, answer),
+        Act::Notice(g, s, notice) => put_notice(out, b"notice", g, *s, notice),
+        Act::Heard(g, s, notice) => put_notice(out, b"heard", g, *s, notice),
+        Act::Wire(g, lane, o) => put_wire(out, g, *lane, o),
+        Act::Refused(why) => put_refused(out, *why),
     }
 }
 

@@ -1,4 +1,4 @@
-use Rattle.script_lines.proofs.ActText.{event_again}
+use Rattle.script_lines.proofs.EventText.{event_again}
 use Rattle.script_lines.proofs.laws.event_read_again.Goals as goal
 
 pub returns : goal.returns

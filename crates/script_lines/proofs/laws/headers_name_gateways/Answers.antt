@@ -1,4 +1,4 @@
-use Rattle.script_lines.proofs.SpelledText.{header_spelled}
+use Rattle.script_lines.proofs.SpelledEvent.{header_spelled}
 use Rattle.script_lines.proofs.laws.headers_name_gateways.Goals as goal
 
 pub returns : goal.returns

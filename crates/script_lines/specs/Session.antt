@@ -1,0 +1,176 @@
+-- The words of sessions: orders, answers and notices.
+use Rattle.std.specs.Prelude.{ℕ, ◌-◌, ◌^◌, ◌==◌, ◌&&◌, nat_le, Bool, true, false, List, [], ◌∷◌, length, codes, if◌then◌else◌, Option, Some, None, Result, Ok, Err}
+use Rattle.std.specs.List.{slice_split}
+use Rattle.std.specs.Str.{bytes_eq}
+use Rattle.ikl_base.specs.Address.{bits_of, is_one_family}
+use Rattle.ikl_base.specs.declared.address.Prefix.{Prefix}
+use Rattle.ikl_base.specs.declared.status.LineFault.{LineFault}
+use Rattle.ikl_base.specs.declared.status.LineFault.TheVariants as faults
+use Rattle.ikeless_tree.specs.Check.{spd_fault, is_spd_name}
+use Rattle.ikeless_tree.specs.Words.{tag_text}
+use Rattle.ikeless_tree.specs.declared.command.Peer.{Peer}
+use Rattle.ikeless_tree.specs.declared.entry.Range.{Range}
+use Rattle.ikeless_tree.specs.declared.entry.Selector.{Selector}
+use Rattle.ikeless_tree.specs.declared.order.Answer.{Answer}
+use Rattle.ikeless_tree.specs.declared.order.Notice.{Notice}
+use Rattle.ikeless_tree.specs.declared.order.Notice.TheVariants as notices
+use Rattle.ikeless_tree.specs.declared.order.Order.{Order}
+use Rattle.ikeless_tree.specs.declared.order.Order.TheVariants as orders
+use Rattle.ikeless_tree.specs.declared.reply.Tag.{Tag}
+use Rattle.ikeless_tree.specs.declared.reply.Tag.TheVariants as tags
+use Rattle.script_lines.specs.declared.session.Place.{Place}
+use Rattle.script_lines.specs.declared.session.Replied.{Replied}
+use Rattle.script_lines.specs.declared.session.Noticed.{Noticed}
+use Rattle.script_lines.specs.Words.{◌>>=◌, known_of, number_in, each, half_name_of}
+use Rattle.script_lines.specs.Entry.{is_comma, selector_in, entries_of}
+use Rattle.script_lines.specs.Event.{unless_fault}
+use Rattle.script_lines.specs.Half.{half_of}
+use Rattle.script_lines.specs.Limits.{limits_of}
+
+-- a gateway, the number of its session, and that of a request in it
+unfoldable pub place_of : List Peer → List ℕ → List ℕ → List ℕ → Result Place LineFault
+place_of gateways gateway session request =
+    known_of gateways gateway >>= (λ g. number_in faults.Number (2 ^ 32 - 1) session >>= (λ s. number_in faults.Number (2 ^ 64 - 1) request >>= (λ n.
+    Ok (record { gateway = g; session = s; request = n }))))
+
+-- ---- orders
+
+-- a list that can be in force
+unfoldable pub listed_in : List (List ℕ) → Result Order LineFault
+listed_in entries =
+    if nat_le (length entries) 256
+    then entries_of entries >>= (λ list. unless_fault (spd_fault list) list >>= (λ good. Ok (orders.Policy good)))
+    else Err faults.Count
+
+unfoldable pub read_in : List (List ℕ) → Result Order LineFault
+read_in [] = Ok orders.Read
+read_in _ = Err faults.Count
+
+unfoldable pub put_in : List (List ℕ) → Result Order LineFault
+put_in (half ∷ []) = half_of half >>= (λ e. Ok (orders.Put e))
+put_in _ = Err faults.Count
+
+unfoldable pub remove_of : List ℕ → Result Order LineFault
+remove_of name = half_name_of name >>= (λ n. Ok (orders.Remove n))
+
+unfoldable pub remove_in : List (List ℕ) → Result Order LineFault
+remove_in (name ∷ []) = remove_of name
+remove_in _ = Err faults.Count
+
+-- first the word that says what is ordered, then the number of words after it, then these words
+unfoldable pub order_of : List ℕ → List (List ℕ) → Result Order LineFault
+order_of w ws =
+    if bytes_eq w (codes "read") then read_in ws
+    else if bytes_eq w (codes "policy") then listed_in ws
+    else if bytes_eq w (codes "put") then put_in ws
+    else if bytes_eq w (codes "remove") then remove_in ws
+    else Err faults.Word
+
+-- ---- answers
+
+-- a dash for none, or an error tag
+unfoldable pub tag_of : List ℕ → Result (Option Tag) LineFault
+tag_of w =
+    if bytes_eq w (codes "-") then Ok None
+    else if bytes_eq w (tag_text tags.MalformedMessage) then Ok (Some tags.MalformedMessage)
+    else if bytes_eq w (tag_text tags.OperationNotSupported) then Ok (Some tags.OperationNotSupported)
+    else if bytes_eq w (tag_text tags.TooBig) then Ok (Some tags.TooBig)
+    else if bytes_eq w (tag_text tags.InvalidValue) then Ok (Some tags.InvalidValue)
+    else if bytes_eq w (tag_text tags.UnknownElement) then Ok (Some tags.UnknownElement)
+    else if bytes_eq w (tag_text tags.BadElement) then Ok (Some tags.BadElement)
+    else if bytes_eq w (tag_text tags.ResourceDenied) then Ok (Some tags.ResourceDenied)
+    else Err faults.Word
+
+-- a dash for none, or names of halves joined by commas
+unfoldable pub names_of : List ℕ → Result (List (List ℕ)) LineFault
+names_of w = if bytes_eq w (codes "-") then Ok [] else each half_name_of (slice_split is_comma w)
+
+unfoldable pub answer_of : List ℕ → List ℕ → List ℕ → Result Answer LineFault
+answer_of status tag names =
+    number_in faults.Number 65535 status >>= (λ n. tag_of tag >>= (λ t. names_of names >>= (λ ns. Ok (record { status = n; tag = t; names = ns }))))
+
+unfoldable pub replied_of : List Peer → List ℕ → List ℕ → List ℕ → List ℕ → List ℕ → List ℕ → Result Replied LineFault
+replied_of gateways gateway session request status tag names =
+    place_of gateways gateway session request >>= (λ p. answer_of status tag names >>= (λ a. Ok (record { place = p; answer = a })))
+
+-- the place of a request, and the answer to it
+unfoldable pub replied_in : List Peer → List (List ℕ) → Result Replied LineFault
+replied_in gateways (gateway ∷ session ∷ request ∷ status ∷ tag ∷ names ∷ []) = replied_of gateways gateway session request status tag names
+replied_in gateways _ = Err faults.Count
+
+-- ---- notices
+
+-- a prefix of the whole length
+abbrev pub is_whole : Prefix → Bool
+is_whole p = p.len == bits_of p.addr
+
+abbrev pub has_proto : Option ℕ → Bool
+has_proto None = false
+has_proto (Some n) = true
+
+-- one port, or any
+abbrev pub is_one_port : List Range → Bool
+is_one_port [] = true
+is_one_port (r ∷ []) = r.start == r.end
+is_one_port (r ∷ s ∷ rs) = false
+
+-- the addresses, the protocol and the ports of one packet
+unfoldable pub is_packet : Selector → Bool
+is_packet s =
+    is_whole s.local && is_whole s.remote && is_one_family s.local.addr s.remote.addr && has_proto s.proto && is_one_port s.local_ports && is_one_port s.remote_ports
+
+abbrev pub policy_name_of : List ℕ → Result (List ℕ) LineFault
+policy_name_of w = if is_spd_name w then Ok w else Err faults.Entry
+
+abbrev pub packet_of : Selector → Result Selector LineFault
+packet_of s = if is_packet s then Ok s else Err faults.Entry
+
+unfoldable pub acquire_of : List ℕ → List ℕ → Result Notice LineFault
+acquire_of name selector =
+    policy_name_of name >>= (λ n. selector_in (slice_split is_comma selector) >>= (λ s. packet_of s >>= (λ good. Ok (notices.Acquire n good))))
+
+unfoldable pub acquire_in : List (List ℕ) → Result Notice LineFault
+acquire_in (name ∷ selector ∷ []) = acquire_of name selector
+acquire_in _ = Err faults.Count
+
+-- whether the soft limit or the hard one was reached
+abbrev pub soft_of : List ℕ → Result Bool LineFault
+soft_of w = if bytes_eq w (codes "soft") then Ok true else if bytes_eq w (codes "hard") then Ok false else Err faults.Word
+
+unfoldable pub expire_of : List ℕ → List ℕ → List ℕ → Result Notice LineFault
+expire_of name soft counts =
+    half_name_of name >>= (λ n. soft_of soft >>= (λ b. limits_of faults.Limits counts >>= (λ c. Ok (notices.Expire n b c))))
+
+unfoldable pub expire_in : List (List ℕ) → Result Notice LineFault
+expire_in (name ∷ soft ∷ counts ∷ []) = expire_of name soft counts
+expire_in _ = Err faults.Count
+
+unfoldable pub overflow_of : List ℕ → Result Notice LineFault
+overflow_of name = half_name_of name >>= (λ n. Ok (notices.SeqOverflow n))
+
+unfoldable pub overflow_in : List (List ℕ) → Result Notice LineFault
+overflow_in (name ∷ []) = overflow_of name
+overflow_in _ = Err faults.Count
+
+unfoldable pub bad_spi_in : List (List ℕ) → Result Notice LineFault
+bad_spi_in (spi ∷ []) = number_in faults.Number (2 ^ 32 - 1) spi >>= (λ n. Ok (notices.BadSpi n))
+bad_spi_in _ = Err faults.Count
+
+-- first the word that says what it is of, then the number of words after it, then these words
+unfoldable pub notice_of : List ℕ → List (List ℕ) → Result Notice LineFault
+notice_of w ws =
+    if bytes_eq w (codes "acquire") then acquire_in ws
+    else if bytes_eq w (codes "expire") then expire_in ws
+    else if bytes_eq w (codes "overflow") then overflow_in ws
+    else if bytes_eq w (codes "bad-spi") then bad_spi_in ws
+    else Err faults.Word
+
+unfoldable pub noticed_of : List Peer → List ℕ → List ℕ → List ℕ → List (List ℕ) → Result Noticed LineFault
+noticed_of gateways gateway session w ws =
+    known_of gateways gateway >>= (λ g. number_in faults.Number (2 ^ 32 - 1) session >>= (λ s. notice_of w ws >>= (λ n.
+    Ok (record { gateway = g; session = s; notice = n }))))
+
+-- a gateway, the number of its session, and a notice
+unfoldable pub noticed_in : List Peer → List (List ℕ) → Result Noticed LineFault
+noticed_in gateways (gateway ∷ session ∷ w ∷ ws) = noticed_of gateways gateway session w ws
+noticed_in gateways _ = Err faults.Count
