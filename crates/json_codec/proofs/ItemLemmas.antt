@@ -1,5 +1,5 @@
 -- Lists of values that are read one by one.
-use Rattle.std.proofs.Common.{◌≡◌, ◌<◌, ◌≤◌, ◌+◌, ℕ, List, [], ◌∷◌, ◌++◌, length, get_or, drop, Result, Ok, Err, refl, sym, ◌∙◌, ap, append_assoc, append-nil, arith, decimal}
+use Rattle.std.proofs.Common.{◌≡◌, ◌<◌, ◌≤◌, ◌+◌, ℕ, List, [], ◌∷◌, ◌++◌, length, get_or, drop, Option, Some, Result, Ok, Err, refl, sym, ◌∙◌, ap, append_assoc, append-nil, arith, decimal}
 use Rattle.std.proofs.lemmas.Grind.{common_steps}
 use Rattle.serde_json.specs.Data.{Data, Items, item, no_items}
 use Rattle.serde_json.specs.View.{view, items_view}
@@ -8,8 +8,9 @@ use Rattle.json_codec.specs.declared.fault.Fault.{Fault}
 use Rattle.ikl_base.specs.declared.fault.OrMemory.{OrMemory}
 use Rattle.ikl_base.specs.declared.fault.OrMemory.TheVariants as failures
 use Rattle.ikl_base.specs.Answers.{Refuses, Gives}
-use Rattle.json_codec.specs.Faults.{within, ◌>>=◌}
-use Rattle.json_codec.specs.Shapes.{each_item}
+use Rattle.json_codec.specs.declared.fault.Kind.TheVariants as kinds
+use Rattle.json_codec.specs.Faults.{here, within, ◌>>=◌}
+use Rattle.json_codec.specs.Shapes.{each_item, one_read}
 
 -- what was read before, and what is read of the rest
 abbrev pub onto : {A : Type 0} → List A → Result (List A) Fault → Result (List A) Fault
@@ -65,3 +66,9 @@ pub item-more : {A : Type 0} → (f : Data → Result A Fault) (front : List A) 
     onto (front ++ x ∷ []) (each_item f (i + 1) (items_view (drop (i + 1) vs))) ≡ whole
 item-more f front vs i v x whole inside is before read =
     sym (item-read f front vs i v x inside (ap (λ w. within (decimal i) (f (view w))) (sym is) ∙ read)) ∙ before
+
+-- a list of two items or more isn't a list of one
+pub one-of_many : {A : Type 0} → (f : Data → Result A Fault) (list : Option Items) (vs : List Value) → list ≡ Some (items_view vs) → 2 ≤ length vs → one_read f list ≡ Err (here kinds.Missing)
+one-of_many f list [] is long = absurd (omega arith)
+one-of_many f list (v ∷ []) is long = absurd (omega arith)
+one-of_many f list (v ∷ w ∷ vs) is long = ap (one_read f) is

@@ -5,3 +5,4 @@ pub mod Passed
 pub mod FlatRows
 pub mod Keyless
 pub mod ItemLemmas
+pub mod JsonText

@@ -174,8 +174,11 @@ name_where is_name t = if is_name t then Ok t else Err kinds.Name
 abbrev pub name_leaf : (List ℕ → Bool) → Option Data → Result (List ℕ) Kind
 name_leaf is_name leaf = needed_text leaf >>= name_where is_name
 
+abbrev pub octets_from : List ℕ → Result (List ℕ) Kind
+octets_from t = or_kind (hex_of t)
+
 abbrev pub octets_leaf : Option Data → Result (List ℕ) Kind
-octets_leaf leaf = needed_text leaf >>= (λ t. or_kind (hex_of t))
+octets_leaf leaf = needed_text leaf >>= octets_from
 
 abbrev pub keying : List ℕ → Result (List ℕ) Kind
 keying key = if is_key_length (length key) then Ok key else Err kinds.Range

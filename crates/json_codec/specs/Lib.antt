@@ -7,3 +7,7 @@ pub mod Selectors
 pub mod Written
 pub mod Associations
 pub mod Commands
+pub mod Policies
+pub mod Halves
+pub mod Operations
+pub mod Bodies

@@ -169,6 +169,24 @@ pub fn at_member<T: Drop>(
     }
 }
 
+/// What was read and copied of a member; it is the object that lacks an absent one.
+pub fn at_made<T: Drop>(
+    alloc: Global,
+    name: &[u8],
+    found: Result<T, OrMemory<Kind>>,
+) -> Result<T, OrMemory<Fault>>
+    ensures { (stated : Result T Kind) → Gives found stated → Gives result (at_member name.now stated) }
+{
+    match found {
+        Ok(x) => Ok(x),
+        Err(OrMemory::NoMemory) => Err(OrMemory::NoMemory),
+        Err(OrMemory::Refused(kind)) => match member_fault(alloc, name, kind) {
+            Ok(fault) => Err(OrMemory::Refused(fault)),
+            Err(NoMemory) => Err(OrMemory::NoMemory),
+        },
+    }
+}
+
 pub(crate) fn not_json() -> CodecFault
     ensures { result ≡ no_json }
 {

@@ -2,11 +2,16 @@
 #![tactic(auto)]
 
 mod associations;
+mod bodies;
 mod build;
 mod commands;
+mod entries;
 mod fault;
+mod halves;
 mod leaves;
 mod members;
+mod names;
+mod operations;
 mod policies;
 mod selectors;
 mod shapes;
@@ -15,6 +20,7 @@ mod tests;
 mod words;
 
 pub use associations::{counts_value, write_sad, write_sad_entry};
+pub use bodies::{read_command, read_sad_entry, read_spd, read_spd_entry};
 pub use build::{Members, put, put_count, put_text, put_wide, put_word, single, written};
 pub use commands::write_command;
 pub use fault::{CodecFault, Fault, Kind, at_member, within};
