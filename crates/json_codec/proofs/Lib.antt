@@ -12,3 +12,6 @@ pub mod PolicyLaws
 pub mod BodyLaws
 pub mod HalfLaws
 pub mod CommandLaws
+pub mod PolicyAgain
+pub mod HalfAgain
+pub mod CommandAgain

@@ -1,5 +1,5 @@
 -- Reads commands to the controller.
-use Rattle.std.specs.Prelude.{ℕ, ◌||◌, Bool, List, codes, Option, Some, None, Result, Ok, Err, if◌then◌else◌}
+use Rattle.std.specs.Prelude.{◌≡◌, ℕ, ◌||◌, Bool, true, List, codes, Option, Some, None, Result, Ok, Err, if◌then◌else◌}
 use Rattle.std.specs.Str.{bytes_eq}
 use Rattle.serde_json.specs.Data.{Data}
 use Rattle.serde_json.specs.Find.{get}
@@ -8,7 +8,7 @@ use Rattle.ikeless_tree.specs.declared.command.Command.{Command}
 use Rattle.ikeless_tree.specs.declared.command.Command.TheVariants as commands
 use Rattle.ikeless_tree.specs.declared.command.TunnelSpec.{TunnelSpec}
 use Rattle.ikeless_tree.specs.declared.reply.TreeFault.{TreeFault}
-use Rattle.ikeless_tree.specs.Check.{spd_fault}
+use Rattle.ikeless_tree.specs.Check.{is_window, spd_fault}
 use Rattle.json_codec.specs.declared.fault.Fault.{Fault}
 use Rattle.json_codec.specs.declared.operations.FirstEnd.{FirstEnd}
 use Rattle.json_codec.specs.declared.operations.SecondEnd.{SecondEnd}
@@ -22,6 +22,22 @@ use Rattle.json_codec.specs.Halves.{limits_of}
 
 abbrev pub is_operation : List ℕ → Bool
 is_operation op = bytes_eq op (codes "policy") || bytes_eq op (codes "tunnel") || bytes_eq op (codes "end") || bytes_eq op (codes "rekey") || bytes_eq op (codes "keys")
+
+-- the operation that gives this command
+abbrev pub operation_of : Command → List ℕ
+operation_of (commands.Policy gateway list) = codes "policy"
+operation_of (commands.Tunnel spec) = codes "tunnel"
+operation_of (commands.End reqid) = codes "end"
+operation_of (commands.Rekey reqid) = codes "rekey"
+operation_of (commands.Keys key) = codes "keys"
+
+-- the window of a tunnel is one
+abbrev pub HasWindow : Command → Type 0
+HasWindow (commands.Policy gateway list) = Unit {0}
+HasWindow (commands.Tunnel spec) = is_window spec.window ≡ true
+HasWindow (commands.End reqid) = Unit {0}
+HasWindow (commands.Rekey reqid) = Unit {0}
+HasWindow (commands.Keys key) = Unit {0}
 
 abbrev pub prefix_in : List ℕ → Data → Result Prefix Fault
 prefix_in name d = at_member name (prefix_leaf (get name d))

@@ -26,8 +26,9 @@ pub use build::{Members, put, put_count, put_text, put_wide, put_word, single, w
 pub use commands::write_command;
 pub use fault::{CodecFault, Fault, Kind, at_member, within};
 pub use laws::{
-    commands_are_accepted, one_association_is_accepted, one_policy_is_accepted,
-    policies_are_accepted,
+    commands_are_accepted, commands_read_again, one_association_is_accepted,
+    one_association_reads_again, one_policy_is_accepted, one_policy_reads_again,
+    policies_are_accepted, policies_read_again,
 };
 pub use leaves::{number_of, text_of};
 pub use policies::{selector_value, write_spd, write_spd_entry};
