@@ -4,3 +4,14 @@ pub mod Lists
 pub mod Passed
 pub mod FlatRows
 pub mod Keyless
+pub mod ItemLemmas
+pub mod JsonText
+pub mod LeafLaws
+pub mod ShapeLaws
+pub mod PolicyLaws
+pub mod BodyLaws
+pub mod HalfLaws
+pub mod CommandLaws
+pub mod PolicyAgain
+pub mod HalfAgain
+pub mod CommandAgain

@@ -19,11 +19,11 @@ pub no_fault : (b : Bool) (x : TreeFault) (rest : Option TreeFault) → (if b th
 no_fault true x rest h = absurd (let e : ⊥ = cc in e)
 no_fault false x rest h = (refl, h)
 
-first_none : (a b : Option TreeFault) → first_of a b ≡ None → (a ≡ None) × (b ≡ None)
+pub first_none : (a b : Option TreeFault) → first_of a b ≡ None → (a ≡ None) × (b ≡ None)
 first_none None b h = (refl, h)
 first_none (Some x) b h = absurd (let e : ⊥ = cc in e)
 
-holds : (b : Bool) → not b ≡ false → b ≡ true
+pub holds : (b : Bool) → not b ≡ false → b ≡ true
 holds true h = refl
 holds false h = cc
 
