@@ -1,0 +1,12 @@
+//! HTTP/1.1 messages over octets (RFC 9112), read in any pieces and written.
+#![tactic(auto)]
+
+mod advance;
+mod feeder;
+mod head;
+mod message;
+mod place;
+mod values;
+
+pub use feeder::{Fed, Feeder};
+pub use message::{HttpFault, HttpMessage, Kind};
