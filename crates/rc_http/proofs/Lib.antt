@@ -5,3 +5,4 @@ pub mod FieldLemmas
 pub mod LookLemmas
 pub mod AdvanceLemmas
 pub mod FeedLemmas
+pub mod WriteLemmas

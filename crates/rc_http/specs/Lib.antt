@@ -5,3 +5,4 @@ pub mod Feeding
 pub mod Places
 pub mod Parts
 pub mod Stages
+pub mod Written

@@ -7,6 +7,8 @@ mod head;
 mod message;
 mod place;
 mod values;
+mod write;
 
 pub use feeder::{Fed, Feeder};
 pub use message::{HttpFault, HttpMessage, Kind};
+pub use write::{write_request, write_response};
