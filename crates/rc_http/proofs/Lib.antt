@@ -6,3 +6,6 @@ pub mod LookLemmas
 pub mod AdvanceLemmas
 pub mod FeedLemmas
 pub mod WriteLemmas
+pub mod WholeLemmas
+pub mod AgainLemmas
+pub mod AnswerLemmas

@@ -13,7 +13,7 @@ shift_none None = refl
 shift_none (Some k) = let e : 0 + k ≡ k = omega arith in ap Some e
 
 -- the same of a length that is counted from one octet before
-shift_more : (i : ℕ) (o : Option ℕ) → option_map suc (option_map (λ k. i + k) o) ≡ option_map (λ k. suc i + k) o
+pub shift_more : (i : ℕ) (o : Option ℕ) → option_map suc (option_map (λ k. i + k) o) ≡ option_map (λ k. suc i + k) o
 shift_more i None = refl
 shift_more i (Some k) = let e : suc (i + k) ≡ suc i + k = omega arith in ap Some e
 

@@ -61,19 +61,21 @@ request_head m = head_text (request_line m) (request_fields m)
 abbrev pub request_text : HttpMessage → List ℕ
 request_text m = request_head m ++ m.body
 
--- the codes that a response may have here, each with its reason phrase (RFC 9110 section 15)
+-- of this project: the codes that a response may have, each as it is written with its reason phrase (RFC 9110
+-- section 15)
+abbrev pub statuses : List (ℕ × List ℕ)
+statuses =
+    (200, codes "200 OK") ∷ (201, codes "201 Created") ∷ (204, codes "204 No Content") ∷ (400, codes "400 Bad Request")
+    ∷ (404, codes "404 Not Found") ∷ (405, codes "405 Method Not Allowed") ∷ (409, codes "409 Conflict")
+    ∷ (413, codes "413 Content Too Large") ∷ (501, codes "501 Not Implemented") ∷ []
+
+-- the text beside a number
+abbrev pub text_at : ℕ → List (ℕ × List ℕ) → Option (List ℕ)
+text_at n [] = None
+text_at n (row ∷ rows) = if n == row.0 then Some row.1 else text_at n rows
+
 abbrev pub status_text : ℕ → Option (List ℕ)
-status_text n =
-    if n == 200 then Some (codes "200 OK")
-    else if n == 201 then Some (codes "201 Created")
-    else if n == 204 then Some (codes "204 No Content")
-    else if n == 400 then Some (codes "400 Bad Request")
-    else if n == 404 then Some (codes "404 Not Found")
-    else if n == 405 then Some (codes "405 Method Not Allowed")
-    else if n == 409 then Some (codes "409 Conflict")
-    else if n == 413 then Some (codes "413 Content Too Large")
-    else if n == 501 then Some (codes "501 Not Implemented")
-    else None
+status_text n = text_at n statuses
 
 abbrev pub text_or_none : Option (List ℕ) → List ℕ
 text_or_none None = []

@@ -2,7 +2,7 @@
 ghost use Rattle.std.specs.Prelude.{◌≡◌, ◌∷◌, ◌++◌, ℕ, List, length, IfOk, OnOk, IsSome, flat_map};
 ghost use Rattle.rc_http.specs.declared.message.Kind.TheVariants.{Request, Response};
 ghost use Rattle.rc_http.specs.Looks.{Looks, Gives};
-ghost use Rattle.rc_http.specs.Written.{crlf, field_line, length_names, lines, named, own_names, request_line, request_names, request_text, response_names, response_text, status_text, text_or_none, type_names, value_in, IsWritableRequest, IsWritableResponse};
+ghost use Rattle.rc_http.specs.Written.{field_line, length_names, lines, named, own_names, request_again, request_line, request_names, request_text, response_again, response_names, response_text, status_line, status_text, text_or_none, type_names, value_in, IsWritableRequest, IsWritableResponse};
 
 use crate::message::HttpMessage;
 use http_header::{HeaderMap, HeaderValue};
@@ -57,18 +57,27 @@ fn put_request_line(out: &mut Vec<u8>, m: &HttpMessage) -> Result<(), NoMemory>
     put(out, b" HTTP/1.1")
 }
 
+fn put_request(out: &mut Vec<u8>, m: &HttpMessage) -> Result<(), NoMemory>
+    ensures { OnOk result (out.new.items ≡ out.old.items ++ request_text m.now) }
+{
+    put_request_line(out, m)?;
+    put(out, b"\r\n")?;
+    put_request_lines(out, m)?;
+    put(out, b"\r\n")?;
+    put(out, m.body.as_slice())
+}
+
 /// The text of a request: method, target and version, then the fields Host and, with a body, Content-Type and
 /// Content-Length, then the body.
+///
+/// It is read again as this request, whatever follows it.
 pub fn write_request(alloc: Global, m: &HttpMessage) -> Result<Octets, NoMemory>
     requires { IsWritableRequest m.now }
     ensures text { IfOk result (λ text. text ≡ request_text m.now) }
+    ensures again { IfOk result (λ text. (rest : List ℕ) → Looks Request (text ++ rest) (Gives (request_again m.now) (length text))) }
 {
     let mut out = Vec::new(alloc);
-    put_request_line(&mut out, m)?;
-    put(&mut out, b"\r\n")?;
-    put_request_lines(&mut out, m)?;
-    put(&mut out, b"\r\n")?;
-    put(&mut out, m.body.as_slice())?;
+    put_request(&mut out, m)?;
     Ok(Octets::from_items(out))
 }
 
@@ -88,6 +97,13 @@ fn reason_of(status: u16) -> &'static [u8]
         501 => b"501 Not Implemented",
         _ => b"",
     }
+}
+
+fn put_status_line(out: &mut Vec<u8>, status: u16) -> Result<(), NoMemory>
+    ensures { OnOk result (out.new.items ≡ out.old.items ++ status_line status) }
+{
+    put(out, b"HTTP/1.1 ")?;
+    put(out, reason_of(status))
 }
 
 fn put_length_line(out: &mut Vec<u8>, m: &HttpMessage) -> Result<(), NoMemory>
@@ -129,18 +145,26 @@ fn put_response_lines(out: &mut Vec<u8>, m: &HttpMessage) -> Result<(), NoMemory
     put_own_line(out, m)
 }
 
+fn put_response(out: &mut Vec<u8>, m: &HttpMessage) -> Result<(), NoMemory>
+    ensures { OnOk result (out.new.items ≡ out.old.items ++ response_text m.now) }
+{
+    put_status_line(out, m.status)?;
+    put(out, b"\r\n")?;
+    put_response_lines(out, m)?;
+    put(out, b"\r\n")?;
+    put(out, m.body.as_slice())
+}
+
 /// The text of a response: version, status and reason phrase, then the fields Content-Length unless the status is
 /// 204, Content-Type with a body, Location with the status 201 and Allow with 405, then the body.
+///
+/// It is read again as this response, whatever follows it.
 pub fn write_response(alloc: Global, m: &HttpMessage) -> Result<Octets, NoMemory>
     requires { IsWritableResponse m.now }
     ensures text { IfOk result (λ text. text ≡ response_text m.now) }
+    ensures again { IfOk result (λ text. (rest : List ℕ) → Looks Response (text ++ rest) (Gives (response_again m.now) (length text))) }
 {
     let mut out = Vec::new(alloc);
-    put(&mut out, b"HTTP/1.1 ")?;
-    put(&mut out, reason_of(m.status))?;
-    put(&mut out, b"\r\n")?;
-    put_response_lines(&mut out, m)?;
-    put(&mut out, b"\r\n")?;
-    put(&mut out, m.body.as_slice())?;
+    put_response(&mut out, m)?;
     Ok(Octets::from_items(out))
 }
