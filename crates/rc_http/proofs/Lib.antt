@@ -9,3 +9,4 @@ pub mod WriteLemmas
 pub mod WholeLemmas
 pub mod AgainLemmas
 pub mod AnswerLemmas
+pub mod StreamLemmas

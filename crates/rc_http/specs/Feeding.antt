@@ -1,8 +1,9 @@
 -- A Feeder as contracts see it, and what a call on it gives.
-use Rattle.std.specs.Prelude.{◌≡◌, ℕ, ◌+◌, ◌≤◌, List, [], ◌++◌, length, Option, Some, None, Result, Ok, Err}
+use Rattle.std.specs.Prelude.{◌≡◌, ℕ, ◌+◌, ◌≤◌, List, [], ◌∷◌, ◌++◌, length, take, drop, Option, Some, None, Result, Ok, Err}
 use Rattle.ikl_base.specs.declared.fault.OrMemory.{OrMemory}
 use Rattle.ikl_base.specs.declared.fault.OrMemory.TheVariants.{Refused, NoMemory}
 use Rattle.rc_http.specs.declared.message.HttpFault.{HttpFault}
+use Rattle.rc_http.specs.declared.message.HttpMessage.{HttpMessage}
 use Rattle.rc_http.specs.declared.message.Kind.{Kind}
 use Rattle.rc_http.specs.declared.feeder.Fed.{Fed}
 use Rattle.rc_http.specs.declared.feeder.Fed.TheVariants.{NoneYet, Whole}
@@ -34,3 +35,17 @@ FeedGives kind since piece after (Ok (Whole message taken)) =
 FeedGives kind since piece after (Err (Refused fault)) =
     Looks kind (since ++ piece) (Fails fault) × IsSince after (since ++ piece)
 FeedGives kind since piece after (Err NoMemory) = Unit {0}
+
+-- the Feeder was fed these octets since it was made, and gave these messages of them, in order
+abbrev pub HasRead : Feeding → List ℕ → List HttpMessage → Type 0
+HasRead f octets [] = IsSince f octets
+HasRead f octets (message ∷ messages) =
+    (n : ℕ) × Looks f.kind octets (Gives message n) × HasRead f (drop n octets) messages
+
+-- the same after one piece more
+abbrev pub ReadsOn : Feeding → List ℕ → List HttpMessage → List ℕ → Result Fed (OrMemory HttpFault) → Type 0
+ReadsOn after octets messages piece (Ok NoneYet) = HasRead after (octets ++ piece) messages
+ReadsOn after octets messages piece (Ok (Whole message taken)) =
+    HasRead after (octets ++ take taken piece) (messages ++ message ∷ [])
+ReadsOn after octets messages piece (Err (Refused fault)) = HasRead after (octets ++ piece) messages
+ReadsOn after octets messages piece (Err NoMemory) = Unit {0}

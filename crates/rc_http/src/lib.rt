@@ -11,6 +11,9 @@ mod values;
 mod write;
 
 pub use feeder::{Fed, Feeder};
-pub use laws::heads_are_whole;
+pub use laws::{
+    cuts_make_no_difference, first_found_stays, fresh_has_read_nothing, heads_are_whole,
+    messages_are_whole, octets_amount_to_one_thing, pieces_join,
+};
 pub use message::{HttpFault, HttpMessage, Kind};
 pub use write::{write_request, write_response};
