@@ -10,3 +10,4 @@ pub mod WholeLemmas
 pub mod AgainLemmas
 pub mod AnswerLemmas
 pub mod StreamLemmas
+pub mod SampleLemmas

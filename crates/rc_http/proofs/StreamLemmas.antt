@@ -84,7 +84,7 @@ gives_from : (kind : Kind) (xs : List ℕ) (m : HttpMessage) (n : ℕ) → IsGiv
 gives_from kind xs m n g =
     let test : nat_le (g.head + g.len) (length xs) ≡ true = le_true (g.head + g.len) (length xs) (omega (arith, g.fits, g.whole)) in
     let is : with_body xs g.head g.parts (body_len kind g.parts) ≡ Gives (message_of g.parts (take g.len (drop g.head xs))) (g.head + g.len) =
-      rw (g.len_is, test) refl in
+    rw (g.len_is, test) refl in
     let same : Gives m n ≡ Gives (message_of g.parts (take g.len (drop g.head xs))) (g.head + g.len) = cc (g.message, g.whole) in
     looks_after kind xs (Gives m n) g.head g.head_is g.short (inl (g.parts, g.reads, same ∙ sym is))
 
@@ -94,7 +94,7 @@ module _ (kind : Kind) (xs : List ℕ) (m : HttpMessage) (n : ℕ) (g : IsGiven 
   front_head : (k : ℕ) → g.head ≤ k → k ≤ length xs → (head_len (take k xs) ≡ Some g.head) × (take g.head (take k xs) ≡ take g.head xs)
   front_head k le fits =
       let same : take g.head (take k xs) ≡ take g.head xs =
-        sym (take-append-le g.head (take k xs) (drop k xs) (omega (arith, le, length-take-le k xs fits))) ∙ ap (take g.head) (take-append-drop k xs) in
+      sym (take-append-le g.head (take k xs) (drop k xs) (omega (arith, le, length-take-le k xs fits))) ∙ ap (take g.head) (take-append-drop k xs) in
       let whole : head_len (take g.head (take k xs)) ≡ Some g.head = ap head_len same ∙ head_front g.head xs g.head_is in
       let all = head_kept g.head (take g.head (take k xs)) (drop g.head (take k xs)) whole in
       (ap head_len (sym (take-append-drop g.head (take k xs))) ∙ all.0, same)
@@ -103,9 +103,9 @@ module _ (kind : Kind) (xs : List ℕ) (m : HttpMessage) (n : ℕ) (g : IsGiven 
   front_body =
       let long : length (take n xs) ≡ n = length-take-le n xs g.fits in
       let cut : drop g.head xs ≡ drop g.head (take n xs) ++ drop n xs =
-        ap (drop g.head) (sym (take-append-drop n xs)) ∙ drop-append-le g.head (take n xs) (drop n xs) (omega (arith, long, g.whole)) in
+      ap (drop g.head) (sym (take-append-drop n xs)) ∙ drop-append-le g.head (take n xs) (drop n xs) (omega (arith, long, g.whole)) in
       sym (ap (take g.len) cut ∙ take-append-le g.len (drop g.head (take n xs)) (drop n xs)
-        (omega (arith, long, g.whole, length-drop g.head (take n xs))))
+      (omega (arith, long, g.whole, length-drop g.head (take n xs))))
 
   pub front_given : IsGiven kind (take n xs) m n
   front_given =
@@ -142,7 +142,7 @@ part_by kind xs m n k g lt true t =
     let le : g.head ≤ k = grind (arith, t) in
     let f = front_head kind xs m n g k le (omega (arith, lt, g.fits)) in
     let test : nat_le (g.head + g.len) (length (take k xs)) ≡ false =
-      le_false (g.head + g.len) (length (take k xs)) (omega (arith, lt, g.whole, g.fits, length-take-le k xs (omega (arith, lt, g.fits)))) in
+    le_false (g.head + g.len) (length (take k xs)) (omega (arith, lt, g.whole, g.fits, length-take-le k xs (omega (arith, lt, g.fits)))) in
     let is : with_body (take k xs) g.head g.parts (body_len kind g.parts) ≡ Waits = rw (g.len_is, test) refl in
     looks_after kind (take k xs) Waits g.head f.0 g.short (inl (g.parts, subst (λ l. Reads kind l g.parts) (sym f.1) g.reads, sym is))
 part_by kind xs m n k g lt false t =
@@ -170,11 +170,11 @@ reads_more f after octets more [] extra same step x = step octets x
 reads_more f after octets more (m ∷ messages) extra same step x =
     let n = x.0 in
     let g = given f.kind octets m x.0 x.1 in
-    let kept = looks_kept f.kind octets more (Gives m x.0) (gives_waits m x.0) x.1 in
-    ( x.0
-    , subst (λ k. Looks k (octets ++ more) (Gives m x.0)) (sym same) kept
-    , subst (λ l. HasRead after l (messages ++ extra)) (sym (drop-append-le x.0 octets more g.fits))
-        (reads_more f after (drop x.0 octets) more messages extra same step x.2)
+    let kept = looks_kept f.kind octets more (Gives m x.0) (gives_waits m x.0) x.1 in (
+      x.0,
+      subst (λ k. Looks k (octets ++ more) (Gives m x.0)) (sym same) kept,
+      subst (λ l. HasRead after l (messages ++ extra)) (sym (drop-append-le x.0 octets more g.fits))
+          (reads_more f after (drop x.0 octets) more messages extra same step x.2),
     )
 
 reads_same : (f after : Feeding) (octets piece : List ℕ) (messages : List HttpMessage) → after.kind ≡ f.kind
@@ -197,13 +197,13 @@ whole_next f after piece since m taken same x =
     let cut : take (length since + taken) (since ++ piece) ≡ since ++ take taken piece = take_after since piece taken in
     let front = front_gives f.kind (since ++ piece) m (length since + taken) x.1 in
     let looks : Looks f.kind (since ++ take taken piece) (Gives m (length since + taken)) =
-      subst (λ l. Looks f.kind l (Gives m (length since + taken))) cut front in
+    subst (λ l. Looks f.kind l (Gives m (length since + taken))) cut front in
     let none : drop (length since + taken) (since ++ take taken piece) ≡ [] =
-      drop_all (length since + taken) (since ++ take taken piece)
-        (omega (arith, length-append since (take taken piece), length-take-le taken piece x.0)) in
-    ( length since + taken
-    , subst (λ k. Looks k (since ++ take taken piece) (Gives m (length since + taken))) (sym same) looks
-    , subst (λ l. IsSince after l) (sym none) (subst (λ g. IsSince g []) (sym x.2) (fresh_since f.kind))
+    drop_all (length since + taken) (since ++ take taken piece)
+    (omega (arith, length-append since (take taken piece), length-take-le taken piece x.0)) in (
+      length since + taken,
+      subst (λ k. Looks k (since ++ take taken piece) (Gives m (length since + taken))) (sym same) looks,
+      subst (λ l. IsSince after l) (sym none) (subst (λ g. IsSince g []) (sym x.2) (fresh_since f.kind)),
     )
 
 pub pieces : (f after : Feeding) (octets piece : List ℕ) (messages : List HttpMessage) (result : Result Fed (OrMemory HttpFault))
@@ -235,7 +235,7 @@ cuts f g octets [] (b ∷ ys) same x y = absurd (since_gives f g.kind octets b y
 cuts f g octets (a ∷ xs) [] same x y = absurd (since_gives g f.kind octets a x.0 (sym same) y x.1)
 cuts f g octets (a ∷ xs) (b ∷ ys) same x y =
     let one : Gives a x.0 ≡ Gives b y.0 =
-      looks_unique f.kind octets (Gives a x.0) (Gives b y.0) x.1 (subst (λ k. Looks k octets (Gives b y.0)) (sym same) y.1) in
+    looks_unique f.kind octets (Gives a x.0) (Gives b y.0) x.1 (subst (λ k. Looks k octets (Gives b y.0)) (sym same) y.1) in
     let first : a ≡ b = cc in
     let long : x.0 ≡ y.0 = cc in
     let rest = cuts f g (drop x.0 octets) xs ys same x.2 (subst (λ k. HasRead g (drop k octets) ys) (sym long) y.2) in

@@ -7,6 +7,8 @@ mod head;
 mod laws;
 mod message;
 mod place;
+#[cfg(test)]
+mod tests;
 mod values;
 mod write;
 
