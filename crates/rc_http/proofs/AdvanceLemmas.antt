@@ -1,7 +1,6 @@
 -- One piece more of a message.
 use Rattle.std.proofs.Common.{◌≡◌, ◌≢◌, ℕ, ◌+◌, ◌-◌, ◌<◌, ◌≤◌, List, [], ◌++◌, length, take, drop, nat_le, true, false, Some, Ok, Err, refl, sym, ap, ◌∙◌, arith, subst, inl, inr, length-append, length-drop, append_assoc, option_map}
 use Rattle.std.proofs.lemmas.List.{take-append-le, take-append-drop, take_all, length-take-le}
-use Rattle.rc_http.specs.declared.advance.Stage.{Stage}
 use Rattle.rc_http.specs.declared.message.HttpFault.{HttpFault}
 use Rattle.rc_http.specs.declared.message.HttpFault.TheVariants as faults
 use Rattle.rc_http.specs.declared.message.HttpMessage.{HttpMessage}
@@ -13,7 +12,7 @@ use Rattle.rc_http.specs.Heads.{Head, Reads, body_len, message_of}
 use Rattle.rc_http.specs.Looks.{Waits, Fails, Gives, Looks, LooksAfter, with_body}
 use Rattle.rc_http.specs.Parts.{LengthIs}
 use Rattle.rc_http.specs.Places.{place_after, len_from}
-use Rattle.rc_http.specs.Stages.{IsHeadStage, IsBodyStage, IsEndStage, IsStage}
+use Rattle.rc_http.specs.Stages.{IsHeadStage, IsBodyStage, IsEndStage}
 use Rattle.rc_http.proofs.EndLemmas.{head_kept, head_later, head_open}
 use Rattle.rc_http.proofs.LookLemmas.{looks_after, looks_late, looks_long, looks_open, looks_kept, reads_unique, le_true, le_false}
 use Rattle.rc_http.proofs.PlaceLemmas.{place_append, len_front, len_kept}

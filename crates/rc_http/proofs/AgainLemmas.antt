@@ -1,18 +1,18 @@
 -- A message that was written is read again, whatever follows.
-use Rattle.std.proofs.Common.{◌≡◌, ◌≢◌, ◌==◌, ◌&&◌, not, codes, ℕ, suc, ◌+◌, ◌^◌, ◌<◌, ◌≤◌, nat_le, nat_lt, List, [], ◌∷◌, ◌++◌, map, length, take, drop, reverse, Option, Some, None, Ok, Bool, true, false, IsTrue, refl, sym, ap, ◌∙◌, arith, subst, append_assoc, length-append, All, IsUtf8, inl, inr, if◌then◌else◌}
+use Rattle.std.proofs.Common.{◌≡◌, ◌==◌, ◌&&◌, codes, ℕ, ◌+◌, ◌^◌, ◌<◌, ◌≤◌, nat_le, nat_lt, List, [], ◌∷◌, ◌++◌, map, length, take, drop, reverse, Some, Ok, Bool, true, false, IsTrue, refl, sym, ap, ◌∙◌, arith, subst, append_assoc, length-append, All, IsUtf8, inl}
 use Rattle.std.specs.List.{list_all, list_any, flat_map}
 use Rattle.std.specs.Char.{is_ascii_digit, is_ascii_uppercase, is_ascii_alphanumeric}
 use Rattle.std.specs.Fmt.{decimal}
 use Rattle.std.specs.Str.Parse.{digits_value}
 use Rattle.std.proofs.Math.Seq.{take-append_seam, drop-append_seam}
-use Rattle.std.proofs.lemmas.List.{map-append, append-nil}
-use Rattle.std.proofs.lemmas.List.Elements.{All-nil, All-head, All-tail, All-cons, All-append, All-weaker, All-map}
+use Rattle.std.proofs.lemmas.List.{append-nil}
+use Rattle.std.proofs.lemmas.List.Elements.{All-nil, All-head, All-tail, All-cons, All-weaker, All-map}
 use Rattle.std.proofs.lemmas.Fmt.{digits_decimal, digits_value-decimal, decimal_nonempty, length-decimal-le}
 use Rattle.std.proofs.lemmas.Str.Ascii.{IsAscii-from_all}
 use Rattle.std.proofs.lemmas.Str.{IsUtf8-from_ascii}
 use Rattle.httparse.proofs.TrimLemmas.{AllPass-reverse, trim_ows_space}
 use Rattle.httparse.proofs.GrammarLemmas.{cons-append}
-use Rattle.httparse.specs.Grammar.{LineEnd, crlf, is_token_byte, is_value_byte, is_uri_byte, is_token, IsToken, AllPass, skip_ows, is_ows, trim_ows, Field, IsField, field_value, print_field, print_section, RequestHead, IsRequestHead, print_request, ResponseHead, IsResponseHead, print_response}
+use Rattle.httparse.specs.Grammar.{crlf, is_token_byte, is_value_byte, is_uri_byte, is_token, IsToken, AllPass, skip_ows, is_ows, trim_ows, Field, IsField, print_field, RequestHead, IsRequestHead, print_request}
 use Rattle.httparse.specs.Spans.{name_and_value}
 use Rattle.http_header.specs.FieldValue.{FieldValue}
 use Rattle.http_header.specs.HeaderMap.{Entries}
@@ -20,13 +20,13 @@ use Rattle.rc_http.specs.declared.message.HttpMessage.{HttpMessage}
 use Rattle.rc_http.specs.declared.message.Kind.{Kind}
 use Rattle.rc_http.specs.declared.message.Kind.TheVariants.{Request, Response}
 use Rattle.rc_http.specs.HeadEnd.{head_len}
-use Rattle.rc_http.specs.Heads.{Head, Reads, body_len, len_of, len_without, len_by, stated_len, values_of, message_of, most_body, of_request, of_response, fields_map}
+use Rattle.rc_http.specs.Heads.{Head, Reads, body_len, len_without, len_by, stated_len, values_of, message_of, most_body, of_request, fields_map}
 use Rattle.rc_http.specs.Looks.{Looks, Gives, with_body}
 use Rattle.rc_http.specs.Written as written
 use Rattle.rc_http.specs.Written.{named, value_in, is_value, is_unspaced, field_line, lines, head_text, request_names, request_fields, request_head, request_text, request_again, IsWritableRequest, TellsBody}
 use Rattle.rc_http.proofs.LookLemmas.{looks_after, le_true}
-use Rattle.rc_http.proofs.ValueLemmas.{decimal_model, len_known, values_append}
-use Rattle.rc_http.proofs.WholeLemmas.{whole_request, whole_response}
+use Rattle.rc_http.proofs.ValueLemmas.{decimal_model, len_known}
+use Rattle.rc_http.proofs.WholeLemmas.{whole_request}
 
 -- ---- the length of the body
 

@@ -1,18 +1,16 @@
 -- A response that was written is read again, whatever follows.
-use Rattle.std.proofs.Common.{◌≡◌, ◌≢◌, ◌==◌, ◌&&◌, not, codes, ℕ, suc, ◌+◌, ◌<◌, ◌≤◌, List, [], ◌∷◌, ◌++◌, map, length, take, drop, Option, Some, None, Ok, Bool, true, false, IsTrue, IsSome, refl, sym, ap, ◌∙◌, arith, subst, append_assoc, length-append, bytes_eq, if◌then◌else◌}
-use Rattle.std.specs.List.{list_all, flat_map}
+use Rattle.std.proofs.Common.{◌≡◌, ◌≢◌, ◌==◌, ◌&&◌, codes, ℕ, ◌≤◌, List, [], ◌∷◌, ◌++◌, map, length, take, drop, Option, Some, None, Ok, Bool, true, false, IsSome, refl, sym, ap, ◌∙◌, arith, subst, append_assoc, length-append, bytes_eq, if◌then◌else◌}
+use Rattle.std.specs.List.{list_all}
 use Rattle.std.specs.Char.{is_ascii_digit}
 use Rattle.std.specs.Str.Parse.{digits_value}
 use Rattle.std.proofs.lemmas.List.{map-append, append-nil, length-map}
 use Rattle.std.proofs.lemmas.List.Folds.{list_all-append}
 use Rattle.std.proofs.lemmas.Slice.Eq.{bytes_eq-Decides}
-use Rattle.httparse.proofs.GrammarLemmas.{cons-append}
-use Rattle.httparse.specs.Grammar.{crlf, is_token_byte, is_value_byte, is_token, AllPass, print_field, ResponseHead, IsResponseHead, print_response}
-use Rattle.httparse.specs.Spans.{name_and_value}
+use Rattle.httparse.specs.Grammar.{crlf, is_token_byte, is_value_byte, is_token, AllPass, ResponseHead, IsResponseHead, print_response}
 use Rattle.http_header.specs.FieldValue.{FieldValue}
 use Rattle.http_header.specs.HeaderMap.{Entries}
 use Rattle.rc_http.specs.declared.message.HttpMessage.{HttpMessage}
-use Rattle.rc_http.specs.declared.message.Kind.TheVariants.{Request, Response}
+use Rattle.rc_http.specs.declared.message.Kind.TheVariants.{Response}
 use Rattle.rc_http.specs.HeadEnd.{head_len}
 use Rattle.rc_http.specs.Heads.{Head, Reads, body_len, len_without, len_by, stated_len, values_of, message_of, most_body, of_response, fields_map}
 use Rattle.rc_http.specs.Looks.{Looks, Gives}

@@ -1,12 +1,12 @@
 -- Two messages that can be written.
-use Rattle.std.proofs.Common.{◌≡◌, ◌≢◌, ℕ, ◌<◌, ◌≤◌, List, [], ◌∷◌, length, codes, refl, sym, arith, subst}
+use Rattle.std.proofs.Common.{◌≡◌, ℕ, List, [], codes, refl, sym, arith, subst}
 use Rattle.std.specs.Fmt.{decimal}
 use Rattle.std.proofs.lemmas.Fmt.{decimal-digits_value}
 use Rattle.http_header.specs.FieldValue.{FieldValue, plain_value}
 use Rattle.http_header.specs.HeaderMap.{Entries, append}
 use Rattle.http_header.specs.Token.{lowercase}
 use Rattle.rc_http.specs.declared.message.HttpMessage.{HttpMessage}
-use Rattle.rc_http.specs.Written.{IsWritableRequest, IsWritableResponse, TellsBody}
+use Rattle.rc_http.specs.Written.{IsWritableRequest, IsWritableResponse}
 use Rattle.rc_http.proofs.FieldLemmas.{message}
 use Rattle.rc_http.proofs.ValueLemmas.{decimal_model}
 

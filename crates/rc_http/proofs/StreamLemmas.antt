@@ -1,5 +1,5 @@
 -- Octets that come in pieces: the messages of them are the same however they are cut.
-use Rattle.std.proofs.Common.{◌≡◌, ◌≢◌, ℕ, suc, ◌+◌, ◌-◌, ◌<◌, ◌≤◌, List, [], ◌∷◌, ◌++◌, length, take, drop, nat_le, nat_lt, Bool, true, false, Option, Some, None, Result, Ok, Err, refl, sym, ap, ◌∙◌, arith, subst, ◌⊎◌, inl, inr, length-append, length-drop, append_assoc, if◌then◌else◌}
+use Rattle.std.proofs.Common.{◌≡◌, ◌≢◌, ℕ, suc, ◌+◌, ◌<◌, ◌≤◌, List, [], ◌∷◌, ◌++◌, length, take, drop, nat_le, nat_lt, Bool, true, false, Option, Some, None, Result, Ok, Err, refl, sym, ap, ◌∙◌, arith, subst, inl, inr, length-append, length-drop, if◌then◌else◌}
 use Rattle.std.proofs.lemmas.List.{take-append-le, take-append-drop, drop-append-le, length-take, length-take-le, append-nil, drop_all}
 use Rattle.ikl_base.specs.declared.fault.OrMemory.{OrMemory}
 use Rattle.ikl_base.specs.declared.fault.OrMemory.TheVariants.{Refused, NoMemory}
@@ -11,7 +11,7 @@ use Rattle.rc_http.specs.declared.message.HttpMessage.{HttpMessage}
 use Rattle.rc_http.specs.declared.message.Kind.{Kind}
 use Rattle.rc_http.specs.HeadEnd.{head_len}
 use Rattle.rc_http.specs.Heads.{Head, Reads, body_len, message_of}
-use Rattle.rc_http.specs.Looks.{Looked, Waits, Fails, Gives, Looks, LooksBy, LooksWithin, LooksAfter, with_body, most_head}
+use Rattle.rc_http.specs.Looks.{Waits, Fails, Gives, Looks, LooksBy, LooksWithin, LooksAfter, with_body, most_head}
 use Rattle.rc_http.specs.Feeding.{Feeding, fresh, IsSince, IsSinceBy, FeedGives, HasRead, ReadsOn}
 use Rattle.rc_http.proofs.EndLemmas.{head_kept, head_front}
 use Rattle.rc_http.proofs.LookLemmas.{looks_after, looks_open, looks_kept, looks_unique, le_true, le_false}

@@ -1,12 +1,12 @@
 -- A head that `httparse` reads is whole where `head_len` says, whatever follows.
-use Rattle.std.proofs.Common.{◌≡◌, ◌≢◌, ◌==◌, not, codes, ℕ, suc, ◌+◌, ◌<◌, ◌≤◌, List, [], ◌∷◌, ◌++◌, map, length, Option, Some, None, Bool, true, false, IsTrue, refl, sym, ap, ◌∙◌, arith, subst, append_assoc, length-append, option_map, All}
+use Rattle.std.proofs.Common.{◌≡◌, ◌≢◌, ◌==◌, not, codes, ℕ, suc, ◌+◌, List, [], ◌∷◌, ◌++◌, length, Option, Some, None, true, IsTrue, refl, sym, ap, ◌∙◌, arith, subst, append_assoc, length-append, option_map, All}
 use Rattle.std.specs.Option.{option_or}
 use Rattle.std.specs.List.{list_all}
 use Rattle.std.specs.Char.{is_ascii_digit}
 use Rattle.std.proofs.lemmas.List.Elements.{All-nil, All-head, All-tail, All-cons, All-append, All-weaker}
-use Rattle.httparse.specs.Grammar.{LineEnd, crlf, lf, print_end, print_blank, print_version, print_field, print_section, print_request, print_response, print_reason, reason_phrase, Field, IsField, RequestHead, IsRequestHead, ResponseHead, IsResponseHead, is_token_byte, is_value_byte, is_uri_byte, IsToken, AllPass}
+use Rattle.httparse.specs.Grammar.{LineEnd, crlf, lf, print_end, print_blank, print_version, print_section, print_request, print_response, print_reason, reason_phrase, Field, IsField, RequestHead, IsRequestHead, ResponseHead, IsResponseHead, is_token_byte, is_value_byte, is_uri_byte, IsToken, AllPass}
 use Rattle.httparse.proofs.GrammarLemmas.{cons-append}
-use Rattle.rc_http.specs.HeadEnd.{feed_len, empty_line_len, text_len, head_len}
+use Rattle.rc_http.specs.HeadEnd.{empty_line_len, text_len, head_len}
 use Rattle.rc_http.proofs.PlaceLemmas.{shift_more, shift_none}
 
 -- the octets after a line, through the first empty line

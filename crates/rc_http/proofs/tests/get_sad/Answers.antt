@@ -1,4 +1,3 @@
-use Rattle.std.proofs.Common.{◌∙◌, ap}
 use Rattle.rc_http.proofs.SampleLemmas.{get_is}
 use Rattle.rc_http.proofs.tests.get_sad.Goals as goal
 

@@ -1,4 +1,3 @@
-use Rattle.std.proofs.Common.{◌∙◌, ap}
 use Rattle.rc_http.proofs.SampleLemmas.{answer_is}
 use Rattle.rc_http.proofs.tests.no_entries.Goals as goal
 
