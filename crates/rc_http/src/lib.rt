@@ -1,0 +1,21 @@
+//! HTTP/1.1 messages over octets (RFC 9112), read in any pieces and written.
+#![tactic(auto)]
+
+mod advance;
+mod feeder;
+mod head;
+mod laws;
+mod message;
+mod place;
+#[cfg(test)]
+mod tests;
+mod values;
+mod write;
+
+pub use feeder::{Fed, Feeder};
+pub use laws::{
+    cuts_make_no_difference, first_found_stays, fresh_has_read_nothing, heads_are_whole,
+    messages_are_whole, octets_amount_to_one_thing, pieces_join,
+};
+pub use message::{HttpFault, HttpMessage, Kind};
+pub use write::{write_request, write_response};
