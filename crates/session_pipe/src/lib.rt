@@ -4,8 +4,11 @@
 //! each lane that its reading end has not taken.
 #![tactic(auto)]
 
+mod laws;
 mod pipe;
 mod queue;
 
+
 pub use ikeless_tree::Lane;
+pub use laws::{follows_the_past, gives_what_is_next};
 pub use pipe::Pipe;
