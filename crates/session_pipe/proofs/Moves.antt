@@ -11,9 +11,9 @@ use Rattle.ikeless_tree.specs.declared.order.Notice.{Notice}
 use Rattle.ikeless_tree.specs.declared.order.Lane.TheVariants as lanes
 use Rattle.hist_acts.specs.declared.act.Act.{Act}
 use Rattle.hist_acts.specs.declared.act.Act.TheVariants as acts
-use Rattle.hist_acts.specs.Sessions.{openings, is_open, taken, is_session, orders, handled, answered, order_at, answer_at, notices, heard, next_request, next_answer, next_notice}
+use Rattle.hist_acts.specs.Sessions.{openings, is_open, taken, handled, answered, order_at, answer_at, notices, heard, next_request, next_answer, next_notice}
 use Rattle.session_pipe.specs.UnderWay.{UnderWay, after_open, after_cut, after_boot, after_push, after_take, next_message}
-use Rattle.session_pipe.specs.Sessions.{MayStand, KeepsSessions}
+use Rattle.session_pipe.specs.Sessions.{KeepsSessions}
 use Rattle.session_pipe.specs.Past.{requests, responses, lines, pipe_of, after_act, is_at}
 use Rattle.session_pipe.proofs.Names.{same_name}
 use Rattle.session_pipe.proofs.Counts.{taken_last, open_some, no_requests, no_responses, no_lines, handled_bound, answered_bound, heard_bound, where_none, else_none, HasPlace, order_place, answer_place, notice_place}
@@ -41,15 +41,16 @@ no e = absurd (false≢true e)
 opened_moves : (here b : Bool) (o t s : ℕ) (down up note : ℕ → List (List ℕ)) → (here ≡ true → b ≡ false) → (here ≡ true → s ≡ o + 1)
     → (here ≡ true → down s ≡ []) → (here ≡ true → up (o + 1) ≡ []) → (here ≡ true → note (o + 1) ≡ [])
     → way (if here then o + 1 else o) (here || b) (not ((if here then s else t) == 0)) (if (if here then s else t) == 0 then [] else down (if here then s else t))
-        (if here || b then up (if here then o + 1 else o) else []) (if here || b then note (if here then o + 1 else o) else [])
+    (if here || b then up (if here then o + 1 else o) else []) (if here || b then note (if here then o + 1 else o) else [])
     ≡ (if here then after_open (way o b (not (t == 0)) (if t == 0 then [] else down t) (if b then up o else []) (if b then note o else []))
-        else way o b (not (t == 0)) (if t == 0 then [] else down t) (if b then up o else []) (if b then note o else []))
+    else way o b (not (t == 0)) (if t == 0 then [] else down t) (if b then up o else []) (if b then note o else []))
 opened_moves false b o t s down up note closed number d u n = refl
 opened_moves true true o t s down up note closed number d u n = no (sym (closed refl))
 opened_moves true false o t s down up note closed number d u n = fresh (s == 0) (down s) (up (o + 1)) (note (o + 1)) (some s o (number refl)) (d refl) (u refl) (n refl)
   where
     some : (s o : ℕ) → s ≡ o + 1 → (s == 0) ≡ false
     some s o e = grind arith
+
     fresh : (z : Bool) (d u n : List (List ℕ)) → z ≡ false → d ≡ [] → u ≡ [] → n ≡ [] → way (o + 1) true (not z) (if z then [] else d) u n ≡ way (o + 1) true true [] [] []
     fresh true d u n e p q r = no (sym e)
     fresh false d u n e p q r = cc
@@ -79,7 +80,7 @@ order_moves true true false true o n rs up note m is same bound = ap (λ d. way 
 handled_moves : (here b z e own : Bool) (o n a : ℕ) (rs us note : List (List ℕ)) (m : List ℕ) → (here ≡ true → z ≡ false) → (here ≡ true → e ≡ true) → (here ≡ true → own ≡ true) → a ≤ length us
     → way o b (not z) (if z then [] else drop (if here && e then n + 1 else n) rs) (if b then drop a (if here && own then us ++ m ∷ [] else us) else []) note
     ≡ (if here then after_push lanes.Up m (after_take lanes.Down (way o b (not z) (if z then [] else drop n rs) (if b then drop a us else []) note))
-        else way o b (not z) (if z then [] else drop n rs) (if b then drop a us else []) note)
+    else way o b (not z) (if z then [] else drop n rs) (if b then drop a us else []) note)
 handled_moves false b z e own o n a rs us note m is same mine bound = refl
 handled_moves true b true e own o n a rs us note m is same mine bound = no (sym (is refl))
 handled_moves true b false false own o n a rs us note m is same mine bound = no (same refl)
@@ -142,52 +143,52 @@ pub moves : (request : List Act → Order → List ℕ) (response : List Act →
 moves request response line g (acts.Opened f s) h l =
     let number = named (λ n. s ≡ openings n h + 1) f g l.0.1 in
     opened_moves (bytes_eq f g) (is_open g h) (openings g h) (taken g h) s
-        (λ n. drop (handled g n h) (requests request g n h)) (λ n. drop (answered g n h) (responses response g n h)) (λ n. drop (heard g n h) (lines line g n h))
-        (named (λ n. is_open n h ≡ false) f g l.0.0) number
-        (λ e. ap (drop (handled g s h)) (no_requests request g s h l.1 (above (openings g h) s (number e))) ∙ drop_none (handled g s h))
-        (λ e. ap (drop (answered g (openings g h + 1) h)) (no_responses response g (openings g h + 1) h l.1 (above (openings g h) (openings g h + 1) refl)) ∙ drop_none (answered g (openings g h + 1) h))
-        (λ e. ap (drop (heard g (openings g h + 1) h)) (no_lines line g (openings g h + 1) h l.1 (above (openings g h) (openings g h + 1) refl)) ∙ drop_none (heard g (openings g h + 1) h))
+    (λ n. drop (handled g n h) (requests request g n h)) (λ n. drop (answered g n h) (responses response g n h)) (λ n. drop (heard g n h) (lines line g n h))
+    (named (λ n. is_open n h ≡ false) f g l.0.0) number
+    (λ e. ap (drop (handled g s h)) (no_requests request g s h l.1 (above (openings g h) s (number e))) ∙ drop_none (handled g s h))
+    (λ e. ap (drop (answered g (openings g h + 1) h)) (no_responses response g (openings g h + 1) h l.1 (above (openings g h) (openings g h + 1) refl)) ∙ drop_none (answered g (openings g h + 1) h))
+    (λ e. ap (drop (heard g (openings g h + 1) h)) (no_lines line g (openings g h + 1) h l.1 (above (openings g h) (openings g h + 1) refl)) ∙ drop_none (heard g (openings g h + 1) h))
 moves request response line g (acts.Cut f s) h l =
     cut_moves (bytes_eq f g) (is_open g h) (not (taken g h == 0)) (openings g h) (if taken g h == 0 then [] else drop (handled g (taken g h) h) (requests request g (taken g h) h))
-        (drop (answered g (openings g h) h) (responses response g (openings g h) h)) (drop (heard g (openings g h) h) (lines line g (openings g h) h))
-        (named (λ n. is_open n h ≡ true) f g l.0.0)
+    (drop (answered g (openings g h) h) (responses response g (openings g h) h)) (drop (heard g (openings g h) h) (lines line g (openings g h) h))
+    (named (λ n. is_open n h ≡ true) f g l.0.0)
 moves request response line g (acts.Boot f) h l =
     boot_moves (bytes_eq f g) (is_open g h) (openings g h) (taken g h) (λ n. drop (handled g n h) (requests request g n h))
-        (if is_open g h then drop (answered g (openings g h) h) (responses response g (openings g h) h) else [])
-        (if is_open g h then drop (heard g (openings g h) h) (lines line g (openings g h) h) else [])
+    (if is_open g h then drop (answered g (openings g h) h) (responses response g (openings g h) h) else [])
+    (if is_open g h then drop (heard g (openings g h) h) (lines line g (openings g h) h) else [])
 moves request response line g (acts.Order f s k o) h l =
     order_moves (bytes_eq f g) (is_open g h) (taken g h == 0) (s == taken g h) (openings g h) (handled g (taken g h) h) (requests request g (taken g h) h)
-        (if is_open g h then drop (answered g (openings g h) h) (responses response g (openings g h) h) else [])
-        (if is_open g h then drop (heard g (openings g h) h) (lines line g (openings g h) h) else []) (request h o)
-        (named (λ n. is_open n h ≡ true) f g l.0.0)
-        (λ e. is_last s (taken g h) (openings g h) (named (λ n. s ≡ openings n h) f g l.0.1 e) (taken_last g h l.1))
-        (handled_bound request g (taken g h) h l.1)
+    (if is_open g h then drop (answered g (openings g h) h) (responses response g (openings g h) h) else [])
+    (if is_open g h then drop (heard g (openings g h) h) (lines line g (openings g h) h) else []) (request h o)
+    (named (λ n. is_open n h ≡ true) f g l.0.0)
+    (λ e. is_last s (taken g h) (openings g h) (named (λ n. s ≡ openings n h) f g l.0.1 e) (taken_last g h l.1))
+    (handled_bound request g (taken g h) h l.1)
 moves request response line g (acts.Handled f s k a) h l =
     let next = where_none (taken f h == 0) (order_at f (taken f h) (handled f (taken f h) h + 1) h) l.0.2.0 l.0.2.1 in
     let some = named (λ n. (taken n h == 0) ≡ false) f g next.0 in
     let own = named (λ n. s ≡ taken n h) f g l.0.0 in
     handled_moves (bytes_eq f g) (is_open g h) (taken g h == 0) (s == taken g h) (s == openings g h) (openings g h) (handled g (taken g h) h) (answered g (openings g h) h)
-        (requests request g (taken g h) h) (responses response g (openings g h) h)
-        (if is_open g h then drop (heard g (openings g h) h) (lines line g (openings g h) h) else []) (response h a)
-        some (λ e. is_equal s (taken g h) (own e)) (λ e. is_own s (taken g h) (openings g h) (own e) (taken_last g h l.1) (some e)) (answered_bound response g (openings g h) h l.1)
+    (requests request g (taken g h) h) (responses response g (openings g h) h)
+    (if is_open g h then drop (heard g (openings g h) h) (lines line g (openings g h) h) else []) (response h a)
+    some (λ e. is_equal s (taken g h) (own e)) (λ e. is_own s (taken g h) (openings g h) (own e) (taken_last g h l.1) (some e)) (answered_bound response g (openings g h) h l.1)
 moves request response line g (acts.Answered f s k a) h l =
     let next = else_none (is_open f h) (answer_at f (openings f h) (answered f (openings f h) h + 1) h) a l.0.2 in
     answered_moves (bytes_eq f g) (is_open g h) (not (taken g h == 0)) (s == openings g h) (openings g h) (answered g (openings g h) h)
-        (if taken g h == 0 then [] else drop (handled g (taken g h) h) (requests request g (taken g h) h))
-        (responses response g (openings g h) h) (if is_open g h then drop (heard g (openings g h) h) (lines line g (openings g h) h) else [])
-        (named (λ n. is_open n h ≡ true) f g next.0) (λ e. is_equal s (openings g h) (named (λ n. s ≡ openings n h) f g l.0.0 e))
+    (if taken g h == 0 then [] else drop (handled g (taken g h) h) (requests request g (taken g h) h))
+    (responses response g (openings g h) h) (if is_open g h then drop (heard g (openings g h) h) (lines line g (openings g h) h) else [])
+    (named (λ n. is_open n h ≡ true) f g next.0) (λ e. is_equal s (openings g h) (named (λ n. s ≡ openings n h) f g l.0.0 e))
 moves request response line g (acts.Notice f s n) h l =
     let own = named (λ m. s ≡ taken m h) f g l.0 in
     notice_moves (bytes_eq f g) (is_open g h) (taken g h == 0) (s == openings g h) (openings g h) (heard g (openings g h) h)
-        (if taken g h == 0 then [] else drop (handled g (taken g h) h) (requests request g (taken g h) h))
-        (if is_open g h then drop (answered g (openings g h) h) (responses response g (openings g h) h) else []) (lines line g (openings g h) h) (line h n)
-        (λ e b. is_own s (taken g h) (openings g h) (own e) (taken_last g h l.1)) (λ e b. is_other s (taken g h) (openings g h) (own e) (open_some g h l.1 b)) (heard_bound line g (openings g h) h l.1)
+    (if taken g h == 0 then [] else drop (handled g (taken g h) h) (requests request g (taken g h) h))
+    (if is_open g h then drop (answered g (openings g h) h) (responses response g (openings g h) h) else []) (lines line g (openings g h) h) (line h n)
+    (λ e b. is_own s (taken g h) (openings g h) (own e) (taken_last g h l.1)) (λ e b. is_other s (taken g h) (openings g h) (own e) (open_some g h l.1 b)) (heard_bound line g (openings g h) h l.1)
 moves request response line g (acts.Heard f s n) h l =
     let next = else_none (is_open f h) (slice_get (notices f (openings f h) h) (heard f (openings f h) h)) n l.0.1 in
     heard_moves (bytes_eq f g) (is_open g h) (not (taken g h == 0)) (s == openings g h) (openings g h) (heard g (openings g h) h)
-        (if taken g h == 0 then [] else drop (handled g (taken g h) h) (requests request g (taken g h) h))
-        (if is_open g h then drop (answered g (openings g h) h) (responses response g (openings g h) h) else []) (lines line g (openings g h) h)
-        (named (λ m. is_open m h ≡ true) f g next.0) (λ e. is_equal s (openings g h) (named (λ m. s ≡ openings m h) f g l.0.0 e))
+    (if taken g h == 0 then [] else drop (handled g (taken g h) h) (requests request g (taken g h) h))
+    (if is_open g h then drop (answered g (openings g h) h) (responses response g (openings g h) h) else []) (lines line g (openings g h) h)
+    (named (λ m. is_open m h ≡ true) f g next.0) (λ e. is_equal s (openings g h) (named (λ m. s ≡ openings m h) f g l.0.0 e))
 moves request response line g (_) h l = refl
 
 -- ---- what comes next

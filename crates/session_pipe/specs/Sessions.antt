@@ -1,5 +1,5 @@
 -- Pasts in which the acts of sessions stand where they may, of this project. A past has its newest act first.
-use Rattle.std.specs.Prelude.{◌≡◌, ℕ, ◌+◌, ◌<◌, true, false, List, [], ◌∷◌, Some}
+use Rattle.std.specs.Prelude.{◌≡◌, ◌+◌, true, false, List, [], ◌∷◌, Some}
 use Rattle.ikeless_tree.specs.declared.order.Order.{Order}
 use Rattle.hist_acts.specs.declared.act.Act.{Act}
 use Rattle.hist_acts.specs.declared.act.Act.TheVariants as acts

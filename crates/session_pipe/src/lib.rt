@@ -7,7 +7,8 @@
 mod laws;
 mod pipe;
 mod queue;
-
+#[cfg(test)]
+mod tests;
 
 pub use ikeless_tree::Lane;
 pub use laws::{follows_the_past, gives_what_is_next};

@@ -1,4 +1,4 @@
-ghost use Rattle.std.specs.Prelude.{◌≡◌, ◌+◌, ◌-◌, ◌^◌, ◌<◌, true, false, None, Some, IfOk, OnOk, OnErr, length, take, if◌then◌else◌};
+ghost use Rattle.std.specs.Prelude.{◌≡◌, ◌+◌, ◌-◌, ◌^◌, ◌<◌, ◌≤◌, true, false, None, Some, IfOk, OnOk, OnErr, length, take, if◌then◌else◌};
 ghost use Rattle.session_pipe.specs.UnderWay.{UnderWay, no_session, after_open, after_cut, after_boot, after_push, after_take, next_message, unread_octets};
 
 use crate::queue::Queue;
@@ -26,12 +26,12 @@ impl Model for Pipe {
     ghost Value = { UnderWay };
 
     ghost view = { λ p. record {
-        openings = p.openings;
-        is_open = p.is_open;
-        is_taken = p.is_taken;
-        down = p.down;
-        up = p.up;
-        note = p.note;
+      openings = p.openings;
+      is_open = p.is_open;
+      is_taken = p.is_taken;
+      down = p.down;
+      up = p.up;
+      note = p.note;
     } };
 }
 
@@ -57,6 +57,7 @@ impl Pipe {
         requires { self.old.openings < 2 ^ 32 - 1 }
         ensures number { result ≡ (if self.old.is_open then None else Some (self.old.openings + 1)) }
         ensures after { self.new ≡ after_open self.old }
+        ensures openings { self.new.openings ≤ self.old.openings + 1 }
     {
         if self.is_open {
             return None;
@@ -75,6 +76,7 @@ impl Pipe {
     pub fn cut(&mut self) -> bool
         ensures open { result ≡ self.old.is_open }
         ensures after { self.new ≡ after_cut self.old }
+        ensures openings { self.new.openings ≡ self.old.openings }
     {
         if !self.is_open {
             return false;
@@ -88,7 +90,8 @@ impl Pipe {
     /// The gateway restarts: it has no session, and what it had not read is gone. The controller may still read what
     /// was given before.
     pub fn reboot(&mut self)
-        ensures { self.new ≡ after_boot self.old }
+        ensures after { self.new ≡ after_boot self.old }
+        ensures openings { self.new.openings ≡ self.old.openings }
     {
         self.is_taken = false;
         self.down.clear();
@@ -99,6 +102,7 @@ impl Pipe {
         requires { 0 < length octets.now }
         ensures ok { OnOk result (self.new ≡ after_push lane octets.now self.old) }
         ensures err { OnErr result (self.new ≡ self.old) }
+        ensures openings { self.new.openings ≡ self.old.openings }
     {
         if !self.is_open || !self.is_taken {
             return Ok(());
@@ -116,6 +120,7 @@ impl Pipe {
         ensures message { IfOk result (λ message. message ≡ next_message lane self.old) }
         ensures ok { OnOk result (self.new ≡ after_take lane self.old) }
         ensures err { OnErr result (self.new ≡ self.old) }
+        ensures openings { self.new.openings ≡ self.old.openings }
     {
         match lane {
             Lane::Down => Ok(self.down.pop()),
