@@ -4,3 +4,4 @@ pub mod Lists
 pub mod Passed
 pub mod FlatRows
 pub mod Keyless
+pub mod ItemLemmas

@@ -1,4 +1,9 @@
 pub mod Words
+pub mod Faults
+pub mod Shapes
+pub mod Members
+pub mod Leaves
+pub mod Selectors
 pub mod Written
 pub mod Associations
 pub mod Commands

@@ -4,11 +4,21 @@
 mod associations;
 mod build;
 mod commands;
+mod fault;
+mod leaves;
+mod members;
 mod policies;
+mod selectors;
+mod shapes;
 #[cfg(test)]
 mod tests;
 mod words;
 
-pub use associations::{write_sad, write_sad_entry};
+pub use associations::{counts_value, write_sad, write_sad_entry};
+pub use build::{Members, put, put_count, put_text, put_wide, put_word, single, written};
 pub use commands::write_command;
-pub use policies::{write_spd, write_spd_entry};
+pub use fault::{CodecFault, Fault, Kind, at_member, within};
+pub use leaves::{number_of, text_of};
+pub use policies::{selector_value, write_spd, write_spd_entry};
+pub use selectors::{read_counts, read_selector, read_selector_member};
+pub use shapes::{has_shape, only};
