@@ -146,22 +146,34 @@ time_shape d = at_member (codes "eventTime") (needed_text (get (codes "eventTime
 unfoldable pub event_shape : List ℕ → Data → Result ⊤ Fault
 event_shape name d = shape (codes "eventTime" ∷ name ∷ []) (codes "eventTime" ∷ name ∷ []) d >>= (λ done. time_shape d)
 
+abbrev pub acquire_event : Data → Data → Result Notice Fault
+acquire_event event d = event_shape acquire_name d >>= (λ done. acquire_in event)
+
+abbrev pub expire_event : Data → Data → Result Notice Fault
+expire_event event d = event_shape expire_name d >>= (λ done. expire_in event)
+
+abbrev pub overflow_event : Data → Data → Result Notice Fault
+overflow_event event d = event_shape overflow_name d >>= (λ done. overflow_in event)
+
+abbrev pub bad_spi_event : Data → Data → Result Notice Fault
+bad_spi_event event d = event_shape bad_spi_name d >>= (λ done. bad_spi_in event)
+
 -- the first of the four events that stands in the object; where a second one stands, too, it is unknown
 abbrev pub bad_spi_else : Option Data → Data → Result Notice Fault
 bad_spi_else None d = Err (here kinds.Missing)
-bad_spi_else (Some event) d = event_shape bad_spi_name d >>= (λ done. bad_spi_in event)
+bad_spi_else (Some event) d = bad_spi_event event d
 
 abbrev pub overflow_else : Option Data → Data → Result Notice Fault
 overflow_else None d = bad_spi_else (get bad_spi_name d) d
-overflow_else (Some event) d = event_shape overflow_name d >>= (λ done. overflow_in event)
+overflow_else (Some event) d = overflow_event event d
 
 abbrev pub expire_else : Option Data → Data → Result Notice Fault
 expire_else None d = overflow_else (get overflow_name d) d
-expire_else (Some event) d = event_shape expire_name d >>= (λ done. expire_in event)
+expire_else (Some event) d = expire_event event d
 
 abbrev pub acquire_else : Option Data → Data → Result Notice Fault
 acquire_else None d = expire_else (get expire_name d) d
-acquire_else (Some event) d = event_shape acquire_name d >>= (λ done. acquire_in event)
+acquire_else (Some event) d = acquire_event event d
 
 unfoldable pub envelope_in : Data → Result Notice Fault
 envelope_in d = acquire_else (get acquire_name d) d

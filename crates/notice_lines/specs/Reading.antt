@@ -75,7 +75,7 @@ IsFault faults.NotNotice octets = (n : ℕ) × (begins octets ≡ Ends n) × Has
 pub record Hears (old : Reading) (piece : List ℕ) (notice : Notice) (taken : ℕ) : Type 0 where
   pub size : ℕ
   pub ends : begins (old.kept ++ piece) ≡ Ends size
-  pub notice : HasNotice (take size (old.kept ++ piece)) notice
+  pub has : HasNotice (take size (old.kept ++ piece)) notice
   pub count : length old.kept + taken ≡ size + 1
   pub within : taken ≤ length piece
 

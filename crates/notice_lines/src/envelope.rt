@@ -1,10 +1,8 @@
 // The notification round an event.
-ghost use Rattle.std.specs.Prelude.{◌≡◌, Some};
 ghost use Rattle.serde_json.specs.Find.{get};
 ghost use Rattle.serde_json.specs.View.{view};
 ghost use Rattle.ikl_base.specs.Answers.{Gives};
-ghost use Rattle.json_codec.specs.Faults.{◌>>=◌};
-ghost use Rattle.notice_lines.specs.Envelope.{acquire_name, expire_name, overflow_name, bad_spi_name, time_shape, event_shape, bad_spi_else, overflow_else, expire_else, acquire_in, expire_in, overflow_in, bad_spi_in, envelope_in, notice_in};
+ghost use Rattle.notice_lines.specs.Envelope.{overflow_name, expire_name, bad_spi_name, time_shape, event_shape, acquire_event, expire_event, overflow_event, bad_spi_event, bad_spi_else, overflow_else, expire_else, envelope_in, notice_in};
 
 use crate::event::{acquire, bad_spi, expire, overflow};
 use ikeless_tree::Notice;
@@ -40,28 +38,28 @@ fn is_event(alloc: Global, name: &str, value: &Value) -> Result<(), OrMemory<Fau
 }
 
 fn acquire_event(alloc: Global, value: &Value, event: &Value) -> Result<Notice, OrMemory<Fault>>
-    ensures { Gives result (event_shape acquire_name (view value.now) >>= (λ done. acquire_in (view event.now))) }
+    ensures { Gives result (acquire_event (view event.now) (view value.now)) }
 {
     is_event(alloc, ACQUIRE, value)?;
     acquire(alloc, event)
 }
 
 fn expire_event(alloc: Global, value: &Value, event: &Value) -> Result<Notice, OrMemory<Fault>>
-    ensures { Gives result (event_shape expire_name (view value.now) >>= (λ done. expire_in (view event.now))) }
+    ensures { Gives result (expire_event (view event.now) (view value.now)) }
 {
     is_event(alloc, EXPIRE, value)?;
     expire(alloc, event)
 }
 
 fn overflow_event(alloc: Global, value: &Value, event: &Value) -> Result<Notice, OrMemory<Fault>>
-    ensures { Gives result (event_shape overflow_name (view value.now) >>= (λ done. overflow_in (view event.now))) }
+    ensures { Gives result (overflow_event (view event.now) (view value.now)) }
 {
     is_event(alloc, OVERFLOW, value)?;
     overflow(alloc, event)
 }
 
 fn bad_spi_event(alloc: Global, value: &Value, event: &Value) -> Result<Notice, OrMemory<Fault>>
-    ensures { Gives result (event_shape bad_spi_name (view value.now) >>= (λ done. bad_spi_in (view event.now))) }
+    ensures { Gives result (bad_spi_event (view event.now) (view value.now)) }
 {
     is_event(alloc, BAD_SPI, value)?;
     bad_spi(alloc, event)
