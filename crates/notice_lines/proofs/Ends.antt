@@ -1,6 +1,9 @@
 -- Where lines end.
 use Rattle.std.proofs.Common.{◌≡◌, ◌==◌, ℕ, zero, suc, ◌+◌, ◌≤◌, ◌<◌, Bool, true, false, List, [], ◌∷◌, ◌++◌, length, take, Option, Some, None, refl, ap, sym, ◌∙◌, arith, length-append, if◌then◌else◌}
 use Rattle.std.specs.Option.{option_map}
+use Rattle.std.specs.List.{position, position_from}
+use Rattle.std.proofs.Common.{cond}
+use Rattle.std.proofs.lemmas.Iterator.Adapters.{position_from-zero}
 use Rattle.notice_lines.specs.Reading.{line_end, Begins, Open, Long, Ends, begins_by, begins}
 
 abbrev one_more : ℕ → ℕ
@@ -97,3 +100,19 @@ begins_late octets n e p = ap (λ o. begins_by o (length octets)) e ∙ far (len
   where
     far : (m : ℕ) → 4096 < n → begins_by (Some n) m ≡ Long
     far m p = grind arith
+
+position_later : (i : ℕ) (cs : List ℕ) → position_from (λ c. c == 10) i cs ≡ option_map (λ n. n + i) (line_end cs)
+position_later i [] = refl
+position_later i (c ∷ cs) = by_test (c == 10) (position_from (λ c. c == 10) (i + 1) cs) (line_end cs) (position_later (i + 1) cs)
+  where
+    by_test : (b : Bool) (p o : Option ℕ) → p ≡ option_map (λ n. n + (i + 1)) o → cond b (Some i) p ≡ option_map (λ n. n + i) (if b then Some 0 else option_map one_more o)
+    by_test true p o e = ap Some (omega arith)
+    by_test false p None e = e
+    by_test false p (Some n) e = e ∙ ap Some (omega arith)
+
+pub position_end : (cs : List ℕ) → position (λ c. c == 10) cs ≡ line_end cs
+position_end cs = position_from-zero (λ c. c == 10) cs ∙ position_later 0 cs ∙ same (line_end cs)
+  where
+    same : (o : Option ℕ) → option_map (λ n. n + 0) o ≡ o
+    same None = refl
+    same (Some n) = ap Some (omega arith)

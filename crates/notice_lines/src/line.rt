@@ -1,5 +1,6 @@
 // One line of a notification.
-ghost use Rattle.std.specs.Prelude.{◌≡◌, ◌≤◌, ◌++◌, length, take, IfOk, IfErr};
+ghost use Rattle.std.specs.Prelude.{◌≡◌, ◌==◌, ◌≤◌, ◌++◌, length, take, IfOk, IfErr};
+ghost use Rattle.std.specs.List.{position};
 ghost use Rattle.ikl_base.specs.declared.fault.OrMemory.TheVariants as failures;
 ghost use Rattle.notice_lines.specs.Reading.{HasNotice, HasNone, IsNoneOrMemory, line_end};
 
@@ -27,11 +28,17 @@ fn read_line(alloc: Global, line: &[u8]) -> Result<Notice, OrMemory<NoticeFault>
     }
 }
 
+fn first_lf(octets: &[u8]) -> Option<usize>
+    ensures { result ≡ position (λ octet. octet == 10) octets.now }
+{
+    octets.iter().position(|octet| *octet == b'\n')
+}
+
 /// How many octets stand before the first LF.
 pub(crate) fn line_end(octets: &[u8]) -> Option<usize>
     ensures { result ≡ line_end octets.now }
 {
-    octets.iter().position(|octet| *octet == b'\n')
+    first_lf(octets)
 }
 
 // The octets of a line of which some came before.

@@ -59,9 +59,10 @@ impl LineReader {
         if let Some(fault) = self.fault {
             return Err(OrMemory::Refused(fault));
         }
+        let room = MOST_OCTETS - self.kept.len();
         match line_end(piece) {
-            Some(end) if self.kept.len() + end <= MOST_OCTETS => self.hear(piece, end),
-            None if self.kept.len() + piece.len() <= MOST_OCTETS => self.keep(piece),
+            Some(end) if end <= room => self.hear(piece, end),
+            None if piece.len() <= room => self.keep(piece),
             _ => Err(self.refuse()),
         }
     }
