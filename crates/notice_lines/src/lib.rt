@@ -7,6 +7,8 @@ mod fault;
 mod line;
 mod moment;
 mod reader;
+#[cfg(test)]
+mod tests;
 mod write;
 
 pub use fault::NoticeFault;

@@ -1,5 +1,5 @@
 // One line of a notification.
-ghost use Rattle.std.specs.Prelude.{◌≡◌, ◌==◌, ◌≤◌, ◌++◌, length, take, IfOk, IfErr};
+ghost use Rattle.std.specs.Prelude.{◌≡◌, ◌==◌, ◌≤◌, ◌++◌, length, take, IfOk, IfErr, OnOk, OnErr};
 ghost use Rattle.std.specs.List.{position};
 ghost use Rattle.ikl_base.specs.declared.fault.OrMemory.TheVariants as failures;
 ghost use Rattle.notice_lines.specs.Reading.{HasNotice, HasNone, IsNoneOrMemory, line_end};
@@ -39,6 +39,14 @@ pub(crate) fn line_end(octets: &[u8]) -> Option<usize>
     ensures { result ≡ line_end octets.now }
 {
     first_lf(octets)
+}
+
+/// Adds octets at the end.
+pub(crate) fn append(kept: &mut Vec<u8>, piece: &[u8]) -> Result<(), NoMemory>
+    ensures ok { OnOk result (kept.new.items ≡ kept.old.items ++ piece.now) }
+    ensures err { OnErr result (kept.new.items ≡ kept.old.items) }
+{
+    Ok(kept.extend_from_slice(piece)?)
 }
 
 // The octets of a line of which some came before.

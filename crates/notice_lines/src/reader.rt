@@ -1,10 +1,8 @@
-ghost use Rattle.std.specs.Prelude.{◌≡◌, ◌+◌, ◌≤◌, [], None, Some, length};
-ghost use Rattle.ikl_base.specs.declared.fault.OrMemory.TheVariants as failures;
-ghost use Rattle.notice_lines.specs.declared.fault.NoticeFault.TheVariants as faults;
+ghost use Rattle.std.specs.Prelude.{◌≡◌, ◌≤◌, [], None, Some, length};
 ghost use Rattle.notice_lines.specs.Reading.{Reading, kept_only, line_end, GivesNext, FeedGives};
 
 use crate::fault::NoticeFault;
-use crate::line::{line_end, read_joined};
+use crate::line::{append, line_end, read_joined};
 use ikeless_tree::Notice;
 use ikl_base::OrMemory;
 use std::alloc::Global;
@@ -59,11 +57,9 @@ impl LineReader {
         if let Some(fault) = self.fault {
             return Err(OrMemory::Refused(fault));
         }
-        let room = MOST_OCTETS - self.kept.len();
         match line_end(piece) {
-            Some(end) if end <= room => self.hear(piece, end),
-            None if piece.len() <= room => self.keep(piece),
-            _ => Err(self.refuse()),
+            Some(end) => self.hear(piece, end),
+            None => self.keep(piece),
         }
     }
 
@@ -71,22 +67,28 @@ impl LineReader {
     fn keep(&mut self, piece: &[u8]) -> Result<Heard, OrMemory<NoticeFault>>
         requires fresh { self.old.fault ≡ None }
         requires part { line_end piece.now ≡ None }
-        requires size { length self.old.kept + length piece.now ≤ 4096 }
         ensures { GivesNext self.old self.new piece.now result }
     {
-        match self.kept.extend_from_slice(piece) {
-            Ok(()) => Ok(Heard::NoneYet),
-            Err(_) => Err(OrMemory::NoMemory),
+        let room = MOST_OCTETS - self.kept.len();
+        if piece.len() > room {
+            self.fault = Some(NoticeFault::LineTooLong);
+            return Err(OrMemory::Refused(NoticeFault::LineTooLong));
         }
+        append(&mut self.kept, piece)?;
+        Ok(Heard::NoneYet)
     }
 
     // Reads the line that ends after so many octets of the piece.
     fn hear(&mut self, piece: &[u8], end: usize) -> Result<Heard, OrMemory<NoticeFault>>
         requires fresh { self.old.fault ≡ None }
         requires line { line_end piece.now ≡ Some end }
-        requires size { length self.old.kept + end ≤ 4096 }
         ensures { GivesNext self.old self.new piece.now result }
     {
+        let room = MOST_OCTETS - self.kept.len();
+        if end > room {
+            self.fault = Some(NoticeFault::LineTooLong);
+            return Err(OrMemory::Refused(NoticeFault::LineTooLong));
+        }
         match read_joined(self.alloc, &self.kept, piece, end) {
             Ok(notice) => {
                 self.kept.clear();
@@ -101,14 +103,5 @@ impl LineReader {
                 Err(OrMemory::Refused(fault))
             }
         }
-    }
-
-    // Gives up at a line that is too long.
-    fn refuse(&mut self) -> OrMemory<NoticeFault>
-        ensures result { result ≡ failures.Refused faults.LineTooLong }
-        ensures fault { self.new.fault ≡ Some faults.LineTooLong }
-    {
-        self.fault = Some(NoticeFault::LineTooLong);
-        OrMemory::Refused(NoticeFault::LineTooLong)
     }
 }

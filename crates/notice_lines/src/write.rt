@@ -14,6 +14,7 @@ use json_codec::{counts_value, put, put_count, put_text, selector_value, single,
 use serde_json::{Map, Value};
 use std::alloc::Global;
 
+#[tactic(auto, unfolding(crate::specs::Envelope::acquire_data))]
 fn acquire_value(alloc: Global, policy: &Name, selector: &Selector) -> Result<Value, NoMemory>
     requires { is_spd_name policy.now ≡ true }
     ensures { IfOk result (λ v. view v ≡ acquire_data policy.now selector.now) }
@@ -34,6 +35,7 @@ fn acquire_value(alloc: Global, policy: &Name, selector: &Selector) -> Result<Va
     Ok(Value::Object(members))
 }
 
+#[tactic(auto, unfolding(crate::specs::Envelope::expire_data))]
 fn expire_value(
     alloc: Global,
     name: &Name,
@@ -100,6 +102,7 @@ fn event_text(n: &Notice) -> &'static str
     }
 }
 
+#[tactic(auto, unfolding(crate::specs::Envelope::envelope_data))]
 fn envelope_value(
     alloc: Global,
     stamp: &[u8],
