@@ -1,33 +1,7 @@
--- The text of a moment is ASCII, and one.
+-- A moment has one text.
 use Rattle.std.proofs.Common.{◌≡◌, ℕ, zero, suc, ◌+◌, ◌*◌, ◌/◌, ◌%◌, ◌<◌, ℤ, pos, List, [], ◌∷◌, IsUtf8, refl, sym, ap, subst, ◌∙◌, arith}
-use Rattle.std.specs.Str.{IsAscii}
-use Rattle.std.proofs.lemmas.Str.{IsUtf8-from_ascii}
-use Rattle.std.proofs.lemmas.Str.Ascii.{IsAscii-nil}
 use Rattle.jiff_core.proofs.DateLemmas.{epoch_day_injective}
 use Rattle.notice_lines.specs.Moments.{IsMoment, IsStamp, digit, stamp_text}
-
-small : (n : ℕ) → digit n < 128
-small n = omega arith
-
-more : (c : ℕ) (cs : List ℕ) → c < 128 → IsAscii cs → IsAscii (c ∷ cs)
-more c cs here there zero = here
-more c cs here there (suc i) = there i
-
-plain : (year month day hour minute second : ℕ) → IsAscii (stamp_text year month day hour minute second)
-plain year month day hour minute second =
-    more _ _ (small (year / 1000)) (more _ _ (small (year / 100)) (more _ _ (small (year / 10)) (more _ _ (small year)
-    (more 45 _ (omega arith) (more _ _ (small (month / 10)) (more _ _ (small month)
-    (more 45 _ (omega arith) (more _ _ (small (day / 10)) (more _ _ (small day)
-    (more 84 _ (omega arith) (more _ _ (small (hour / 10)) (more _ _ (small hour)
-    (more 58 _ (omega arith) (more _ _ (small (minute / 10)) (more _ _ (small minute)
-    (more 58 _ (omega arith) (more _ _ (small (second / 10)) (more _ _ (small second)
-    (more 90 _ (omega arith) IsAscii-nil)))))))))))))))))))
-
-pub utf8_stamp : (seconds : ℕ) (text : List ℕ) → IsStamp seconds text → IsUtf8 text
-utf8_stamp seconds text s =
-    let P : List ℕ → Type 0 = λ t. IsUtf8 t in
-    let t = stamp_text s.year s.month s.day s.hour s.minute s.second in
-    subst P (sym s.is) (IsUtf8-from_ascii t (plain s.year s.month s.day s.hour s.minute s.second))
 
 of_pos : (a b : ℕ) → pos a ≡ pos b → a ≡ b
 of_pos a b e = cc

@@ -95,3 +95,14 @@ FeedGives None old new piece result = GivesNext old new piece result
 abbrev pub IsNoneOrMemory : OrMemory NoticeFault → List ℕ → Type 0
 IsNoneOrMemory failures.NoMemory line = Unit {0}
 IsNoneOrMemory (failures.Refused fault) line = (fault ≡ faults.NotNotice) × HasNone line
+
+-- ---- pieces that come one after the other
+
+abbrev pub unless_open : Begins → Begins → Begins
+unless_open Open later = later
+unless_open b later = b
+
+-- the first of the pieces that completes a line or makes it too long decides, where these octets came before
+abbrev pub first_begins : List ℕ → List (List ℕ) → Begins
+first_begins kept [] = Open
+first_begins kept (p ∷ ps) = unless_open (begins (kept ++ p)) (first_begins (kept ++ p) ps)

@@ -4,6 +4,7 @@
 mod envelope;
 mod event;
 mod fault;
+mod laws;
 mod line;
 mod moment;
 mod reader;
@@ -12,5 +13,6 @@ mod tests;
 mod write;
 
 pub use fault::NoticeFault;
+pub use laws::{cuts_do_not_matter, has_one_stamp, is_heard_in_any_pieces};
 pub use reader::{Heard, LineReader};
 pub use write::write_notice;
