@@ -1,10 +1,8 @@
 -- It doesn't matter where octets are cut into pieces.
-use Rattle.std.proofs.Common.{◌≡◌, ◌==◌, ℕ, zero, suc, ◌+◌, ◌≤◌, ◌<◌, nat_le, Bool, true, false, List, [], ◌∷◌, ◌++◌, length, take, Option, Some, None, refl, ap, sym, subst, ◌∙◌, arith, append_assoc, length-append, if◌then◌else◌}
+use Rattle.std.proofs.Common.{◌≡◌, ℕ, ◌+◌, ◌≤◌, ◌<◌, nat_le, Bool, true, false, List, [], ◌∷◌, ◌++◌, length, take, Option, Some, None, refl, ap, sym, subst, ◌∙◌, arith, append_assoc, length-append, if◌then◌else◌}
 use Rattle.std.specs.List.{flat_map}
-use Rattle.std.specs.Option.{option_map}
 use Rattle.std.proofs.lemmas.List.{take-append-le}
 use Rattle.ikeless_tree.specs.declared.order.Notice.{Notice}
-use Rattle.ikl_base.specs.declared.fault.OrMemory.{OrMemory}
 use Rattle.notice_lines.specs.Envelope.{notice_in}
 use Rattle.notice_lines.specs.Reading.{HasNotice, line_end, Begins, Open, Long, Ends, begins_by, begins, unless_open, first_begins}
 use Rattle.notice_lines.proofs.Ends.{end_none, end_some, end_within, end_stays, begins_ends, begins_long, begins_late}
@@ -65,6 +63,7 @@ long_by a b None p ea eb e = none (nat_le (length a) 4096) refl p eb e
     far : 4096 < length a → (p : Option ℕ) → line_end b ≡ p → begins (a ++ b) ≡ Long
     far q None eb = let n = length-append a b in begins_long (a ++ b) (end_none a b ea eb) (omega (arith, n))
     far q (Some m) eb = begins_late (a ++ b) (length a + m) (end_some a b m ea eb) (omega arith)
+
     none : (z : Bool) → nat_le (length a) 4096 ≡ z → (p : Option ℕ) → line_end b ≡ p → (if z then Open else Long) ≡ Long → begins (a ++ b) ≡ Long
     none true q p eb e = absurd (open_long e)
     none false q p eb e = far (le_false (length a) 4096 q) p eb
@@ -113,9 +112,10 @@ take_line (x ∷ xs) rest = ap (λ l. x ∷ l) (take_line xs rest)
 pub heard_whole : (line rest : List ℕ) (n : Notice) (pieces : List (List ℕ)) → HasNotice line n → line_end line ≡ None → length line ≤ 4096 → joined pieces ≡ line ++ 10 ∷ rest
     → (first_begins [] pieces ≡ Ends (length line)) × HasNotice (take (length line) (joined pieces)) n
 heard_whole line rest n pieces has e small is =
-    let P : List ℕ → Type 0 = λ l. HasNotice l n in
-    (cuts pieces ∙ ap begins is ∙ begins_ends (line ++ 10 ∷ rest) (length line) (line_before line rest e) small,
-    subst P (sym (ap (take (length line)) is ∙ take_line line (10 ∷ rest))) has)
+    let P : List ℕ → Type 0 = λ l. HasNotice l n in (
+      cuts pieces ∙ ap begins is ∙ begins_ends (line ++ 10 ∷ rest) (length line) (line_before line rest e) small,
+      subst P (sym (ap (take (length line)) is ∙ take_line line (10 ∷ rest))) has,
+    )
 
 pub one_notice : (line : List ℕ) (n m : Notice) → HasNotice line n → HasNotice line m → n ≡ m
 one_notice line n m p q =

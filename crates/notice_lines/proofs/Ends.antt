@@ -1,10 +1,10 @@
 -- Where lines end.
-use Rattle.std.proofs.Common.{◌≡◌, ◌==◌, ℕ, zero, suc, ◌+◌, ◌≤◌, ◌<◌, Bool, true, false, List, [], ◌∷◌, ◌++◌, length, take, Option, Some, None, refl, ap, sym, ◌∙◌, arith, length-append, if◌then◌else◌}
+use Rattle.std.proofs.Common.{◌≡◌, ◌==◌, ℕ, suc, ◌+◌, ◌≤◌, ◌<◌, Bool, true, false, List, [], ◌∷◌, ◌++◌, length, take, Option, Some, None, refl, ap, ◌∙◌, arith, if◌then◌else◌}
 use Rattle.std.specs.Option.{option_map}
 use Rattle.std.specs.List.{position, position_from}
 use Rattle.std.proofs.Common.{cond}
 use Rattle.std.proofs.lemmas.Iterator.Adapters.{position_from-zero}
-use Rattle.notice_lines.specs.Reading.{line_end, Begins, Open, Long, Ends, begins_by, begins}
+use Rattle.notice_lines.specs.Reading.{line_end, Open, Long, Ends, begins_by, begins}
 
 abbrev one_more : ℕ → ℕ
 one_more n = n + 1

@@ -1,14 +1,13 @@
 -- A notification has no floats, and nests a few levels deep.
-use Rattle.std.proofs.Common.{◌≡◌, ◌≤◌, ℕ, suc, Bool, List, codes, refl, arith}
-use Rattle.serde_json.specs.Data.{Data, boolean, string, object, no_members, put, depth}
-use Rattle.serde_json.specs.Written.{has_float}
+use Rattle.std.proofs.Common.{ℕ, Bool, List, codes, refl, arith}
+use Rattle.serde_json.specs.Data.{Data, boolean}
 use Rattle.ikeless_tree.specs.declared.association.Limits.{Limits}
 use Rattle.ikeless_tree.specs.declared.entry.Selector.{Selector}
 use Rattle.ikeless_tree.specs.declared.order.Notice.{Notice}
 use Rattle.ikeless_tree.specs.declared.order.Notice.TheVariants as notices
 use Rattle.json_codec.specs.Associations.{counts_data}
 use Rattle.json_codec.proofs.Flat.{IsFlat, flat_put, flat_none, flat_object, flat_string, flat_count, flat_selector, flat_only}
-use Rattle.notice_lines.specs.Envelope.{acquire_data, expire_data, overflow_data, bad_spi_data, event_name, event_data, envelope_data, notice_data}
+use Rattle.notice_lines.specs.Envelope.{acquire_data, expire_data, event_name, event_data, envelope_data, notice_data}
 
 flat_boolean : (n : ℕ) (b : Bool) → IsFlat n (boolean b)
 flat_boolean n b = record { plain = refl; shallow = omega arith }

@@ -1,10 +1,9 @@
 -- What a reader hears.
-use Rattle.std.proofs.Common.{◌≡◌, ℕ, ◌+◌, ◌≤◌, ◌<◌, List, [], ◌++◌, length, take, Option, Some, None, refl, ap, sym, subst, ◌∙◌, arith, length-append}
+use Rattle.std.proofs.Common.{◌≡◌, ℕ, ◌+◌, ◌≤◌, ◌<◌, List, ◌++◌, length, take, Some, None, sym, subst, ◌∙◌, arith, length-append}
 use Rattle.ikl_base.specs.declared.fault.OrMemory.TheVariants as failures
 use Rattle.ikeless_tree.specs.declared.order.Notice.{Notice}
 use Rattle.notice_lines.specs.declared.fault.NoticeFault.{NoticeFault}
-use Rattle.notice_lines.specs.declared.fault.NoticeFault.TheVariants as faults
-use Rattle.notice_lines.specs.Reading.{HasNotice, HasNone, IsNoneOrMemory, line_end, Begins, Open, Long, Ends, begins, Reading, Hears, IsFault}
+use Rattle.notice_lines.specs.Reading.{HasNotice, HasNone, IsNoneOrMemory, line_end, Open, Long, Ends, begins, Reading, Hears, IsFault}
 use Rattle.notice_lines.proofs.Ends.{end_none, end_some, end_within, begins_open, begins_ends, begins_long, begins_late, take_past}
 
 pub whole_ends : (kept piece : List ℕ) (end : ℕ) → line_end kept ≡ None → line_end piece ≡ Some end → length kept + end ≤ 4096 → begins (kept ++ piece) ≡ Ends (length kept + end)

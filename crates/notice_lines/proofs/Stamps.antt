@@ -1,7 +1,7 @@
 -- A moment has one text.
-use Rattle.std.proofs.Common.{◌≡◌, ℕ, zero, suc, ◌+◌, ◌*◌, ◌/◌, ◌%◌, ◌<◌, ℤ, pos, List, [], ◌∷◌, IsUtf8, refl, sym, ap, subst, ◌∙◌, arith}
+use Rattle.std.proofs.Common.{◌≡◌, ℕ, pos, List, refl, sym, ◌∙◌, arith}
 use Rattle.jiff_core.proofs.DateLemmas.{epoch_day_injective}
-use Rattle.notice_lines.specs.Moments.{IsMoment, IsStamp, digit, stamp_text}
+use Rattle.notice_lines.specs.Moments.{IsMoment, IsStamp, stamp_text}
 
 of_pos : (a b : ℕ) → pos a ≡ pos b → a ≡ b
 of_pos a b e = cc

@@ -1,6 +1,6 @@
 -- Notifications as JSON (RFC 8040 section 6.4, RFC 7951, with the events of the YANG module ietf-i2nsf-ikeless of
 -- RFC 9061 section 5.3): the one value that is written, and the values that are read.
-use Rattle.std.specs.Prelude.{◌≡◌, ℕ, ◌-◌, ◌^◌, Bool, true, false, List, [], ◌∷◌, ◌++◌, codes, Option, Some, None, Result, Ok, Err, ⊤, if◌then◌else◌}
+use Rattle.std.specs.Prelude.{◌≡◌, ℕ, ◌-◌, ◌^◌, Bool, true, false, List, [], ◌∷◌, codes, Option, Some, None, Result, Ok, Err, ⊤, if◌then◌else◌}
 use Rattle.serde_json.specs.Data.{Data, boolean, string, object, no_members, put}
 use Rattle.serde_json.specs.Find.{get, as_bool}
 use Rattle.ikeless_tree.specs.declared.entry.Selector.{Selector}

@@ -13,7 +13,8 @@ ghost use Rattle.notice_lines.specs.Envelope.{name_at, needed_truth, whole, acqu
 use ikeless_tree::{Limits, Notice, Range, Selector, names_half, names_policy};
 use ikl_base::{Name, OrMemory};
 use json_codec::{
-    Fault, Kind, at_member, has_shape, number_of, read_counts, read_selector_member, text_of, within,
+    Fault, Kind, at_member, has_shape, number_of, read_counts, read_selector_member, text_of,
+    within,
 };
 use serde_json::Value;
 use std::alloc::Global;

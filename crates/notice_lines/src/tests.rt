@@ -4,7 +4,8 @@ use ikl_base::{Name, NoMemory, Octets, OrMemory};
 use std::alloc::Global;
 use std::test::Fail;
 
-const EXPIRY: &str = "{\"ietf-restconf:notification\":{\"eventTime\":\"1970-01-01T01:00:00Z\",\"ietf-i2nsf-ikeless:sadb-expire\":{\"ipsec-sa-name\":\"out/1\",\"lifetime-current\":{\"bytes\":\"88\",\"idle\":3600,\"packets\":1,\"time\":3600},\"soft-lifetime-expire\":true}}}\n";
+const EXPIRY: &str =
+    "{\"ietf-restconf:notification\":{\"eventTime\":\"1970-01-01T01:00:00Z\",\"ietf-i2nsf-ikeless:sadb-expire\":{\"ipsec-sa-name\":\"out/1\",\"lifetime-current\":{\"bytes\":\"88\",\"idle\":3600,\"packets\":1,\"time\":3600},\"soft-lifetime-expire\":true}}}\n";
 
 const NO_NOTICES: [&str; 16] = [
     "{}\n",

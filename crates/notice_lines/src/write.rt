@@ -26,22 +26,12 @@ fn acquire_value(alloc: Global, policy: &Name, selector: &Selector) -> Result<Va
         "traffic-selector",
         selector_value(alloc, selector)?,
     )?;
-    put_text(
-        &mut members,
-        alloc,
-        "ipsec-policy-name",
-        policy.as_slice(),
-    )?;
+    put_text(&mut members, alloc, "ipsec-policy-name", policy.as_slice())?;
     Ok(Value::Object(members))
 }
 
 #[tactic(auto, unfolding(crate::specs::Envelope::expire_data))]
-fn expire_value(
-    alloc: Global,
-    name: &Name,
-    soft: bool,
-    current: &Limits,
-) -> Result<Value, NoMemory>
+fn expire_value(alloc: Global, name: &Name, soft: bool, current: &Limits) -> Result<Value, NoMemory>
     requires { is_sad_name name.now ≡ true }
     ensures { IfOk result (λ v. view v ≡ expire_data name.now soft current.now) }
 {
@@ -103,12 +93,7 @@ fn event_text(n: &Notice) -> &'static str
 }
 
 #[tactic(auto, unfolding(crate::specs::Envelope::envelope_data))]
-fn envelope_value(
-    alloc: Global,
-    stamp: &[u8],
-    name: &str,
-    event: Value,
-) -> Result<Value, NoMemory>
+fn envelope_value(alloc: Global, stamp: &[u8], name: &str, event: Value) -> Result<Value, NoMemory>
     requires { IsUtf8 stamp.now }
     ensures { IfOk result (λ v. view v ≡ envelope_data stamp.now name.now (view event)) }
 {

@@ -1,4 +1,4 @@
-use Rattle.std.proofs.Common.{◌≡◌, ◌∙◌}
+use Rattle.std.proofs.Common.{◌∙◌}
 use Rattle.notice_lines.proofs.Ends.{position_end}
 use Rattle.notice_lines.proofs.line.line_end.Goals as goal
 

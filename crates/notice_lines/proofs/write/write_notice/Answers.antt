@@ -1,4 +1,4 @@
-use Rattle.std.proofs.Common.{◌≡◌, ◌≤◌, arith}
+use Rattle.std.proofs.Common.{◌≤◌, arith}
 use Rattle.serde_json.specs.Data.{depth}
 use Rattle.notice_lines.specs.Envelope.{notice_data}
 use Rattle.notice_lines.proofs.FlatNotice.{flat_notice}

@@ -1,4 +1,4 @@
-use Rattle.std.proofs.Common.{◌≡◌, ◌∙◌, ◌++◌, ◌≤◌, ◌+◌, List, ℕ, [], length, take, None, Some, ap, sym, subst, arith, refl}
+use Rattle.std.proofs.Common.{◌≡◌, ◌∙◌, ◌++◌, length, take, None, ap, sym, subst, arith, refl}
 use Rattle.ikl_base.specs.declared.fault.OrMemory.{OrMemory}
 use Rattle.notice_lines.specs.declared.fault.NoticeFault.{NoticeFault}
 use Rattle.notice_lines.specs.Reading.{line_end, IsNoneOrMemory}

@@ -1,5 +1,5 @@
-use Rattle.std.proofs.Common.{◌≡◌, ◌∙◌, ◌++◌, ◌≤◌, ◌+◌, List, ℕ, length, None, Some, ap, sym, arith, refl, length-append}
-use Rattle.notice_lines.specs.Reading.{line_end, begins, Open}
+use Rattle.std.proofs.Common.{◌≡◌, ◌∙◌, ◌++◌, length, None, ap, sym, arith, refl, length-append}
+use Rattle.notice_lines.specs.Reading.{line_end}
 use Rattle.notice_lines.proofs.Ends.{end_none}
 use Rattle.notice_lines.proofs.Hearing.{still_open, too_long_none}
 use Rattle.notice_lines.proofs.reader.LineReader.keep.Goals as goal
