@@ -1,8 +1,7 @@
 -- The notification of a notice is read as that notice.
-use Rattle.std.proofs.Common.{◌≡◌, ◌==◌, ◌&&◌, ◌+◌, ◌-◌, ◌^◌, ◌<◌, ◌≤◌, nat_le, ℕ, Bool, true, false, List, [], ◌∷◌, codes, Option, Some, None, Result, Ok, Err, refl, sym, ap, ◌∙◌, arith, if◌then◌else◌}
-use Rattle.std.specs.Bool.{⊤}
+use Rattle.std.proofs.Common.{◌≡◌, ◌&&◌, ◌+◌, ◌-◌, ◌^◌, ◌<◌, ◌≤◌, nat_le, ℕ, Bool, true, false, List, [], ◌∷◌, codes, Option, Some, None, Result, Ok, Err, refl, ap, ◌∙◌, arith, if◌then◌else◌}
 use Rattle.std.specs.Fmt.{decimal}
-use Rattle.serde_json.specs.Data.{Data, boolean, string, array, object, item, no_items, put, no_members}
+use Rattle.serde_json.specs.Data.{Data, string, array, object, put, no_members}
 use Rattle.serde_json.specs.Find.{get}
 use Rattle.ikl_base.specs.declared.address.Prefix.{Prefix}
 use Rattle.ikeless_tree.specs.declared.entry.Range.{Range}
@@ -15,10 +14,9 @@ use Rattle.yang_values.specs.Addresses.{IsAddress}
 use Rattle.yang_values.specs.Numbers.{u64_of}
 use Rattle.yang_values.specs.Prefixes.{prefix_of, prefix_text}
 use Rattle.json_codec.specs.declared.fault.Kind.{Kind}
-use Rattle.json_codec.specs.declared.fault.Fault.{Fault}
 use Rattle.json_codec.specs.Written.{count, wide, only, with_ports, range_data, range_items, proto_data, selector_data}
 use Rattle.json_codec.specs.Associations.{counts_data}
-use Rattle.json_codec.specs.Shapes.{shape, each_item, only_in, items_read}
+use Rattle.json_codec.specs.Shapes.{shape, each_item, only_in}
 use Rattle.json_codec.specs.Members.{range_shape, selector_shape, counts_shape}
 use Rattle.json_codec.specs.Leaves.{number_in, needed_number, protocol_leaf, prefix_leaf, wide_or, count_or, name_leaf}
 use Rattle.json_codec.specs.Selectors.{range_in, ports_in, side_in, selector_in, limits_from, counts_in}

@@ -1,5 +1,5 @@
 -- The canonical text of a prefix is short.
-use Rattle.std.proofs.Common.{◌≡◌, ◌+◌, ◌-◌, ◌*◌, ◌^◌, ◌<◌, ◌≤◌, nat_le, nat_lt, ◌&&◌, min, ℕ, Bool, true, false, List, [], ◌∷◌, ◌++◌, map, length, take, drop, Option, Some, None, refl, sym, ap, arith, length-append, suc, if◌then◌else◌}
+use Rattle.std.proofs.Common.{◌≡◌, ◌+◌, ◌*◌, ◌<◌, ◌≤◌, nat_le, nat_lt, ◌&&◌, ℕ, Bool, true, false, List, [], ◌∷◌, map, length, take, drop, Some, None, refl, ap, arith, length-append, suc, if◌then◌else◌}
 use Rattle.std.specs.List.{AllByRecursion, list_all, join_with_byte}
 use Rattle.std.specs.Fmt.{decimal}
 use Rattle.std.specs.Char.{is_ascii_hexdigit}
@@ -12,7 +12,7 @@ use Rattle.ikl_base.specs.declared.address.Addr.{Addr}
 use Rattle.ikl_base.specs.declared.address.Addr.TheVariants.{V4, V6}
 use Rattle.ikl_base.specs.declared.address.Prefix.{Prefix}
 use Rattle.yang_values.specs.HexText.{hex_number}
-use Rattle.yang_values.specs.Addresses.{IsAddress, address_text, dotted, groups_of, group_text, group_of, joined, groups_text, shortened, longest_run, first_run}
+use Rattle.yang_values.specs.Addresses.{IsAddress, address_text, groups_of, group_text, joined, groups_text, shortened, longest_run, first_run}
 use Rattle.yang_values.specs.Prefixes.{prefix_text}
 use Rattle.yang_values.proofs.ValueText.{group_of-text}
 use Rattle.yang_values.proofs.GroupText.{length-groups_of, small_groups, all_take, all_drop}

@@ -1,5 +1,5 @@
 -- The line of a notice has no LF before its end, and is short.
-use Rattle.std.proofs.Common.{◌≡◌, ◌+◌, ◌*◌, ◌^◌, ◌<◌, ◌≤◌, nat_le, nat_lt, ◌&&◌, ℕ, Bool, true, false, List, [], ◌∷◌, codes, length, take, drop, ◌||◌, inl, inr, Option, Some, None, refl, sym, ap, ◌∙◌, arith}
+use Rattle.std.proofs.Common.{◌≡◌, ◌+◌, ◌*◌, ◌^◌, ◌<◌, ◌≤◌, nat_le, nat_lt, ◌&&◌, ℕ, Bool, true, false, List, [], ◌∷◌, codes, length, take, drop, ◌||◌, inl, inr, Option, Some, None, refl, arith}
 use Rattle.std.specs.List.{list_all}
 use Rattle.std.specs.Fmt.{decimal}
 use Rattle.std.specs.Str.{bytes_eq}
@@ -7,7 +7,7 @@ use Rattle.std.proofs.lemmas.Bool.{and_parts, or_cases}
 use Rattle.std.proofs.lemmas.Fmt.{length-decimal-le}
 use Rattle.std.proofs.lemmas.List.{length-drop}
 use Rattle.std.proofs.lemmas.Bool.Decides.{nat_tests}
-use Rattle.serde_json.specs.Data.{Data, Members, boolean, string, object, array, put, no_members, item, no_items}
+use Rattle.serde_json.specs.Data.{Data, Members, boolean, string, array, no_members}
 use Rattle.serde_json.specs.Written.{compact_text}
 use Rattle.ikl_base.specs.declared.address.Prefix.{Prefix}
 use Rattle.ikeless_tree.specs.declared.entry.Range.{Range}
@@ -18,7 +18,7 @@ use Rattle.ikeless_tree.specs.declared.order.Notice.TheVariants as notices
 use Rattle.ikeless_tree.specs.Check.{is_spd_name, is_sad_name, is_serial, has_front, is_path_octet, is_word_octet, has_many_ranges}
 use Rattle.yang_values.specs.Addresses.{IsAddress}
 use Rattle.yang_values.specs.Prefixes.{prefix_text}
-use Rattle.json_codec.specs.Written.{count, wide, only, with_ports, range_data, range_items, proto_data, selector_data}
+use Rattle.json_codec.specs.Written.{count, wide, with_ports, range_data, range_items, proto_data, selector_data}
 use Rattle.json_codec.specs.Associations.{counts_data}
 use Rattle.notice_lines.specs.Held.{HoldsRanges, HoldsProtocol, HoldsSelector, HoldsCounts, HoldsNotice}
 use Rattle.notice_lines.specs.Envelope.{acquire_data, expire_data, overflow_data, bad_spi_data, event_name, event_data, envelope_data, notice_data, IsNotice}

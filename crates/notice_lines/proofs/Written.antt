@@ -1,9 +1,8 @@
 -- What is written is heard.
-use Rattle.std.proofs.Common.{◌≡◌, ◌+◌, ◌^◌, ◌<◌, ◌≤◌, ℕ, List, [], ◌∷◌, ◌++◌, length, take, IsUtf8, refl, sym, ap, ◌∙◌, arith, append_assoc, length-append}
+use Rattle.std.proofs.Common.{◌≡◌, ◌+◌, ◌≤◌, ℕ, List, [], ◌∷◌, ◌++◌, length, take, ap, ◌∙◌, arith, append_assoc, length-append}
 use Rattle.std.specs.List.{flat_map}
 use Rattle.serde_json.specs.Written.{compact_text}
 use Rattle.ikeless_tree.specs.declared.order.Notice.{Notice}
-use Rattle.notice_lines.specs.Moments.{stamp_text}
 use Rattle.notice_lines.specs.Held.{HoldsNotice}
 use Rattle.notice_lines.specs.Envelope.{notice_data, IsNotice}
 use Rattle.notice_lines.specs.Reading.{IsLine, HasNotice, Ends, first_begins}
