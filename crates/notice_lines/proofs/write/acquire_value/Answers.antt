@@ -1,0 +1,9 @@
+use Rattle.std.proofs.Common.{◌≡◌}
+use Rattle.json_codec.proofs.Plain.{utf8_name}
+use Rattle.json_codec.proofs.Passed.{path_octets}
+use Rattle.notice_lines.proofs.write.acquire_value.Goals as goal
+
+pub put_text-requires : goal.put_text-requires
+put_text-requires c =
+    let e : c.as_slice.result.now ≡ c.args.policy.now = c.as_slice.ensures in
+    rw e (utf8_name c.args.policy.now (path_octets c.args.policy.now c.requires))

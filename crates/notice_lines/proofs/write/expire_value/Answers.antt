@@ -1,0 +1,9 @@
+use Rattle.std.proofs.Common.{◌≡◌}
+use Rattle.json_codec.proofs.Plain.{utf8_name}
+use Rattle.json_codec.proofs.Passed.{half_octets}
+use Rattle.notice_lines.proofs.write.expire_value.Goals as goal
+
+pub put_text-requires : goal.put_text-requires
+put_text-requires c =
+    let e : c.as_slice.result.now ≡ c.args.name.now = c.as_slice.ensures in
+    rw e (utf8_name c.args.name.now (half_octets c.args.name.now c.requires))

@@ -1,0 +1,4 @@
+pub mod Moments
+pub mod Envelope
+pub mod Reading
+pub mod Held
