@@ -1,16 +1,13 @@
 -- The names of halves, of this project, and the ESP octets of datagrams (RFC 4303).
-use Rattle.std.specs.Prelude.{ℕ, ◌==◌, ◌&&◌, Bool, true, false, List, [], ◌++◌, codes, take, drop, find, Option, Result, Ok, Err, if◌then◌else◌}
+use Rattle.std.specs.Prelude.{ℕ, ◌==◌, ◌&&◌, Bool, true, false, List, [], ◌++◌, codes, drop, find, Option, Result, Ok, Err, if◌then◌else◌}
 use Rattle.std.specs.Str.{bytes_eq}
 use Rattle.ip_packet.specs.declared.packet.NotPacket.{NotPacket}
 use Rattle.ip_packet.specs.View.{Packet, view_of}
+pub use Rattle.ikeless_tree.specs.Half.{is_inbound}
 use Rattle.ikeless_tree.specs.declared.association.SadEntry.{SadEntry}
 use Rattle.ikeless_tree.specs.declared.reply.DropWhy.{DropWhy}
 use Rattle.ikeless_tree.specs.declared.reply.DropWhy.TheVariants as why
 use Rattle.esp_frame.specs.Esp.{seq_of}
-
--- the direction of a half is the front of its name
-abbrev pub is_inbound : List ℕ → Bool
-is_inbound name = bytes_eq (take 3 name) (codes "in/")
 
 -- the name of the other half of an association: both have one serial
 abbrev pub other_half : List ℕ → List ℕ
