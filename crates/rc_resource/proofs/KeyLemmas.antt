@@ -1,8 +1,7 @@
 -- The set of the code escapes what the definition escapes.
-use Rattle.std.proofs.Common.{◌≡◌, ℕ, ◌<◌, ◌≤◌, true, false, not, List, [], ◌∷◌, ◌++◌, refl, ap, ◌∙◌, ◌⊎◌, arith, rules, cond, Bool, ltb, All}
-use Rattle.std.specs.Char.{is_ascii}
+use Rattle.std.proofs.Common.{◌≡◌, ℕ, ◌<◌, true, false, not, List, [], ◌∷◌, ◌++◌, refl, ap, rules, cond, Bool, All}
 use Rattle.std.proofs.lemmas.Bool.{agree_below, agree_below_at}
-use Rattle.percent_encoding.specs.AsciiSet.{contains, should_percent_encode}
+use Rattle.percent_encoding.specs.AsciiSet.{should_percent_encode}
 use Rattle.percent_encoding.specs.Percent.{percent_encode, percent_decode, encode_byte, percent_encode_byte}
 use Rattle.percent_encoding.proofs.PercentLemmas.{IsByte, round_trip as crate_round_trip}
 use Rattle.std.proofs.lemmas.List.Elements.{All-head, All-tail}

@@ -2,6 +2,7 @@
 #![tactic(auto)]
 
 mod path;
+mod query;
 mod resource;
 
 pub use resource::Resource;

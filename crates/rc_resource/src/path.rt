@@ -11,8 +11,13 @@ use percent_encoding::{AsciiSet, NON_ALPHANUMERIC, ascii_set, percent_decode, pe
 use std::alloc::Global;
 
 /// What is escaped in a list key: all but letters, digits and `-._~` (RFC 3986 section 2.3).
-const KEY: AsciiSet =
-    ascii_set!(NON_ALPHANUMERIC.remove(b'-').remove(b'.').remove(b'_').remove(b'~'));
+const KEY: AsciiSet = ascii_set!(
+    NON_ALPHANUMERIC
+        .remove(b'-')
+        .remove(b'.')
+        .remove(b'_')
+        .remove(b'~')
+);
 
 /// A text without its escapes.
 pub(crate) fn decoded(alloc: Global, text: &[u8]) -> Result<Vec<u8>, NoMemory>
