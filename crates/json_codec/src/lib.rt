@@ -9,6 +9,6 @@ mod policies;
 mod tests;
 mod words;
 
-pub use associations::{write_sad, write_sad_entry};
+pub use associations::{write_sad, write_sad_entry, write_sad_row};
 pub use commands::write_command;
 pub use policies::{write_spd, write_spd_entry};
