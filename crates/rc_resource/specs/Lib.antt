@@ -1,2 +1,4 @@
 pub mod Paths
 pub mod Queries
+pub mod Errors
+pub mod Replies

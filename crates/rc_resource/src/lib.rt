@@ -1,8 +1,13 @@
 //! RESTCONF (RFC 8040) over the databases of a gateway: requests and answers, typed.
 #![tactic(auto)]
 
+mod error;
 mod path;
 mod query;
+mod reply;
 mod resource;
 
+pub use error::RcError;
+pub use reply::{Reply, error_reply};
+pub use reply_table::{Ask, Change, Place};
 pub use resource::Resource;
