@@ -2,3 +2,4 @@ pub mod Paths
 pub mod Queries
 pub mod Errors
 pub mod Replies
+pub mod Lists

@@ -2,7 +2,9 @@
 #![tactic(auto)]
 
 mod error;
+mod halves;
 mod path;
+mod policies;
 mod query;
 mod reply;
 mod resource;
