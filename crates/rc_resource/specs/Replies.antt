@@ -3,6 +3,7 @@ use Rattle.std.specs.Prelude.{ℕ, List, [], Option, Some, None}
 use Rattle.serde_json.specs.Written.{compact_text}
 use Rattle.ikeless_tree.specs.declared.reply.Tag.{Tag}
 use Rattle.ikeless_tree.specs.declared.reply.App.{App}
+use Rattle.reply_table.specs.declared.ask.Change.{Change}
 use Rattle.reply_table.specs.declared.ask.Change.TheVariants as changes
 use Rattle.reply_table.specs.Reply.{Shown, Nothing, Policies, Policy, Halves, Half, Location, Nowhere, At_policy, At_half, Outcome}
 use Rattle.json_codec.specs.Written.{one_policy, all_policies}
@@ -52,3 +53,17 @@ refusal e = record {
   body = compact_text (error_data e.app e.path e.tag);
   change = changes.Nothing;
 }
+
+-- a refusal of what is asked of these databases
+abbrev pub plain_refusal : ℕ → Tag → App → Reply
+plain_refusal status tag app = refusal (record { status = status; tag = tag; app = app; path = None; allow = [] })
+
+-- 200 with a body, 201 with a location, and 204
+abbrev pub shows_reply : List (List ℕ) → List ℕ → Reply
+shows_reply names body = record { status = 200; tag = None; names = names; location = []; allow = []; body = body; change = changes.Nothing }
+
+abbrev pub made_reply : List ℕ → Change → Reply
+made_reply location change = record { status = 201; tag = None; names = []; location = location; allow = []; body = []; change = change }
+
+abbrev pub done_reply : Change → Reply
+done_reply change = record { status = 204; tag = None; names = []; location = []; allow = []; body = []; change = change }

@@ -18,6 +18,13 @@ fn place_of(rows: &[SadRow], name: &[u8]) -> Option<usize>
         .position(|row| row.entry.name.as_slice() == name)
 }
 
+/// Whether there is an association of this name.
+pub(crate) fn has_half(rows: &[SadRow], name: &[u8]) -> bool
+    ensures { result ≡ list_any (is_row name.now) rows.now }
+{
+    rows.iter().any(|row| row.entry.name.as_slice() == name)
+}
+
 /// Where the association of this name is.
 pub(crate) fn find_half(rows: &[SadRow], name: &Name) -> Option<usize>
     ensures { IsFirst (is_row name.now) rows.now result }

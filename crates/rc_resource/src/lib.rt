@@ -4,12 +4,14 @@
 mod error;
 mod halves;
 mod path;
+mod perform;
 mod policies;
 mod query;
 mod reply;
 mod resource;
 
 pub use error::RcError;
+pub use perform::apply;
 pub use reply::{Reply, error_reply};
 pub use reply_table::{Ask, Change, Place};
 pub use resource::Resource;

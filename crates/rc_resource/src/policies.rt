@@ -1,7 +1,7 @@
 // Changes of the policies.
 ghost use Rattle.std.specs.Prelude.{◌≡◌, ◌≤◌, ◌<◌, ◌++◌, ◌∷◌, [], length, position, find, IfOk, OnOk, OnErr, Some, None, slice_set};
 ghost use Rattle.std.specs.Option.{option_copied};
-ghost use Rattle.std.specs.List.{insert, remove, position_or_len};
+ghost use Rattle.std.specs.List.{insert, list_any, remove, position_or_len};
 ghost use Rattle.ikeless_tree.specs.Check.{is_named, spd_fault};
 ghost use Rattle.reply_table.specs.Reply.{replaced, without_policy};
 ghost use Rattle.rc_resource.specs.Lists.{IsFirst, IsIndexFor};
@@ -18,6 +18,13 @@ fn place_of(list: &[SpdEntry], name: &[u8]) -> Option<usize>
     ensures { result ≡ position (is_named name.now) list.now }
 {
     list.iter().position(|entry| entry.name.as_slice() == name)
+}
+
+/// Whether there is a policy of this name.
+pub(crate) fn has_policy(list: &[SpdEntry], name: &[u8]) -> bool
+    ensures { result ≡ list_any (is_named name.now) list.now }
+{
+    list.iter().any(|entry| entry.name.as_slice() == name)
 }
 
 /// Where the policy of this name is.
@@ -78,6 +85,22 @@ pub(crate) fn insert_policy(
     let path = path_of_policy(alloc, &e.name)?;
     let copy = e.copy()?;
     insert(alloc, list, at, copy)?;
+    Ok(path)
+}
+
+/// Puts a policy at the end of the list, and gives its path.
+pub(crate) fn append_policy(
+    alloc: Global,
+    list: &mut Entries,
+    e: &SpdEntry,
+) -> Result<Octets, NoMemory>
+    ensures ok { OnOk result (list.new ≡ list.old ++ e.now ∷ []) }
+    ensures path { IfOk result (λ path. path ≡ policy_path e.now.name) }
+    ensures err { OnErr result (list.new ≡ list.old) }
+{
+    let path = path_of_policy(alloc, &e.name)?;
+    let copy = e.copy()?;
+    list.push(copy)?;
     Ok(path)
 }
 
