@@ -1,0 +1,11 @@
+pub mod PlaceLemmas
+pub mod EndLemmas
+pub mod ValueLemmas
+pub mod FieldLemmas
+pub mod LookLemmas
+pub mod AdvanceLemmas
+pub mod FeedLemmas
+pub mod WriteLemmas
+pub mod WholeLemmas
+pub mod AgainLemmas
+pub mod AnswerLemmas
