@@ -3,3 +3,4 @@ pub mod Queries
 pub mod Errors
 pub mod Replies
 pub mod Lists
+pub mod Messages

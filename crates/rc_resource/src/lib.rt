@@ -3,6 +3,7 @@
 
 mod error;
 mod halves;
+mod message;
 mod path;
 mod perform;
 mod policies;
@@ -11,6 +12,7 @@ mod reply;
 mod resource;
 
 pub use error::RcError;
+pub use message::{order_request, reply_response};
 pub use perform::apply;
 pub use reply::{Reply, error_reply};
 pub use reply_table::{Ask, Change, Place};
