@@ -4,3 +4,4 @@ pub mod Errors
 pub mod Replies
 pub mod Lists
 pub mod Messages
+pub mod Operations

@@ -4,6 +4,7 @@
 mod error;
 mod halves;
 mod message;
+mod operation;
 mod path;
 mod perform;
 mod policies;
