@@ -4,3 +4,5 @@ pub mod Lists
 pub mod Passed
 pub mod FlatRows
 pub mod Keyless
+pub mod ItemLemmas
+pub mod JsonText

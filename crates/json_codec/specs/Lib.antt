@@ -1,4 +1,13 @@
 pub mod Words
+pub mod Faults
+pub mod Shapes
+pub mod Members
+pub mod Leaves
+pub mod Selectors
 pub mod Written
 pub mod Associations
 pub mod Commands
+pub mod Policies
+pub mod Halves
+pub mod Operations
+pub mod Bodies

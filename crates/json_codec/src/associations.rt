@@ -221,7 +221,8 @@ fn entry_value(alloc: Global, entry: &SadEntry) -> Result<Value, NoMemory>
     Ok(Value::Object(members))
 }
 
-fn counts_value(alloc: Global, counts: &Limits) -> Result<Value, NoMemory>
+/// The object of counts, each of which is written.
+pub fn counts_value(alloc: Global, counts: &Limits) -> Result<Value, NoMemory>
     ensures { IfOk result (λ v. view v ≡ counts_data counts.now) }
 {
     let mut members = Map::new(alloc);

@@ -13,7 +13,7 @@ use std::alloc::Global;
 use yang_values::write_u64;
 
 /// The members of an object.
-pub(crate) type Members = Map<String, Value>;
+pub type Members = Map<String, Value>;
 
 /// A string of these octets.
 pub(crate) fn text(alloc: Global, octets: &[u8]) -> Result<Value, NoMemory>
@@ -27,12 +27,7 @@ pub(crate) fn text(alloc: Global, octets: &[u8]) -> Result<Value, NoMemory>
 }
 
 /// Puts a member into an object.
-pub(crate) fn put(
-    members: &mut Members,
-    alloc: Global,
-    name: &str,
-    value: Value,
-) -> Result<(), NoMemory>
+pub fn put(members: &mut Members, alloc: Global, name: &str, value: Value) -> Result<(), NoMemory>
     ensures { OnOk result (members_view members.new.entries
         ≡ with_member name.now (view value) (members_view members.old.entries)) }
 {
@@ -40,7 +35,7 @@ pub(crate) fn put(
 }
 
 /// Puts a string into an object.
-pub(crate) fn put_word(
+pub fn put_word(
     members: &mut Members,
     alloc: Global,
     name: &str,
@@ -54,7 +49,7 @@ pub(crate) fn put_word(
 }
 
 /// Puts a string of octets into an object.
-pub(crate) fn put_text(
+pub fn put_text(
     members: &mut Members,
     alloc: Global,
     name: &str,
@@ -69,12 +64,7 @@ pub(crate) fn put_text(
 }
 
 /// Puts a number of at most 32 bits into an object.
-pub(crate) fn put_count(
-    members: &mut Members,
-    alloc: Global,
-    name: &str,
-    n: u32,
-) -> Result<(), NoMemory>
+pub fn put_count(members: &mut Members, alloc: Global, name: &str, n: u32) -> Result<(), NoMemory>
     ensures { OnOk result (members_view members.new.entries
         ≡ with_member name.now (count n) (members_view members.old.entries)) }
 {
@@ -82,12 +72,7 @@ pub(crate) fn put_count(
 }
 
 /// Puts a number of 64 bits into an object, as a string.
-pub(crate) fn put_wide(
-    members: &mut Members,
-    alloc: Global,
-    name: &str,
-    n: u64,
-) -> Result<(), NoMemory>
+pub fn put_wide(members: &mut Members, alloc: Global, name: &str, n: u64) -> Result<(), NoMemory>
     ensures { OnOk result (members_view members.new.entries
         ≡ with_member name.now (wide n) (members_view members.old.entries)) }
 {
@@ -96,7 +81,7 @@ pub(crate) fn put_wide(
 }
 
 /// An object of one member.
-pub(crate) fn single(alloc: Global, name: &str, value: Value) -> Result<Value, NoMemory>
+pub fn single(alloc: Global, name: &str, value: Value) -> Result<Value, NoMemory>
     ensures { IfOk result (λ v. view v ≡ only name.now (view value)) }
 {
     let mut members = Map::new(alloc);
@@ -105,7 +90,7 @@ pub(crate) fn single(alloc: Global, name: &str, value: Value) -> Result<Value, N
 }
 
 /// The compact text of a value, which is read again as that value.
-pub(crate) fn written(alloc: Global, value: &Value) -> Result<Octets, NoMemory>
+pub fn written(alloc: Global, value: &Value) -> Result<Octets, NoMemory>
     requires plain { has_float (view value.now) ≡ false }
     requires shallow { depth (view value.now) ≤ max_depth }
     ensures text { IfOk result (λ text. text ≡ compact_text (view value.now)) }

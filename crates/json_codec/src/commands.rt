@@ -30,7 +30,8 @@ fn put_gateway(
     put_text(members, alloc, name, gateway.as_slice())
 }
 
-fn mode_text(now: bool) -> &'static str
+/// The word of whether keys are asked for at once.
+pub(crate) fn mode_text(now: bool) -> &'static str
     ensures { result.now ≡ mode_word now }
 {
     if now { "now" } else { "acquire" }

@@ -2,13 +2,29 @@
 #![tactic(auto)]
 
 mod associations;
+mod bodies;
 mod build;
 mod commands;
+mod entries;
+mod fault;
+mod halves;
+mod leaves;
+mod members;
+mod names;
+mod operations;
 mod policies;
+mod selectors;
+mod shapes;
 #[cfg(test)]
 mod tests;
 mod words;
 
-pub use associations::{write_sad, write_sad_entry, write_sad_row};
+pub use associations::{counts_value, write_sad, write_sad_entry, write_sad_row};
+pub use bodies::{read_command, read_sad_entry, read_spd, read_spd_entry};
+pub use build::{Members, put, put_count, put_text, put_wide, put_word, single, written};
 pub use commands::write_command;
-pub use policies::{write_spd, write_spd_entry};
+pub use fault::{CodecFault, Fault, Kind, at_member, within};
+pub use leaves::{number_of, text_of};
+pub use policies::{selector_value, write_spd, write_spd_entry};
+pub use selectors::{read_counts, read_selector, read_selector_member};
+pub use shapes::{has_shape, only};

@@ -80,8 +80,9 @@ fn proto_value(alloc: Global, proto: Option<u8>) -> Result<Value, NoMemory>
     }
 }
 
+/// The object of a selector.
 #[tactic(auto, unfolding(crate::specs::Written::selector_data))]
-pub(crate) fn selector_value(alloc: Global, selector: &Selector) -> Result<Value, NoMemory>
+pub fn selector_value(alloc: Global, selector: &Selector) -> Result<Value, NoMemory>
     ensures { IfOk result (λ v. view v ≡ selector_data selector.now) }
 {
     let mut members = Map::new(alloc);
