@@ -5,3 +5,6 @@ pub mod Replies
 pub mod Lists
 pub mod Messages
 pub mod Operations
+pub mod Requests
+pub mod Answers
+pub mod Laws

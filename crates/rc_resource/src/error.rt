@@ -10,6 +10,7 @@ ghost use Rattle.rc_resource.specs.Errors.{is_of_protocol, type_text, with_messa
 
 use ikeless_tree::{App, Tag};
 use ikl_base::{NoMemory, Octets};
+use json_codec::{Members, put_word, single};
 use serde_json::{Map, Value};
 use std::alloc::Global;
 
@@ -50,19 +51,6 @@ fn error_type(path: Option<&[u8]>, app: App) -> &'static str
     }
 }
 
-fn put(
-    members: &mut Map<String, Value>,
-    alloc: Global,
-    name: &str,
-    word: &str,
-) -> Result<(), NoMemory>
-    ensures { OnOk result (members_view members.new.entries
-        ≡ with_member name.now (string word.now) (members_view members.old.entries)) }
-{
-    let value = Value::try_from_str(alloc, word)?;
-    Ok(serde_json::put(members, alloc, name, value)?)
-}
-
 // What is said of a fault at a pointer.
 fn message(alloc: Global, pointer: &[u8]) -> Result<String, NoMemory>
     requires { IsUtf8 pointer.now }
@@ -76,11 +64,7 @@ fn message(alloc: Global, pointer: &[u8]) -> Result<String, NoMemory>
     Ok(text)
 }
 
-fn put_message(
-    members: &mut Map<String, Value>,
-    alloc: Global,
-    path: Option<&[u8]>,
-) -> Result<(), NoMemory>
+fn put_message(members: &mut Members, alloc: Global, path: Option<&[u8]>) -> Result<(), NoMemory>
     requires { IfSome path (λ pointer. IsUtf8 pointer.now) }
     ensures { OnOk result (members_view members.new.entries
         ≡ with_message (option_copied path.entry) (members_view members.old.entries)) }
@@ -88,7 +72,7 @@ fn put_message(
     match path {
         Some(pointer) => {
             let text = message(alloc, pointer)?;
-            put(members, alloc, "error-message", text.as_str())
+            put_word(members, alloc, "error-message", text.as_str())
         }
         None => Ok(()),
     }
@@ -99,18 +83,10 @@ fn item_value(alloc: Global, app: App, path: Option<&[u8]>, tag: Tag) -> Result<
     ensures { IfOk result (λ v. view v ≡ error_item app (option_copied path.entry) tag) }
 {
     let mut members = Map::new(alloc);
-    put(&mut members, alloc, "error-type", error_type(path, app))?;
-    put(&mut members, alloc, "error-tag", tag.text())?;
+    put_word(&mut members, alloc, "error-type", error_type(path, app))?;
+    put_word(&mut members, alloc, "error-tag", tag.text())?;
     put_message(&mut members, alloc, path)?;
-    put(&mut members, alloc, "error-app-tag", app.text())?;
-    Ok(Value::Object(members))
-}
-
-fn single(alloc: Global, name: &str, value: Value) -> Result<Value, NoMemory>
-    ensures { IfOk result (λ v. view v ≡ only name.now (view value)) }
-{
-    let mut members = Map::new(alloc);
-    serde_json::put(&mut members, alloc, name, value)?;
+    put_word(&mut members, alloc, "error-app-tag", app.text())?;
     Ok(Value::Object(members))
 }
 
