@@ -6,3 +6,9 @@ pub mod FlatRows
 pub mod Keyless
 pub mod ItemLemmas
 pub mod JsonText
+pub mod LeafLaws
+pub mod ShapeLaws
+pub mod PolicyLaws
+pub mod BodyLaws
+pub mod HalfLaws
+pub mod CommandLaws

@@ -19,6 +19,7 @@ use Rattle.json_codec.specs.Shapes.{only_in, one_read}
 use Rattle.json_codec.specs.Leaves.{needed_number, address_leaf, df_leaf, fixed_number, fixed_word, key_leaf}
 use Rattle.json_codec.specs.Members.{encryption_shape, tunnel_shape, limits_shape, soft_shape, config_shape, sad_entry_shape}
 use Rattle.json_codec.specs.Selectors.{selector_of, limits_from}
+use Rattle.json_codec.specs.Json.{no_limits}
 use Rattle.json_codec.specs.Policies.{unset_in, word_in, window_in, reqid_in, name_in}
 
 -- AES-GCM with an ICV of 16 octets, the number 20
@@ -47,9 +48,6 @@ sealing_in d =
     word_in (codes "mode") (codes "tunnel") d >>= (λ mode.
     word_in (codes "protocol-parameters") (codes "esp") d >>= (λ protocol.
     Ok (record { window = window; key = key }))))))
-
-abbrev pub no_limits : Limits
-no_limits = record { time = 0; bytes = 0; packets = 0; idle = 0 }
 
 unfoldable pub limits_in : Data → Result Limits Fault
 limits_in d = limits_shape d >>= (λ done. limits_from d)

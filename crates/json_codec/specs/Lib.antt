@@ -4,6 +4,7 @@ pub mod Shapes
 pub mod Members
 pub mod Leaves
 pub mod Selectors
+pub mod Json
 pub mod Written
 pub mod Associations
 pub mod Commands

@@ -6,7 +6,7 @@ ghost use Rattle.ikl_base.specs.Answers.{Gives};
 ghost use Rattle.ikeless_tree.specs.Check.{sad_fault};
 ghost use Rattle.json_codec.specs.Faults.{checked};
 ghost use Rattle.json_codec.specs.Shapes.{seen, one_read};
-ghost use Rattle.json_codec.specs.Halves.{algorithm_in, key_in, encryption_in, suite_key, suite_key_of, sealing_in, no_limits, limits_in, limits_of, soft_in, soft_of, lifetimes_in, df_in, address_in, tunnel_in, tunnel_of, spi_in, traffic_in, config_in, config_of, half_of, sad_entry_in, one_half, one_sad_entry_in};
+ghost use Rattle.json_codec.specs.Halves.{algorithm_in, key_in, encryption_in, suite_key, suite_key_of, sealing_in, limits_in, limits_of, soft_in, soft_of, lifetimes_in, df_in, address_in, tunnel_in, tunnel_of, spi_in, traffic_in, config_in, config_of, half_of, sad_entry_in, one_half, one_sad_entry_in};
 
 use crate::entries::{reqid, unset, window, worded};
 use crate::fault::{Fault, Kind, at_made, at_member, kind_of_tree, within};

@@ -8,6 +8,7 @@ mod commands;
 mod entries;
 mod fault;
 mod halves;
+mod laws;
 mod leaves;
 mod members;
 mod names;
@@ -24,6 +25,10 @@ pub use bodies::{read_command, read_sad_entry, read_spd, read_spd_entry};
 pub use build::{Members, put, put_count, put_text, put_wide, put_word, single, written};
 pub use commands::write_command;
 pub use fault::{CodecFault, Fault, Kind, at_member, within};
+pub use laws::{
+    commands_are_accepted, one_association_is_accepted, one_policy_is_accepted,
+    policies_are_accepted,
+};
 pub use leaves::{number_of, text_of};
 pub use policies::{selector_value, write_spd, write_spd_entry};
 pub use selectors::{read_counts, read_selector, read_selector_member};

@@ -1,3 +1,5 @@
+mod reading;
+
 use super::*;
 use ikeless_tree::{Action, Command, Direction, Entries, Selector, SpdEntry, check_spd};
 use ikl_base::{ListOf, Name, NoMemory, Octets, Prefix};

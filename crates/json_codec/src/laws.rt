@@ -1,0 +1,41 @@
+// What is accepted, said apart from how it is read.
+ghost use Rattle.std.specs.Prelude.{◌≡◌, ◌∷◌, [], ℕ, List, Ok, None, IsTrue};
+ghost use Rattle.ikeless_tree.specs.declared.entry.SpdEntry.{SpdEntry};
+ghost use Rattle.ikeless_tree.specs.declared.association.SadEntry.{SadEntry};
+ghost use Rattle.ikeless_tree.specs.declared.command.Command.{Command};
+ghost use Rattle.ikeless_tree.specs.Check.{spd_fault, sad_fault};
+ghost use Rattle.json_codec.specs.Operations.{is_operation, command_fault};
+ghost use Rattle.json_codec.specs.Bodies.{spd_of, spd_entry_of, sad_entry_of, command_of};
+ghost use Rattle.json_codec.specs.Json.{StandsFor, IsSpd, IsOneSpdEntry, IsOneSadEntry, IsCommand};
+
+/// A body is read as a list of policies exactly where it stands for that list, and the list has no fault.
+pub fn policies_are_accepted()
+    ensures sound { (body : List ℕ) (es : List SpdEntry) → spd_of body ≡ Ok es
+        → StandsFor body (λ d. IsSpd es d × (spd_fault es ≡ None)) }
+    ensures complete { (body : List ℕ) (es : List SpdEntry)
+        → StandsFor body (λ d. IsSpd es d × (spd_fault es ≡ None)) → spd_of body ≡ Ok es }
+{}
+
+/// A body is read as one policy exactly where it stands for that policy, which has no fault.
+pub fn one_policy_is_accepted()
+    ensures sound { (body : List ℕ) (e : SpdEntry) → spd_entry_of body ≡ Ok e
+        → StandsFor body (λ d. IsOneSpdEntry e d × (spd_fault (e ∷ []) ≡ None)) }
+    ensures complete { (body : List ℕ) (e : SpdEntry)
+        → StandsFor body (λ d. IsOneSpdEntry e d × (spd_fault (e ∷ []) ≡ None)) → spd_entry_of body ≡ Ok e }
+{}
+
+/// A body is read as one association exactly where it stands for that association, which has no fault.
+pub fn one_association_is_accepted()
+    ensures sound { (body : List ℕ) (e : SadEntry) → sad_entry_of body ≡ Ok e
+        → StandsFor body (λ d. IsOneSadEntry e d × (sad_fault e ≡ None)) }
+    ensures complete { (body : List ℕ) (e : SadEntry)
+        → StandsFor body (λ d. IsOneSadEntry e d × (sad_fault e ≡ None)) → sad_entry_of body ≡ Ok e }
+{}
+
+/// A body is read as a command of an operation exactly where it stands for that command, whose list has no fault.
+pub fn commands_are_accepted()
+    ensures sound { (op body : List ℕ) (c : Command) → IsTrue (is_operation op) → command_of op body ≡ Ok c
+        → StandsFor body (λ d. IsCommand op c d × (command_fault c ≡ None)) }
+    ensures complete { (op body : List ℕ) (c : Command)
+        → StandsFor body (λ d. IsCommand op c d × (command_fault c ≡ None)) → command_of op body ≡ Ok c }
+{}
