@@ -11,7 +11,7 @@ use Rattle.ikeless_tree.specs.declared.command.TunnelSpec.{TunnelSpec}
 use Rattle.ikeless_tree.specs.declared.entry.SpdEntry.{SpdEntry}
 use Rattle.json_codec.specs.Commands.{policy_input, with_first, with_second, tunnel_input, input_of, command_data}
 use Rattle.json_codec.specs.Written.{count, wide, only}
-use Rattle.json_codec.specs.Associations.{one_row, with_count, with_wide, limits_members, has_no_limits, with_lifetime, with_soft, tunnel_data, encryption_data, with_key, with_sealing, with_fixed, with_ends, config_data, sad_entry_data, counts_data, state_data, with_state, row_data, row_items, one_association, all_rows}
+use Rattle.json_codec.specs.Associations.{with_count, with_wide, limits_members, has_no_limits, with_lifetime, with_soft, tunnel_data, encryption_data, with_key, with_sealing, with_fixed, with_ends, config_data, sad_entry_data, counts_data, state_data, with_state, row_data, row_items, one_association, all_rows}
 use Rattle.json_codec.proofs.Flat.{IsFlat, AreFlat, AreFlatItems, flat_put, flat_none, flat_object, flat_array, flat_string, flat_count, flat_item, flat_no_items, flat_only, flat_selector, flat_spd_entries}
 
 flat_if : (n : ℕ) (b : Bool) (x y : Members) → AreFlat n x → AreFlat n y → AreFlat n (if b then x else y)
@@ -108,9 +108,6 @@ flat_one_association e = flat_only 6 (codes "ietf-i2nsf-ikeless:sad-entry") _ (f
 
 pub flat_all_rows : (rs : List SadRow) → IsFlat 8 (all_rows rs)
 flat_all_rows rs = flat_only 7 (codes "ietf-i2nsf-ikeless:sad") _ (flat_only 6 (codes "sad-entry") _ (flat_array 5 _ (flat_rows rs)))
-
-pub flat_one_row : (r : SadRow) → IsFlat 7 (one_row r)
-flat_one_row r = flat_only 6 (codes "ietf-i2nsf-ikeless:sad-entry") _ (flat_array 5 _ (flat_item 5 _ _ (flat_row r) (flat_no_items 5)))
 
 -- ---- commands
 

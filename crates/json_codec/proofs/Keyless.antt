@@ -12,7 +12,7 @@ use Rattle.ikeless_tree.specs.declared.association.SadEntry.{SadEntry}
 use Rattle.ikeless_tree.specs.declared.association.SadRow.{SadRow}
 use Rattle.ikeless_tree.specs.declared.association.SaState.{SaState}
 use Rattle.json_codec.specs.Written.{count, wide, only, range_data, range_items, with_ports, proto_data, selector_data}
-use Rattle.json_codec.specs.Associations.{one_row, with_count, with_wide, limits_members, has_no_limits, with_lifetime, with_soft, tunnel_data, encryption_data, with_key, with_sealing, with_fixed, with_ends, config_data, counts_data, state_data, with_state, row_data, row_items, all_rows, is_free_of, are_free_of, have_not}
+use Rattle.json_codec.specs.Associations.{with_count, with_wide, limits_members, has_no_limits, with_lifetime, with_soft, tunnel_data, encryption_data, with_key, with_sealing, with_fixed, with_ends, config_data, counts_data, state_data, with_state, row_data, row_items, all_rows, is_free_of, are_free_of, have_not}
 
 pub record IsFree (d : Data) : Type 0 where
   pub free : is_free_of (codes "key") d ≡ true
@@ -155,6 +155,3 @@ free_rows (r ∷ rs) = free_item _ _ (free_row r) (free_rows rs)
 
 pub free_all_rows : (rs : List SadRow) → IsFree (all_rows rs)
 free_all_rows rs = free_only (codes "ietf-i2nsf-ikeless:sad") _ refl (free_only (codes "sad-entry") _ refl (free_array _ (free_rows rs)))
-
-pub free_one_row : (r : SadRow) → IsFree (one_row r)
-free_one_row r = free_only (codes "ietf-i2nsf-ikeless:sad-entry") _ refl (free_array _ (free_item _ _ (free_row r) free_no_items))

@@ -12,3 +12,4 @@ pub mod PolicyLaws
 pub mod BodyLaws
 pub mod HalfLaws
 pub mod CommandLaws
+pub mod OneRow

@@ -106,10 +106,6 @@ one_association e = only (codes "ietf-i2nsf-ikeless:sad-entry") (array (item (sa
 abbrev pub all_rows : List SadRow → Data
 all_rows rs = only (codes "ietf-i2nsf-ikeless:sad") (only (codes "sad-entry") (array (row_items rs)))
 
--- the body that has one row
-abbrev pub one_row : SadRow → Data
-one_row r = only (codes "ietf-i2nsf-ikeless:sad-entry") (array (item (row_data r) no_items))
-
 abbrev pub is_row_named : SadRow → Bool
 is_row_named r = is_sad_name r.entry.name
 

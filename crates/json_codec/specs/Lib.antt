@@ -12,3 +12,4 @@ pub mod Policies
 pub mod Halves
 pub mod Operations
 pub mod Bodies
+pub mod OneRow

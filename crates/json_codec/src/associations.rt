@@ -9,7 +9,8 @@ ghost use Rattle.yang_values.specs.Addresses.{address_text};
 ghost use Rattle.yang_values.specs.HexText.{hex_colons};
 ghost use Rattle.ikeless_tree.specs.Check.{is_sad_name, sad_fault};
 ghost use Rattle.json_codec.specs.Written.{count, wide, only};
-ghost use Rattle.json_codec.specs.Associations.{one_row, with_count, with_wide, limits_members, has_no_limits, with_lifetime, with_soft, tunnel_data, encryption_data, with_key, with_sealing, with_fixed, with_ends, config_data, sad_entry_data, counts_data, state_data, with_state, row_data, row_items, one_association, all_rows, is_row_named, ArePassed, is_free_of};
+ghost use Rattle.json_codec.specs.OneRow.{one_row};
+ghost use Rattle.json_codec.specs.Associations.{with_count, with_wide, limits_members, has_no_limits, with_lifetime, with_soft, tunnel_data, encryption_data, with_key, with_sealing, with_fixed, with_ends, config_data, sad_entry_data, counts_data, state_data, with_state, row_data, row_items, one_association, all_rows, is_row_named, ArePassed, is_free_of};
 
 use crate::build::{
     Members, are_octets, has_octets, put, put_count, put_text, put_wide, put_word, single, written,

@@ -7,7 +7,8 @@ use Rattle.reply_table.specs.declared.ask.Change.{Change}
 use Rattle.reply_table.specs.declared.ask.Change.TheVariants as changes
 use Rattle.reply_table.specs.Reply.{Shown, Nothing, Policies, Policy, Halves, Half, Location, Nowhere, At_policy, At_half, Outcome}
 use Rattle.json_codec.specs.Written.{one_policy, all_policies}
-use Rattle.json_codec.specs.Associations.{all_rows, one_row}
+use Rattle.json_codec.specs.Associations.{all_rows}
+use Rattle.json_codec.specs.OneRow.{one_row}
 use Rattle.rc_resource.specs.declared.reply.Reply.{Reply}
 use Rattle.rc_resource.specs.declared.error.RcError.{RcError}
 use Rattle.rc_resource.specs.Errors.{error_data}
