@@ -1,5 +1,5 @@
 // Responses, read as the answers to orders.
-ghost use Rattle.std.specs.Prelude.{◌≡◌, find, position, codes, Option, IfOk, option_and_then};
+ghost use Rattle.std.specs.Prelude.{◌≡◌, [], find, position, codes, Option, Some, IfOk, option_and_then};
 ghost use Rattle.std.specs.Option.{option_copied, option_map};
 ghost use Rattle.std.specs.Str.{bytes_eq};
 ghost use Rattle.serde_json.specs.Find.{get, as_array};
