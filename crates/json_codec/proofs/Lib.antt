@@ -15,3 +15,4 @@ pub mod CommandLaws
 pub mod PolicyAgain
 pub mod HalfAgain
 pub mod CommandAgain
+pub mod OneRow

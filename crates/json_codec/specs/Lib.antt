@@ -13,3 +13,4 @@ pub mod Halves
 pub mod Operations
 pub mod Bodies
 pub mod Typed
+pub mod OneRow

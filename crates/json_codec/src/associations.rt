@@ -9,6 +9,7 @@ ghost use Rattle.yang_values.specs.Addresses.{address_text};
 ghost use Rattle.yang_values.specs.HexText.{hex_colons};
 ghost use Rattle.ikeless_tree.specs.Check.{is_sad_name, sad_fault};
 ghost use Rattle.json_codec.specs.Written.{count, wide, only};
+ghost use Rattle.json_codec.specs.OneRow.{one_row};
 ghost use Rattle.json_codec.specs.Associations.{with_count, with_wide, limits_members, has_no_limits, with_lifetime, with_soft, tunnel_data, encryption_data, with_key, with_sealing, with_fixed, with_ends, config_data, sad_entry_data, counts_data, state_data, with_state, row_data, row_items, one_association, all_rows, is_row_named, ArePassed, is_free_of};
 
 use crate::build::{
@@ -298,6 +299,15 @@ fn one_value(alloc: Global, e: &SadEntry) -> Result<Value, NoMemory>
     single(alloc, "ietf-i2nsf-ikeless:sad-entry", Value::Array(values))
 }
 
+fn one_row_value(alloc: Global, row: &SadRow) -> Result<Value, NoMemory>
+    requires { IsTrue (is_row_named row.now) }
+    ensures { IfOk result (λ v. view v ≡ one_row row.now) }
+{
+    let mut values = Vec::new(alloc);
+    values.push(row_value(alloc, row)?)?;
+    single(alloc, "ietf-i2nsf-ikeless:sad-entry", Value::Array(values))
+}
+
 fn all_value(alloc: Global, rows: &[SadRow]) -> Result<Value, NoMemory>
     requires { IsTrue (list_all is_row_named rows.now) }
     ensures { IfOk result (λ v. view v ≡ all_rows rows.now) }
@@ -327,5 +337,17 @@ pub fn write_sad(alloc: Global, rows: &Rows) -> Result<Octets, NoMemory>
     ensures utf8 { IfOk result (λ text. IsUtf8 text) }
 {
     let value = all_value(alloc, rows.as_slice())?;
+    written(alloc, &value)
+}
+
+/// The body that has one association with its state and without its key, a list of one.
+pub fn write_sad_row(alloc: Global, row: &SadRow) -> Result<Octets, NoMemory>
+    requires { sad_fault row.now.entry ≡ None }
+    ensures text { IfOk result (λ text. text ≡ compact_text (one_row row.now)) }
+    ensures reads { IfOk result (λ text. read text ≡ Some (one_row row.now)) }
+    ensures keyless { IfOk result (λ text. (d : Data) × (read text ≡ Some d) × (is_free_of (codes "key") d ≡ true)) }
+    ensures utf8 { IfOk result (λ text. IsUtf8 text) }
+{
+    let value = one_row_value(alloc, row)?;
     written(alloc, &value)
 }

@@ -20,7 +20,7 @@ mod shapes;
 mod tests;
 mod words;
 
-pub use associations::{counts_value, write_sad, write_sad_entry};
+pub use associations::{counts_value, write_sad, write_sad_entry, write_sad_row};
 pub use bodies::{read_command, read_sad_entry, read_spd, read_spd_entry};
 pub use build::{Members, put, put_count, put_text, put_wide, put_word, single, written};
 pub use commands::write_command;

@@ -1,0 +1,107 @@
+-- What is read of the request of an order.
+use Rattle.std.proofs.Common.{◌≡◌, ℕ, ◌+◌, ◌<◌, suc, ◌==◌, ◌||◌, List, [], ◌∷◌, ◌++◌, Bool, true, false, not, cond, length, take, Option, Some, None, Ok, codes, refl, ap, sym, ◌∙◌, arith, nat_lt, All}
+use Rattle.std.specs.List.{list_any, list_all, position_or_len, before_first, flat_map}
+use Rattle.std.specs.Option.{option_map}
+use Rattle.std.proofs.lemmas.Bool.{agree_below, agree_below_at}
+use Rattle.std.proofs.lemmas.Bool.Decides.{nat_tests}
+use Rattle.std.proofs.lemmas.Bool.{and_parts}
+use Rattle.std.proofs.lemmas.List.Folds.{list_any-append}
+use Rattle.std.proofs.lemmas.List.Elements.{All-cons, All-nil, All-head, All-tail}
+use Rattle.percent_encoding.specs.Percent.{percent_decode}
+use Rattle.percent_encoding.proofs.PercentLemmas.{IsByte}
+use Rattle.ikl_base.specs.declared.address.Addr.{Addr}
+use Rattle.ikeless_tree.specs.Check.{is_sad_name, is_path_octet}
+use Rattle.ikeless_tree.specs.declared.order.Order.{Order}
+use Rattle.ikeless_tree.specs.declared.order.Order.TheVariants as orders
+use Rattle.json_codec.proofs.Passed.{half_octets}
+use Rattle.reply_table.specs.Order.{ask_of}
+use Rattle.rc_resource.specs.declared.resource.Resource.TheVariants as resources
+use Rattle.rc_resource.specs.Paths.{escape_octet, escaped, key_of, half_path, resource_of}
+use Rattle.rc_resource.specs.Queries.{before_mark, behind_mark}
+use Rattle.rc_resource.specs.Operations.{method_of}
+use Rattle.rc_resource.specs.Messages.{order_message, IsOrder}
+use Rattle.rc_resource.specs.Requests.{by_resource, request_of}
+use Rattle.rc_resource.specs.Laws.{IsReadAgain}
+use Rattle.rc_resource.proofs.KeyLemmas.{back_again}
+use Rattle.rc_resource.proofs.PlaceLemmas.{any_at}
+
+-- ---- texts without a mark
+
+take_next : (x : ℕ) (xs : List ℕ) (k : ℕ) → take (1 + k) (x ∷ xs) ≡ x ∷ take k xs
+take_next x xs k = let next : 1 + k ≡ suc k = omega arith in rw next refl
+
+before_whole : (p : ℕ → Bool) (xs : List ℕ) → list_any p xs ≡ false → before_first p xs ≡ xs
+before_whole p [] h = refl
+before_whole p (x ∷ xs) h = by_test (p x) refl h (before_whole p xs)
+  where
+    by_test : (b : Bool) → p x ≡ b → list_any p (x ∷ xs) ≡ false → (list_any p xs ≡ false → before_first p xs ≡ xs) → before_first p (x ∷ xs) ≡ x ∷ xs
+    by_test true t h ih = let wrong : ⊥ = cc in absurd wrong
+    by_test false t h ih =
+        let rest : list_any p xs ≡ false = cc in
+        rw t (take_next x xs (position_or_len p xs) ∙ ap (λ ys. x ∷ ys) (ih rest))
+
+behind_none : (mark : ℕ) (text : List ℕ) → list_any (λ c. c == mark) text ≡ false → behind_mark mark text ≡ None
+behind_none mark text h =
+    let past : nat_lt (position_or_len (λ c. c == mark) text) (length text) ≡ false = sym (any_at (λ c. c == mark) text) ∙ h in
+    rw past refl
+
+-- ---- names as they are written
+
+no_slash_in : agree_below (λ b. list_any (λ c. c == 47) (escape_octet b)) (λ b. false) 256 ≡ true
+no_slash_in = refl
+
+no_query_in : agree_below (λ b. list_any (λ c. c == 63) (escape_octet b)) (λ b. false) 256 ≡ true
+no_query_in = refl
+
+none_joined : (p : ℕ → Bool) (xs ys : List ℕ) → list_any p xs ≡ false → list_any p ys ≡ false → list_any p (xs ++ ys) ≡ false
+none_joined p xs ys h k = list_any-append p xs ys ∙ rw (h, k) refl
+
+none_escaped : (p : ℕ → Bool) → agree_below (λ b. list_any p (escape_octet b)) (λ b. false) 256 ≡ true → (name : List ℕ) → All IsByte name → list_any p (escaped name) ≡ false
+unfolding escaped
+none_escaped p none [] small = refl
+none_escaped p none (b ∷ bs) small =
+    none_joined p (escape_octet b) (flat_map escape_octet bs)
+    (agree_below_at (λ c. list_any p (escape_octet c)) (λ c. false) 256 b none (All-head IsByte b bs small))
+    (none_escaped p none bs (All-tail IsByte b bs small))
+
+octet_small : (c : ℕ) → is_path_octet c ≡ true → c < 256
+octet_small c h = grind (arith, nat_tests, h)
+
+octets_small : (t : List ℕ) → list_all is_path_octet t ≡ true → All IsByte t
+octets_small [] h = All-nil IsByte
+octets_small (c ∷ cs) h =
+    let parts = and_parts (is_path_octet c) (list_all is_path_octet cs) h in
+    All-cons IsByte c cs (octet_small c parts.0) (octets_small cs parts.1)
+
+name_small : (name : List ℕ) → is_sad_name name ≡ true → All IsByte name
+name_small name h = octets_small name (half_octets name h)
+
+key_again : (name : List ℕ) → is_sad_name name ≡ true → key_of is_sad_name (escaped name) ≡ Some name
+unfolding key_of
+key_again name h =
+    let small = name_small name h in
+    rw (none_escaped (λ c. c == 47) no_slash_in name small, back_again name small, h) refl
+
+-- the path of an association is read as that association
+half_again : (name : List ℕ) → is_sad_name name ≡ true → resource_of (half_path name) ≡ Some (resources.SadEntry name)
+unfolding resource_of
+half_again name h = ap (option_map resources.SadEntry) (key_again name h)
+
+path_whole : (name : List ℕ) → is_sad_name name ≡ true → list_any (λ c. c == 63) (half_path name) ≡ false
+path_whole name h = none_joined (λ c. c == 63) (codes "/restconf/data/ietf-i2nsf-ikeless:ipsec-ikeless/sad/sad-entry=") (escaped name) refl
+    (none_escaped (λ c. c == 63) no_query_in name (name_small name h))
+
+-- ---- requests of orders
+
+removal : (host : Addr) (name : List ℕ) → is_sad_name name ≡ true → request_of (order_message host (orders.Remove name)) ≡ Ok (ask_of (orders.Remove name))
+unfolding request_of method_of
+removal host name h =
+    let whole = path_whole name h in
+    rw (before_whole (λ c. c == 63) (half_path name) whole, half_again name h, behind_none 63 (half_path name) whole) refl
+
+pub order_again : (host : Addr) (o : Order) → IsOrder o → IsReadAgain o → request_of (order_message host o) ≡ Ok (ask_of o)
+unfolding request_of resource_of method_of
+order_again host orders.Read h again = refl
+order_again host (orders.Policy list) h again = rw again refl
+order_again host (orders.Put e) h again = rw again refl
+order_again host (orders.Remove name) h again = removal host name h

@@ -1,0 +1,5 @@
+use Rattle.rc_resource.proofs.OrderLemmas.{order_again}
+use Rattle.rc_resource.proofs.laws.orders_are_read.Goals as goal
+
+pub returns : goal.returns
+returns c = order_again

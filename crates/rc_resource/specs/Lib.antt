@@ -1,0 +1,10 @@
+pub mod Paths
+pub mod Queries
+pub mod Errors
+pub mod Replies
+pub mod Lists
+pub mod Messages
+pub mod Operations
+pub mod Requests
+pub mod Answers
+pub mod Laws

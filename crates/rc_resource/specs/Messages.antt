@@ -1,0 +1,103 @@
+-- Orders as requests and replies as responses (RFC 8040 sections 3.4 to 4.8, RFC 9110 section 6).
+use Rattle.std.specs.Prelude.{◌≡◌, ℕ, ◌==◌, true, List, [], ◌∷◌, ◌++◌, length, codes, if◌then◌else◌, Option, Some, None}
+use Rattle.std.specs.Fmt.{decimal}
+use Rattle.serde_json.specs.Written.{compact_text}
+use Rattle.ikl_base.specs.declared.address.Addr.{Addr}
+use Rattle.ikl_base.specs.declared.address.Addr.TheVariants.{V4, V6}
+use Rattle.ikeless_tree.specs.declared.order.Order.{Order}
+use Rattle.ikeless_tree.specs.declared.order.Order.TheVariants as orders
+use Rattle.ikeless_tree.specs.Check.{spd_fault, sad_fault, is_sad_name}
+use Rattle.yang_values.specs.Addresses.{address_text}
+use Rattle.json_codec.specs.Written.{all_policies}
+use Rattle.json_codec.specs.Associations.{one_association}
+use Rattle.rc_http.specs.declared.message.HttpMessage.{HttpMessage}
+use Rattle.rc_http.specs.Heads.{fields_map}
+use Rattle.rc_resource.specs.declared.reply.Reply.{Reply}
+use Rattle.rc_resource.specs.Paths.{half_path}
+
+-- ---- fields
+
+-- a field with this name
+abbrev pub field : List ℕ → List ℕ → List ℕ × List ℕ
+field name value = (name, value)
+
+abbrev pub type_field : List ℕ × List ℕ
+type_field = field (codes "Content-Type") (codes "application/yang-data+json")
+
+abbrev pub length_field : List ℕ → List ℕ × List ℕ
+length_field body = field (codes "Content-Length") (decimal (length body))
+
+-- ---- requests
+
+-- the host of a request: an IPv6 address stands in brackets (RFC 3986 section 3.2.2)
+abbrev pub host_text : Addr → List ℕ
+host_text (V4 octets) = address_text (V4 octets)
+host_text (V6 octets) = 91 ∷ address_text (V6 octets) ++ 93 ∷ []
+
+-- what is said of a body that is there
+abbrev pub body_fields : List ℕ → List (List ℕ × List ℕ)
+body_fields body = if length body == 0 then [] else type_field ∷ length_field body ∷ []
+
+abbrev pub request_fields : List ℕ → List ℕ → List (List ℕ × List ℕ)
+request_fields host body = field (codes "Host") host ∷ body_fields body
+
+abbrev pub order_method : Order → List ℕ
+order_method orders.Read = codes "GET"
+order_method (orders.Policy list) = codes "PUT"
+order_method (orders.Put e) = codes "POST"
+order_method (orders.Remove name) = codes "DELETE"
+
+abbrev pub order_target : Order → List ℕ
+order_target orders.Read = codes "/restconf/data/ietf-i2nsf-ikeless:ipsec-ikeless/sad"
+order_target (orders.Policy list) = codes "/restconf/data/ietf-i2nsf-ikeless:ipsec-ikeless/spd"
+order_target (orders.Put e) = codes "/restconf/data/ietf-i2nsf-ikeless:ipsec-ikeless/sad"
+order_target (orders.Remove name) = half_path name
+
+abbrev pub order_body : Order → List ℕ
+order_body orders.Read = []
+order_body (orders.Policy list) = compact_text (all_policies list)
+order_body (orders.Put e) = compact_text (one_association e)
+order_body (orders.Remove name) = []
+
+-- the request that carries an order to this host
+abbrev pub order_message : Addr → Order → HttpMessage
+order_message host o = record {
+  method = order_method o;
+  target = order_target o;
+  status = 0;
+  fields = fields_map (request_fields (host_text host) (order_body o));
+  body = order_body o;
+}
+
+-- an order whose policies or association have no fault, and whose name is that of an association
+abbrev pub IsOrder : Order → Type 0
+IsOrder orders.Read = Unit {0}
+IsOrder (orders.Policy list) = spd_fault list ≡ None
+IsOrder (orders.Put e) = sad_fault e ≡ None
+IsOrder (orders.Remove name) = is_sad_name name ≡ true
+
+-- ---- responses
+
+abbrev pub if_type : List ℕ → List (List ℕ × List ℕ)
+if_type body = if length body == 0 then [] else type_field ∷ []
+
+abbrev pub own_field : Reply → List (List ℕ × List ℕ)
+own_field r =
+    if r.status == 201 then field (codes "Location") r.location ∷ []
+    else if r.status == 405 then field (codes "Allow") r.allow ∷ []
+    else []
+
+abbrev pub response_fields : Reply → List (List ℕ × List ℕ)
+response_fields r =
+    if r.status == 204 then []
+    else length_field r.body ∷ if_type r.body ++ own_field r
+
+-- the response that carries a reply
+abbrev pub reply_message : Reply → HttpMessage
+reply_message r = record {
+  method = [];
+  target = [];
+  status = r.status;
+  fields = fields_map (response_fields r);
+  body = r.body;
+}

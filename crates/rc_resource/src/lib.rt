@@ -1,0 +1,28 @@
+//! RESTCONF (RFC 8040) over the databases of a gateway: requests and answers, typed.
+#![tactic(auto)]
+
+mod answer;
+mod error;
+mod halves;
+mod laws;
+mod message;
+mod operation;
+mod path;
+mod perform;
+mod policies;
+mod query;
+mod reply;
+mod request;
+mod resource;
+#[cfg(test)]
+mod tests;
+
+pub use answer::{BadAnswer, Reason, read_answer, read_reason};
+pub use error::RcError;
+pub use laws::orders_are_read;
+pub use message::{order_request, reply_response};
+pub use perform::apply;
+pub use reply::{Reply, error_reply};
+pub use reply_table::{Ask, Change, Place};
+pub use request::read_request;
+pub use resource::Resource;

@@ -1,0 +1,312 @@
+ghost use Rattle.rc_resource.specs.Lists.{IsTree};
+
+use super::*;
+use crate::halves::unused;
+use http_header::HeaderMap;
+use ikeless_tree::{Entries, Order, Rows, Tree, check_sad, check_spd};
+use ikl_base::{Addr, ListOf, Name, NoMemory, Octets, OrMemory};
+use json_codec::{read_sad_entry, read_spd_entry};
+use rc_http::HttpMessage;
+use std::alloc::Global;
+use std::process::Abort;
+use std::test::Fail;
+use yang_values::write_u64;
+
+#[derive(Drop)]
+struct Row {
+    method: &'static str,
+    target: &'static str,
+    body: &'static str,
+    shown: &'static str,
+}
+
+const P1: &str =
+    r#"{"ietf-i2nsf-ikeless:spd-entry":[{"direction":"outbound","ipsec-policy-config":{"processing-info":{"action":"bypass"},"traffic-selector":{"local-prefix":"10.1.0.0/16","remote-prefix":"10.2.0.0/16"}},"name":"p1","reqid":"1"}]}"#;
+
+const P0: &str =
+    r#"{"ietf-i2nsf-ikeless:spd-entry":[{"direction":"outbound","ipsec-policy-config":{"processing-info":{"action":"bypass"},"traffic-selector":{"local-prefix":"10.1.0.0/16","remote-prefix":"10.2.0.0/16"}},"name":"p0","reqid":"1"}]}"#;
+
+const IN1: &str =
+    r#"{"ietf-i2nsf-ikeless:sad-entry":[{"ipsec-sa-config":{"esp-sa":{"encryption":{"key":"00:01:02:03:04:05:06:07:08:09:0a:0b:0c:0d:0e:0f:a0:a1:a2:a3"}},"sa-lifetime-soft":{"action":"replace","time":3600},"spi":257,"traffic-selector":{"local-prefix":"2001:db8:2::/48","remote-prefix":"2001:db8:1::/48"},"tunnel":{"local":"198.51.100.1","remote":"192.0.2.1"}},"name":"in/1","reqid":"10"}]}"#;
+
+const NUMBER: &str =
+    r#"{"ietf-i2nsf-ikeless:sad-entry":[{"ipsec-sa-config":{"esp-sa":{"encryption":{"key":"00:01:02:03:04:05:06:07:08:09:0a:0b:0c:0d:0e:0f:a0:a1:a2:a3"}},"spi":257,"traffic-selector":{"local-prefix":"2001:db8:2::/48","remote-prefix":"2001:db8:1::/48"},"tunnel":{"local":"198.51.100.1","remote":"192.0.2.1"}},"name":"in/1","reqid":10}]}"#;
+
+const COLOUR: &str = r#"{"ietf-i2nsf-ikeless:sad-entry":[{"colour":1,"name":"in/1"}]}"#;
+
+const NO_POLICY: [Row; 4] = [
+    Row {
+        method: "POST",
+        target: "/restconf/data/ietf-i2nsf-ikeless:ipsec-ikeless/spd?insert=before",
+        body: P1,
+        shown: r#"400 {"ietf-restconf:errors":{"error":[{"error-app-tag":"query","error-tag":"invalid-value","error-type":"protocol"}]}}"#,
+    },
+    Row {
+        method: "POST",
+        target: "/restconf/data/ietf-i2nsf-ikeless:ipsec-ikeless/spd?insert=before&point=%2Fietf-i2nsf-ikeless%3Aipsec-ikeless%2Fspd%2Fspd-entry%3Dzz",
+        body: P1,
+        shown: r#"400 {"ietf-restconf:errors":{"error":[{"error-app-tag":"point","error-tag":"invalid-value","error-type":"application"}]}}"#,
+    },
+    Row {
+        method: "PUT",
+        target: "/restconf/data/ietf-i2nsf-ikeless:ipsec-ikeless/spd/spd-entry=p1",
+        body: P1,
+        shown: "201 /restconf/data/ietf-i2nsf-ikeless:ipsec-ikeless/spd/spd-entry=p1 p1",
+    },
+    Row {
+        method: "PATCH",
+        target: "/restconf/data/ietf-i2nsf-ikeless:ipsec-ikeless/spd",
+        body: "",
+        shown: r#"405 GET, PUT, POST{"ietf-restconf:errors":{"error":[{"error-app-tag":"method","error-tag":"operation-not-supported","error-type":"protocol"}]}}"#,
+    },
+];
+
+const ONE_POLICY: [Row; 4] = [
+    Row {
+        method: "PUT",
+        target: "/restconf/data/ietf-i2nsf-ikeless:ipsec-ikeless/spd/spd-entry=p1",
+        body: P1,
+        shown: "204  p1",
+    },
+    Row {
+        method: "POST",
+        target: "/restconf/data/ietf-i2nsf-ikeless:ipsec-ikeless/spd?insert=before&point=%2Fietf-i2nsf-ikeless%3Aipsec-ikeless%2Fspd%2Fspd-entry%3Dp1",
+        body: P0,
+        shown: "201 /restconf/data/ietf-i2nsf-ikeless:ipsec-ikeless/spd/spd-entry=p0 p0 p1",
+    },
+    Row {
+        method: "POST",
+        target: "/restconf/data/ietf-i2nsf-ikeless:ipsec-ikeless/spd?insert=before&point=%2Frestconf%2Fdata%2Fietf-i2nsf-ikeless%3Aipsec-ikeless%2Fspd%2Fspd-entry%3Dp1",
+        body: P0,
+        shown: "201 /restconf/data/ietf-i2nsf-ikeless:ipsec-ikeless/spd/spd-entry=p0 p0 p1",
+    },
+    Row {
+        method: "POST",
+        target: "/restconf/data/ietf-i2nsf-ikeless:ipsec-ikeless/spd?",
+        body: P0,
+        shown: r#"400 {"ietf-restconf:errors":{"error":[{"error-app-tag":"query","error-tag":"invalid-value","error-type":"protocol"}]}} p1"#,
+    },
+];
+
+const ONE_HALF: [Row; 6] = [
+    Row {
+        method: "POST",
+        target: "/restconf/data/ietf-i2nsf-ikeless:ipsec-ikeless/sad",
+        body: IN1,
+        shown: r#"409 {"ietf-restconf:errors":{"error":[{"error-app-tag":"exists","error-tag":"resource-denied","error-type":"application"}]}} in/1"#,
+    },
+    Row {
+        method: "DELETE",
+        target: "/restconf/data/ietf-i2nsf-ikeless:ipsec-ikeless/sad/sad-entry=in%2F7",
+        body: "",
+        shown: r#"404 {"ietf-restconf:errors":{"error":[{"error-app-tag":"absent","error-tag":"invalid-value","error-type":"application"}]}} in/1"#,
+    },
+    Row {
+        method: "POST",
+        target: "/restconf/data/ietf-i2nsf-ikeless:ipsec-ikeless/sad",
+        body: NUMBER,
+        shown: r#"400 {"ietf-restconf:errors":{"error":[{"error-app-tag":"form","error-message":"at /ietf-i2nsf-ikeless:sad-entry/0/reqid","error-tag":"invalid-value","error-type":"application"}]}} in/1"#,
+    },
+    Row {
+        method: "POST",
+        target: "/restconf/data/ietf-i2nsf-ikeless:ipsec-ikeless/sad",
+        body: COLOUR,
+        shown: r#"400 {"ietf-restconf:errors":{"error":[{"error-app-tag":"unknown","error-message":"at /ietf-i2nsf-ikeless:sad-entry/0","error-tag":"unknown-element","error-type":"application"}]}} in/1"#,
+    },
+    Row {
+        method: "DELETE",
+        target: "/restconf/data/ietf-i2nsf-ikeless:ipsec-ikeless/sad/sad-entry=in%2F1",
+        body: "",
+        shown: "204 ",
+    },
+    Row {
+        method: "GET",
+        target: "/restconf/data/ietf-i2nsf-ikeless:ipsec-ikeless/sad/sad-entry=in/1",
+        body: "",
+        shown: r#"404 {"ietf-restconf:errors":{"error":[{"error-app-tag":"path","error-tag":"invalid-value","error-type":"protocol"}]}} in/1"#,
+    },
+];
+
+fn message(alloc: Global, row: &Row) -> Result<HttpMessage, NoMemory> {
+    Ok(HttpMessage {
+        method: Octets::from_slice(alloc, row.method.as_bytes())?,
+        target: Octets::from_slice(alloc, row.target.as_bytes())?,
+        status: 0,
+        fields: HeaderMap::new(alloc),
+        body: Octets::from_slice(alloc, row.body.as_bytes())?,
+    })
+}
+
+fn refused(alloc: Global, e: &RcError) -> Result<Reply, NoMemory> {
+    match &e.path {
+        None => error_reply(alloc, e),
+        Some(path) => match str::from_utf8(path.as_slice()) {
+            Ok(_) => error_reply(alloc, e),
+            Err(_) => Err(NoMemory),
+        },
+    }
+}
+
+fn reply_over(alloc: Global, tree: &mut Tree, m: &HttpMessage) -> Result<Reply, NoMemory>
+    requires { IsTree tree.old }
+{
+    match read_request(alloc, m) {
+        Ok(ask) => apply(alloc, tree, &ask),
+        Err(OrMemory::Refused(e)) => refused(alloc, &e),
+        Err(OrMemory::NoMemory) => Err(NoMemory),
+    }
+}
+
+fn named(text: &mut Vec<u8>, tree: &Tree) -> Result<(), NoMemory> {
+    for entry in tree.spd.as_slice() {
+        text.push(b' ')?;
+        text.extend_from_slice(entry.name.as_slice())?;
+    }
+    Ok(())
+}
+
+fn also_named(text: &mut Vec<u8>, tree: &Tree) -> Result<(), NoMemory> {
+    for row in tree.sad.as_slice() {
+        text.push(b' ')?;
+        text.extend_from_slice(row.entry.name.as_slice())?;
+    }
+    Ok(())
+}
+
+// The status, the location, Allow and the body, then the names in the databases.
+fn shown(alloc: Global, reply: &Reply, tree: &Tree) -> Result<Vec<u8>, NoMemory> {
+    let mut text = write_u64(alloc, u64::from(reply.status))?.into_items();
+    text.push(b' ')?;
+    text.extend_from_slice(reply.location.as_slice())?;
+    text.extend_from_slice(reply.allow.as_slice())?;
+    text.extend_from_slice(reply.body.as_slice())?;
+    named(&mut text, tree)?;
+    also_named(&mut text, tree)?;
+    Ok(text)
+}
+
+fn over(alloc: Global, tree: Tree, row: &Row) -> Result<Vec<u8>, NoMemory>
+    requires { IsTree tree }
+{
+    let mut tree = tree;
+    let m = message(alloc, row)?;
+    let reply = reply_over(alloc, &mut tree, &m)?;
+    shown(alloc, &reply, &tree)
+}
+
+fn over_none(alloc: Global, row: &Row) -> Result<Vec<u8>, NoMemory> {
+    let tree = Tree {
+        spd: Entries::new(alloc),
+        sad: Rows::new(alloc),
+    };
+    over(alloc, tree, row)
+}
+
+fn over_policy(alloc: Global, row: &Row) -> Result<Vec<u8>, NoMemory> {
+    let Ok(e) = read_spd_entry(alloc, P1.as_bytes()) else {
+        return Err(NoMemory);
+    };
+    let mut spd = ListOf::new(alloc);
+    spd.push(e)?;
+    match check_spd(&spd) {
+        Ok(()) => over(
+            alloc,
+            Tree {
+                spd,
+                sad: Rows::new(alloc),
+            },
+            row,
+        ),
+        Err(_) => Err(NoMemory),
+    }
+}
+
+fn over_half(alloc: Global, row: &Row) -> Result<Vec<u8>, NoMemory> {
+    let Ok(e) = read_sad_entry(alloc, IN1.as_bytes()) else {
+        return Err(NoMemory);
+    };
+    match check_sad(&e) {
+        Ok(()) => {
+            let mut sad = ListOf::new(alloc);
+            sad.push(unused(e))?;
+            over(
+                alloc,
+                Tree {
+                    spd: Entries::new(alloc),
+                    sad,
+                },
+                row,
+            )
+        }
+        Err(_) => Err(NoMemory),
+    }
+}
+
+#[test]
+fn requests_over_no_policy(rt: HostRuntime) -> Result<(), Fail> {
+    for row in &NO_POLICY {
+        let text = over_none(rt.alloc(), row)?;
+        assert_eq!(rt; text.as_slice(), row.shown.as_bytes());
+    }
+    Ok(())
+}
+
+#[test]
+fn requests_over_a_policy(rt: HostRuntime) -> Result<(), Fail> {
+    for row in &ONE_POLICY {
+        let text = over_policy(rt.alloc(), row)?;
+        assert_eq!(rt; text.as_slice(), row.shown.as_bytes());
+    }
+    Ok(())
+}
+
+#[test]
+fn requests_over_an_association(rt: HostRuntime) -> Result<(), Fail> {
+    for row in &ONE_HALF {
+        let text = over_half(rt.alloc(), row)?;
+        assert_eq!(rt; text.as_slice(), row.shown.as_bytes());
+    }
+    Ok(())
+}
+
+// The answer to a removal by way of its request and the response to it.
+fn removed(alloc: Global, name: &[u8]) -> Result<u16, NoMemory> {
+    let o = Order::Remove(Name::from_slice(alloc, name)?);
+    let row = Row {
+        method: "DELETE",
+        target: "/restconf/data/ietf-i2nsf-ikeless:ipsec-ikeless/sad/sad-entry=in%2F7",
+        body: "",
+        shown: "",
+    };
+    let m = message(alloc, &row)?;
+    let mut tree = Tree {
+        spd: Entries::new(alloc),
+        sad: Rows::new(alloc),
+    };
+    let reply = reply_over(alloc, &mut tree, &m)?;
+    match read_answer(alloc, &o, &reply_response(alloc, &reply)?) {
+        Ok(answer) => Ok(answer.status),
+        Err(_) => Ok(0),
+    }
+}
+
+#[test]
+fn a_removal_of_none_is_answered(rt: HostRuntime) -> Result<(), Fail> {
+    let status = removed(rt.alloc(), b"in/7")?;
+    assert_eq!(rt; status, 404);
+    Ok(())
+}
+
+fn read_order(alloc: Global) -> Result<HttpMessage, NoMemory> {
+    order_request(alloc, &Addr::V4([192, 0, 2, 1]), &Order::Read)
+}
+
+#[test]
+fn a_reading_is_requested(rt: HostRuntime) -> Result<(), Fail> {
+    let m = read_order(rt.alloc())?;
+    assert_eq!(rt;
+        m.target.as_slice(),
+        b"/restconf/data/ietf-i2nsf-ikeless:ipsec-ikeless/sad".as_slice()
+    );
+    Ok(())
+}
