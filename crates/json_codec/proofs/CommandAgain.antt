@@ -7,12 +7,12 @@ use Rattle.ikeless_tree.specs.declared.command.Command.{Command}
 use Rattle.ikeless_tree.specs.declared.command.Command.TheVariants as commands
 use Rattle.ikeless_tree.specs.declared.command.TunnelSpec.{TunnelSpec}
 use Rattle.ikeless_tree.specs.declared.entry.SpdEntry.{SpdEntry}
-use Rattle.ikeless_tree.specs.Check.{is_window, spd_fault}
+use Rattle.ikeless_tree.specs.Check.{is_window, spd_fault, is_gateway}
 use Rattle.yang_values.specs.HexText.{hex_colons}
 use Rattle.yang_values.specs.Prefixes.{prefix_text}
 use Rattle.json_codec.specs.Written.{count, wide, word, only}
 use Rattle.json_codec.specs.Associations.{limits_members, has_no_limits, with_lifetime}
-use Rattle.json_codec.specs.Commands.{is_gateway, mode_word, policy_input, with_first, with_second, tunnel_input, input_of, command_data, IsLawful}
+use Rattle.json_codec.specs.Commands.{mode_word, policy_input, with_first, with_second, tunnel_input, input_of, command_data, IsLawful}
 use Rattle.json_codec.specs.Operations.{operation_of, HasWindow, command_fault}
 use Rattle.json_codec.specs.Json.{IsWide, IsHex, IsOnly, IsListInput, IsTunnelInput, IsInput, IsCommand}
 use Rattle.json_codec.specs.Typed.{AreTypedPolicies, IsTypedTunnel, IsTypedCommand}

@@ -16,7 +16,8 @@ use Rattle.json_codec.specs.declared.operations.FirstEnd.{FirstEnd}
 use Rattle.json_codec.specs.declared.operations.SecondEnd.{SecondEnd}
 use Rattle.json_codec.specs.Faults.{within, at_member, checked, ◌>>=◌}
 use Rattle.json_codec.specs.Shapes.{lacks, only_in}
-use Rattle.json_codec.specs.Commands.{is_gateway, mode_word}
+use Rattle.json_codec.specs.Commands.{mode_word}
+use Rattle.ikeless_tree.specs.Check.{is_gateway}
 use Rattle.json_codec.specs.Leaves.{text_in, mode_from, mode_leaf, needed_wide, octets_leaf, needed_number, prefix_leaf, name_leaf}
 use Rattle.json_codec.specs.Members.{list_input_shape, tunnel_needs, tunnel_input_shape}
 use Rattle.json_codec.specs.Policies.{name_in, spd_entry_in, entries_in, entries_of}

@@ -8,7 +8,7 @@ use Rattle.std.proofs.lemmas.Bool.Decides.{nat_tests}
 use Rattle.std.proofs.lemmas.Fmt.{IsAscii-decimal}
 use Rattle.std.proofs.lemmas.Str.{IsUtf8-from_ascii}
 use Rattle.std.proofs.lemmas.Str.Ascii.{IsAscii-nil}
-use Rattle.ikeless_tree.specs.Check.{is_path_octet, is_word_octet}
+use Rattle.ikeless_tree.specs.Check.{is_path_octet, is_word_octet, is_gateway, is_gateway_octet}
 use Rattle.std.specs.List.{All}
 use Rattle.std.specs.Char.{is_ascii_hexdigit}
 use Rattle.std.proofs.Common.{refl}
@@ -20,7 +20,6 @@ use Rattle.yang_values.proofs.QuadText.{also}
 use Rattle.yang_values.proofs.ValueText.{pair_digits}
 use Rattle.yang_values.specs.Prefixes.{is_value_octet}
 use Rattle.std.proofs.Common.{nat_le, length, ◌&&◌}
-use Rattle.json_codec.specs.Commands.{is_gateway, is_gateway_octet}
 
 ascii_more : (c : ℕ) (cs : List ℕ) → c < 128 → IsAscii cs → IsAscii (c ∷ cs)
 ascii_more c cs here there zero = here

@@ -1,8 +1,7 @@
 -- The one value that is written for a command to the controller: a JSON object `ikl-control:input` of its members.
-use Rattle.std.specs.Prelude.{◌≡◌, ℕ, ◌&&◌, ◌||◌, nat_le, Bool, true, false, List, codes, length, None}
-use Rattle.std.specs.List.{list_all}
+use Rattle.std.specs.Prelude.{◌≡◌, ℕ, Bool, true, false, List, codes, None}
 use Rattle.serde_json.specs.Data.{Data, string, object, Members, no_members, put}
-use Rattle.ikeless_tree.specs.Check.{spd_fault}
+use Rattle.ikeless_tree.specs.Check.{is_gateway, spd_fault}
 use Rattle.ikeless_tree.specs.declared.command.Command.{Command}
 use Rattle.ikeless_tree.specs.declared.command.Command.TheVariants as commands
 use Rattle.ikeless_tree.specs.declared.command.TunnelSpec.{TunnelSpec}
@@ -11,13 +10,6 @@ use Rattle.yang_values.specs.Prefixes.{prefix_text}
 use Rattle.yang_values.specs.HexText.{hex_colons}
 use Rattle.json_codec.specs.Written.{count, wide, word, only, spd_entries_data}
 use Rattle.json_codec.specs.Associations.{with_lifetime}
-
-abbrev pub is_gateway_octet : ℕ → Bool
-is_gateway_octet c = (nat_le 97 c && nat_le c 122) || (nat_le 48 c && nat_le c 57)
-
--- the name of a gateway: 1 to 32 lower case letters and digits
-abbrev pub is_gateway : List ℕ → Bool
-is_gateway name = nat_le 1 (length name) && nat_le (length name) 32 && list_all is_gateway_octet name
 
 abbrev pub mode_word : Bool → List ℕ
 mode_word true = codes "now"

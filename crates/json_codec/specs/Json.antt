@@ -19,13 +19,13 @@ use Rattle.ikeless_tree.specs.declared.association.SadEntry.{SadEntry}
 use Rattle.ikeless_tree.specs.declared.command.Command.{Command}
 use Rattle.ikeless_tree.specs.declared.command.Command.TheVariants as commands
 use Rattle.ikeless_tree.specs.declared.command.TunnelSpec.{TunnelSpec}
-use Rattle.ikeless_tree.specs.Check.{is_spd_name, is_sad_name, is_key_length}
+use Rattle.ikeless_tree.specs.Check.{is_spd_name, is_sad_name, is_key_length, is_gateway}
 use Rattle.yang_values.specs.Numbers.{u64_of}
 use Rattle.yang_values.specs.Addresses.{address_of}
 use Rattle.yang_values.specs.Prefixes.{prefix_of}
 use Rattle.yang_values.specs.HexText.{hex_of}
 use Rattle.json_codec.specs.Words.{direction_word, action_word, df_word}
-use Rattle.json_codec.specs.Commands.{is_gateway, mode_word}
+use Rattle.json_codec.specs.Commands.{mode_word}
 use Rattle.json_codec.specs.Members.{range_names, selector_names, limits_names, config_names, tunnel_needs}
 use Rattle.json_codec.specs.Shapes.{has_unknown}
 

@@ -12,7 +12,7 @@ use Rattle.ikeless_tree.specs.declared.entry.Action.{Action}
 use Rattle.ikeless_tree.specs.declared.entry.Action.TheVariants as actions
 use Rattle.ikeless_tree.specs.declared.association.Df.{Df}
 use Rattle.ikeless_tree.specs.declared.association.Df.TheVariants as bits
-use Rattle.ikeless_tree.specs.Check.{is_spd_name, is_sad_name, is_key_length}
+use Rattle.ikeless_tree.specs.Check.{is_spd_name, is_sad_name, is_key_length, is_gateway}
 use Rattle.yang_values.specs.Numbers.{u64_of}
 use Rattle.yang_values.specs.Addresses.{address_of}
 use Rattle.yang_values.specs.Prefixes.{prefix_of}
@@ -21,7 +21,7 @@ use Rattle.json_codec.specs.declared.fault.Kind.{Kind}
 use Rattle.json_codec.specs.declared.fault.Kind.TheVariants as kinds
 use Rattle.json_codec.specs.Faults.{◌>>=◌, or_kind}
 use Rattle.json_codec.specs.Words.{direction_word, action_word, df_word}
-use Rattle.json_codec.specs.Commands.{is_gateway, mode_word}
+use Rattle.json_codec.specs.Commands.{mode_word}
 
 -- ---- kinds of values
 

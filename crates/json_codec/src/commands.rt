@@ -4,10 +4,10 @@ ghost use Rattle.serde_json.specs.Read.{read};
 ghost use Rattle.serde_json.specs.View.{view, members_view};
 ghost use Rattle.serde_json.specs.Written.{compact_text};
 ghost use Rattle.serde_json.specs.Data.{string, put as with_member};
-ghost use Rattle.ikeless_tree.specs.Check.{spd_fault};
+ghost use Rattle.ikeless_tree.specs.Check.{spd_fault, is_gateway};
 ghost use Rattle.yang_values.specs.HexText.{hex_colons};
 ghost use Rattle.json_codec.specs.Written.{only, wide};
-ghost use Rattle.json_codec.specs.Commands.{is_gateway, mode_word, policy_input, with_first, with_second, tunnel_input, input_of, command_data, IsLawful};
+ghost use Rattle.json_codec.specs.Commands.{mode_word, policy_input, with_first, with_second, tunnel_input, input_of, command_data, IsLawful};
 
 use crate::associations::{put_hex, put_lifetime};
 use crate::build::{Members, put, put_count, put_text, put_wide, put_word, single, written};

@@ -1,11 +1,9 @@
 // Leaves: first the kind of the value and its spelling, then its range, then whether it is supported.
 ghost use Rattle.std.specs.Prelude.{◌≡◌, ◌≤◌, Ok, Err, MatchResult, IfOk};
-ghost use Rattle.std.specs.List.{list_all};
 ghost use Rattle.serde_json.specs.View.{view};
 ghost use Rattle.ikeless_tree.specs.Check.{is_spd_name, is_sad_name};
 ghost use Rattle.json_codec.specs.Faults.{value_kind, or_kind};
 ghost use Rattle.json_codec.specs.Shapes.{seen};
-ghost use Rattle.json_codec.specs.Commands.{is_gateway, is_gateway_octet};
 ghost use Rattle.json_codec.specs.Leaves.{text_in, in_range, number_in, wide_from, wide_in, needed_text, prefix_from, address_from, count_or, needed_number, needed_wide, number_or, wide_or, prefix_leaf, address_leaf, any_protocol, one_protocol, protocol_from, protocol_leaf, direction_from, direction_leaf, action_from, action_leaf, df_from, df_leaf, mode_from, mode_leaf, this_word, fixed_word, this_number, fixed_number, not_set, unset_leaf};
 
 use crate::commands::mode_text;
@@ -352,23 +350,4 @@ pub(crate) fn is_unset(leaf: Option<&Value>) -> Result<(), Kind>
         Some(true) => Err(Kind::Unsupported),
         None => Err(Kind::Form),
     }
-}
-
-fn is_gateway_letter(octet: u8) -> bool
-    ensures { result ≡ is_gateway_octet octet }
-{
-    octet.is_ascii_lowercase() || octet.is_ascii_digit()
-}
-
-fn are_gateway_letters(name: &[u8]) -> bool
-    ensures { result ≡ list_all is_gateway_octet name.now }
-{
-    name.iter().all(|octet| is_gateway_letter(*octet))
-}
-
-/// Whether this is the name of a gateway: 1 to 32 lower case letters and digits.
-pub(crate) fn names_gateway(name: &[u8]) -> bool
-    ensures { result ≡ is_gateway name.now }
-{
-    1 <= name.len() && name.len() <= 32 && are_gateway_letters(name)
 }

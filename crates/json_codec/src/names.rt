@@ -2,17 +2,16 @@
 ghost use Rattle.std.specs.Prelude.{◌≡◌, codes, length, Ok, Err, MatchResult};
 ghost use Rattle.serde_json.specs.View.{view};
 ghost use Rattle.ikl_base.specs.Answers.{Gives};
-ghost use Rattle.ikeless_tree.specs.Check.{is_spd_name, is_sad_name, is_key_length};
+ghost use Rattle.ikeless_tree.specs.Check.{is_spd_name, is_sad_name, is_key_length, is_gateway};
 ghost use Rattle.yang_values.specs.HexText.{hex_of};
 ghost use Rattle.json_codec.specs.Faults.{or_kind};
 ghost use Rattle.json_codec.specs.Shapes.{seen};
-ghost use Rattle.json_codec.specs.Commands.{is_gateway};
 ghost use Rattle.json_codec.specs.Leaves.{name_leaf, octets_leaf, octets_from, key_leaf, keying};
 ghost use Rattle.json_codec.specs.Policies.{name_in};
 
 use crate::fault::{Fault, Kind, at_made, kind_of_value};
-use crate::leaves::{names_gateway, text_of};
-use ikeless_tree::{names_half, names_policy};
+use crate::leaves::text_of;
+use ikeless_tree::{names_gateway, names_half, names_policy};
 use ikl_base::{Name, Octets, OrMemory};
 use serde_json::Value;
 use std::alloc::Global;
