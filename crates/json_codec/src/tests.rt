@@ -1,4 +1,5 @@
 mod reading;
+mod writing;
 
 use super::*;
 use ikeless_tree::{Action, Command, Direction, Entries, Selector, SpdEntry, check_spd};
