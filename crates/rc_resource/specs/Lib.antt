@@ -6,5 +6,4 @@ pub mod Lists
 pub mod Messages
 pub mod Operations
 pub mod Requests
-pub mod Answers
 pub mod Laws

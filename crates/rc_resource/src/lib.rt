@@ -1,7 +1,6 @@
 //! RESTCONF (RFC 8040) over the databases of a gateway: requests and answers, typed.
 #![tactic(auto)]
 
-mod answer;
 mod error;
 mod halves;
 mod laws;
@@ -17,7 +16,6 @@ mod resource;
 #[cfg(test)]
 mod tests;
 
-pub use answer::{BadAnswer, Reason, read_answer, read_reason};
 pub use error::RcError;
 pub use laws::orders_are_read;
 pub use message::{order_request, reply_response};

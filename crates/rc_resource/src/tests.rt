@@ -4,7 +4,7 @@ use super::*;
 use crate::halves::unused;
 use http_header::HeaderMap;
 use ikeless_tree::{Entries, Order, Rows, Tree, check_sad, check_spd};
-use ikl_base::{Addr, ListOf, Name, NoMemory, Octets, OrMemory};
+use ikl_base::{Addr, ListOf, NoMemory, Octets, OrMemory};
 use json_codec::{read_sad_entry, read_spd_entry};
 use rc_http::HttpMessage;
 use std::alloc::Global;
@@ -266,34 +266,6 @@ fn requests_over_an_association(rt: HostRuntime) -> Result<(), Fail> {
         let text = over_half(rt.alloc(), row)?;
         assert_eq!(rt; text.as_slice(), row.shown.as_bytes());
     }
-    Ok(())
-}
-
-// The answer to a removal by way of its request and the response to it.
-fn removed(alloc: Global, name: &[u8]) -> Result<u16, NoMemory> {
-    let o = Order::Remove(Name::from_slice(alloc, name)?);
-    let row = Row {
-        method: "DELETE",
-        target: "/restconf/data/ietf-i2nsf-ikeless:ipsec-ikeless/sad/sad-entry=in%2F7",
-        body: "",
-        shown: "",
-    };
-    let m = message(alloc, &row)?;
-    let mut tree = Tree {
-        spd: Entries::new(alloc),
-        sad: Rows::new(alloc),
-    };
-    let reply = reply_over(alloc, &mut tree, &m)?;
-    match read_answer(alloc, &o, &reply_response(alloc, &reply)?) {
-        Ok(answer) => Ok(answer.status),
-        Err(_) => Ok(0),
-    }
-}
-
-#[test]
-fn a_removal_of_none_is_answered(rt: HostRuntime) -> Result<(), Fail> {
-    let status = removed(rt.alloc(), b"in/7")?;
-    assert_eq!(rt; status, 404);
     Ok(())
 }
 
