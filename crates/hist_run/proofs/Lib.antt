@@ -4,3 +4,4 @@ pub mod Arrives
 pub mod Handles
 pub mod Told
 pub mod MayOrders
+pub mod Parts
