@@ -5,3 +5,4 @@ pub mod Handles
 pub mod Told
 pub mod MayOrders
 pub mod Parts
+pub mod Controls
