@@ -61,12 +61,12 @@ told-fits p h (End r) e = tt
 told-fits p h (Rekey r) e = tt
 told-fits p h (Keys k) e = tt
 
-abbrev OpenFits : ℕ → Act → Type 0
+abbrev pub OpenFits : ℕ → Act → Type 0
 OpenFits p (Opened g s) = g < p
 OpenFits p (_) = Unit {0}
 
 -- an act that may follow speaks of a known gateway, where an opening does
-act-fits : (p : ℕ) (h : List Act) (a : Act) → AllFit p h → MayFollow p h a → OpenFits p a → Fits p a
+pub act-fits : (p : ℕ) (h : List Act) (a : Act) → AllFit p h → MayFollow p h a → OpenFits p a → Fits p a
 act-fits p h (Opened g s) f m o = o
 act-fits p h (Cut g s) f m o = open-fits p g h f m.0
 act-fits p h (Answered g s n x) f m o = queue-fits p g h m.0 f (oldest-has (queue g h) m.0 m.1)
@@ -77,7 +77,7 @@ act-fits p h (Refused w) f m o = tt
 
 -- ## of a block only the event's own act can be an opening
 
-abbrev OpensFit : ℕ → List Act → Type 0
+abbrev pub OpensFit : ℕ → List Act → Type 0
 OpensFit p [] = Unit {0}
 OpensFit p (a ∷ more) = OpenFits p a × OpensFit p more
 
@@ -148,7 +148,7 @@ all-fit : (p : ℕ) (h xs : List Act) → AllFit p h → MayAll p h xs → Opens
 all-fit p h [] f m o = f
 all-fit p h (a ∷ xs) f m o = all-fit p (a ∷ h) xs (act-fits p h a f m.0 o.0, f) m.1 o.1
 
-fit-block : (ps : List Peer) (h : List Act) (e : Event) → AllFit (length ps) h → EventFits (length ps) e → AllFit (length ps) (after h (block ps h e))
+pub fit-block : (ps : List Peer) (h : List Act) (e : Event) → AllFit (length ps) h → EventFits (length ps) e → AllFit (length ps) (after h (block ps h e))
 fit-block ps h e f t = all-fit (length ps) h (block ps h e) f (may-block ps h e) (opens-block ps h e t)
 
 fit-from : (ps : List Peer) (h : List Act) (es : List Event) → AllFit (length ps) h → AllEventsFit (length ps) es → AllFit (length ps) (after h (history ps h es))

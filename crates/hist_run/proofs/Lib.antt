@@ -4,3 +4,5 @@ pub mod Arrives
 pub mod Handles
 pub mod Told
 pub mod MayOrders
+pub mod Parts
+pub mod Controls

@@ -1,3 +1,4 @@
 pub mod Arrivals
 pub mod Block
 pub mod Headers
+pub mod Parts
