@@ -91,7 +91,10 @@ comes-to : (gs : List Peer) (g o : List ℕ) (h : List Act) (v : Packet) (e : Sa
 comes-to gs g o h v e t found fresh =
     let b = esp-is o v t.view in
     record {
-      packet = v; view = t.view; proto = t.proto; own = t.own;
+      packet = v;
+      view = t.view;
+      proto = t.proto;
+      own = t.own;
       found = ap (λ (z : List ℕ). by_spi (spi_of z) (live g h)) b ∙ found;
       fresh = ap (λ (z : List ℕ). verdict_over e.window (taken g e.name h) (number_of e (taken g e.name h) z)) b ∙ fresh;
     }
@@ -127,12 +130,12 @@ genuine gs g o own h at no-forgery = λ half text c opens.
     let v2 : is_esp_forged g h c.packet.payload ≡ false = subst (λ (t : Bool). (t && is_esp_forged g h c.packet.payload) ≡ false) ours v1 in
     let v3 : is_esp_forged g h (esp_of o) ≡ false = subst (λ (z : List ℕ). is_esp_forged g h z ≡ false) (sym b) v2 in
     let v4 : is_half_forged g h (esp_of o) (by_spi (spi_of (esp_of o)) (live g h)) ≡ false =
-      subst (λ (t : Bool). (not t && is_half_forged g h (esp_of o) (by_spi (spi_of (esp_of o)) (live g h))) ≡ false) (long (esp_of o) opens.0) v3 in
+    subst (λ (t : Bool). (not t && is_half_forged g h (esp_of o) (by_spi (spi_of (esp_of o)) (live g h))) ≡ false) (long (esp_of o) opens.0) v3 in
     let v5 : is_half_forged g h (esp_of o) (Some half) ≡ false = subst (λ (z : Option SadEntry). is_half_forged g h (esp_of o) z ≡ false) c.found v4 in
     let fresh : is_fresh (verdict_over half.window (taken g half.name h) (number_of half (taken g half.name h) (esp_of o))) ≡ true = ap is_fresh c.fresh in
     let opens_here : does_open (esp.opened (keying half.spi half.key) (esp_of o)) ≡ true = ap does_open (opened_finds (keying half.spi half.key) (esp_of o) text opens) in
     genuine-of (is_fresh (verdict_over half.window (taken g half.name h) (number_of half (taken g half.name h) (esp_of o))))
-      (does_open (esp.opened (keying half.spi half.key) (esp_of o))) (is_sealed (other_half half.name) (esp_of o) h) v5 fresh opens_here
+    (does_open (esp.opened (keying half.spi half.key) (esp_of o))) (is_sealed (other_half half.name) (esp_of o) h) v5 fresh opens_here
 
 -- ---- what is given
 
@@ -174,9 +177,10 @@ opens-comes gs c o h at a =
     let view : view_of o ≡ Ok a.outer = ap view_of s.1 ∙ a.view in
     let own : address_of gs c.name ≡ Some a.outer.dst = at ∙ ap Some (dst-is a.outer c.address a.own) in
     let us : ToUs gs c.name o a.outer = record { view = view; proto = proto-is a.outer c.address a.own; own = own } in
-    let k : Keying = keying a.half.spi a.half.key in
-    (comes-to gs c.name o h a.outer a.half us a.spi a.fresh,
-    subst (λ (z : List ℕ). EspOpens k z a.text) (sym (esp-is o a.outer view)) (opens-to k a.outer.payload a.text a.opened))
+    let k : Keying = keying a.half.spi a.half.key in (
+      comes-to gs c.name o h a.outer a.half us a.spi a.fresh,
+      subst (λ (z : List ℕ). EspOpens k z a.text) (sym (esp-is o a.outer view)) (opens-to k a.outer.payload a.text a.opened),
+    )
 
 gives : (gs : List Peer) (c : Gateway) (o x : List ℕ) (n : ℕ) (p : List ℕ) (h : List Act) → address_of gs c.name ≡ Some c.address
     → IsOpenedArrival c (acts.Arrived c.name o ∷ h) c.name x n p → Delivers gs c.name o x n p h
@@ -210,17 +214,17 @@ ArriveAnswer g _ = ⊥
 inner-answer : (g : List ℕ) (e : SadEntry) (n next : ℕ) (p : List ℕ) (r : Result Packet NotPacket) → ArriveAnswer g (by_inner g e n next p r)
 inner-answer g e n next p (Err fault) = refl
 inner-answer g e n next p (Ok v) = told-answer (is_told_version next p) (holds_packet e.selector In v) where
-    told-answer : (t b : Bool) → ArriveAnswer g (if not t then acts.Drop g why.Inner else if b then acts.Gave g e.name n p else acts.Drop g why.Selector)
-    told-answer true true = refl
-    told-answer true false = refl
-    told-answer false b = refl
+  told-answer : (t b : Bool) → ArriveAnswer g (if not t then acts.Drop g why.Inner else if b then acts.Gave g e.name n p else acts.Drop g why.Selector)
+  told-answer true true = refl
+  told-answer true false = refl
+  told-answer false b = refl
 
 packet-answer : (g : List ℕ) (e : SadEntry) (n : ℕ) (found : Option esp.Packet) → ArriveAnswer g (by_packet g e n found)
 packet-answer g e n None = refl
 packet-answer g e n (Some p) = dummy-answer (p.next == 59) (inner-answer g e n p.next p.octets (view_of p.octets)) where
-    dummy-answer : (b : Bool) → ArriveAnswer g (by_inner g e n p.next p.octets (view_of p.octets)) → ArriveAnswer g (if b then acts.Drop g why.Dummy else by_inner g e n p.next p.octets (view_of p.octets))
-    dummy-answer true a = refl
-    dummy-answer false a = a
+  dummy-answer : (b : Bool) → ArriveAnswer g (by_inner g e n p.next p.octets (view_of p.octets)) → ArriveAnswer g (if b then acts.Drop g why.Dummy else by_inner g e n p.next p.octets (view_of p.octets))
+  dummy-answer true a = refl
+  dummy-answer false a = a
 
 text-shape : (g : List ℕ) (h : List Act) (e : SadEntry) (n : ℕ) (found : Option (List ℕ)) → Shaped (ArriveAnswer g) (by_text g h e n found)
 text-shape g h e n None = shaped (ArriveAnswer g) (acts.Drop g why.Auth) [] refl refl

@@ -228,11 +228,11 @@ answer-goes ps w c g a (o ∷ os) names family ready m i next f =
     let q = openings-meet ps w c g names m i in
     let k = answered-meet ps w c g names m i in
     let at1 : sessions.answer_at (name_of ps g) (session g c) (sessions.answered (name_of ps g) (session g c) w + 1) w ≡ Some a =
-      subst (λ (z : ℕ). sessions.answer_at (name_of ps g) z (sessions.answered (name_of ps g) z w + 1) w ≡ Some a) q b.1 in
+    subst (λ (z : ℕ). sessions.answer_at (name_of ps g) z (sessions.answered (name_of ps g) z w + 1) w ≡ Some a) q b.1 in
     let at2 : sessions.answer_at (name_of ps g) (session g c) (answers g c + 1) w ≡ Some a =
-      subst (λ (z : ℕ). sessions.answer_at (name_of ps g) (session g c) (z + 1) w ≡ Some a) k at1 in
+    subst (λ (z : ℕ). sessions.answer_at (name_of ps g) (session g c) (z + 1) w ≡ Some a) k at1 in
     going-goes ps w c (Answered g (session g c) (answers g c + 1) a) names family
-      (answered-goes ps w c g (session g c) (answers g c + 1) a names ready m b.0 at2 f.0) f
+    (answered-goes ps w c g (session g c) (answers g c + 1) a names ready m b.0 at2 f.0) f
 
 pub block-goes : (ps : List Peer) (w : List happened.Act.Act) (c : List Act) (e : Event) → Named ps → Family ps → law.is_ready w ≡ true → Meet ps w c → EventFits (length ps) e → AnswerFits ps w e
     → Told_all ps w c (block ps c e)

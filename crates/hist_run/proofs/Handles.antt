@@ -38,9 +38,9 @@ Idle g s h = (s ≡ 0) ⊎ (openings g h < s)
 idle-not : (b c : Bool) (t s m : ℕ) → (b ≡ true → (t ≡ 0) ⊎ (t ≡ m)) → (t ≡ 0 → ⊥) → (c ≡ true → t ≡ s) → (s ≡ 0) ⊎ (m < s) → (b && c) ≡ false
 idle-not true true t s m last some same (inl z) = absurd (some (same refl ∙ z))
 idle-not true true t s m last some same (inr l) = idle-last (last refl) where
-    idle-last : (t ≡ 0) ⊎ (t ≡ m) → (true && true) ≡ false
-    idle-last (inl z) = absurd (some z)
-    idle-last (inr q) = let e = same refl in grind (arith, q, e, l)
+  idle-last : (t ≡ 0) ⊎ (t ≡ m) → (true && true) ≡ false
+  idle-last (inl z) = absurd (some z)
+  idle-last (inr q) = let e = same refl in grind (arith, q, e, l)
 idle-not true false t s m last some same i = refl
 idle-not false c t s m last some same i = refl
 
@@ -57,7 +57,7 @@ pub idle : (gs : List Peer) (g : List ℕ) (s : ℕ) (h : List Act) → IsLawful
 idle gs g s [] l i = refl
 idle gs g s (acts.Handled f t k a ∷ h) l i =
     let last : (bytes_eq f g ≡ true) → (t ≡ 0) ⊎ (t ≡ openings g h) = λ e.
-      elim (taken-last gs f h l.1) as (λ z. (t ≡ 0) ⊎ (t ≡ openings g h)) [ inl z ↦ inl (l.0.0 ∙ z) | inr z ↦ inr (l.0.0 ∙ z ∙ openings-at f g h e) ] in
+    elim (taken-last gs f h l.1) as (λ z. (t ≡ 0) ⊎ (t ≡ openings g h)) [ inl z ↦ inl (l.0.0 ∙ z) | inr z ↦ inr (l.0.0 ∙ z ∙ openings-at f g h e) ] in
     let some : t ≡ 0 → ⊥ = λ z. no-request (taken f h) (order_at f (taken f h) (handled f (taken f h) h + 1) h) l.0.2.0 (sym l.0.0 ∙ z) l.0.2.1 in
     let b = idle-not (bytes_eq f g) (t == s) t s (openings g h) last some (eq-nat t s) i in
     plus-if (is_session f t g s) (handled g s h) b (idle gs g s h l.1 i)

@@ -101,7 +101,7 @@ sends-may gs c g o x d n h l low s =
       number = m;
       small = subst (λ (z : ℕ). z < 2 ^ 32) (sym m) small;
       sealed = ap esp_of s.datagram ∙ datagram-esp s.half n s.packet s.octets (live-ends gs g s.half h l st.0)
-        ∙ ap (λ (z : List ℕ). esp (keying_of s.half) n (next_header z) z) (sym b.1);
+          ∙ ap (λ (z : List ℕ). esp (keying_of s.half) n (next_header z) z) (sym b.1);
     }
 
 -- an answer of the gateway

@@ -25,10 +25,10 @@ use Rattle.hist_run.proofs.Told.{in-doomed, in-half, in-order, in-ordered, inbou
 place-more : (i : ℕ) (ks more : List (List ℕ)) (k : List ℕ) → place i ks ≡ Some k → place i (ks ++ more) ≡ Some k
 place-more i [] more k e = cc
 place-more i (x ∷ ks) more k e = place-cons (i == 0) i x ks more k (place-more (i - 1) ks more k) e where
-    place-cons : (b : Bool) (i : ℕ) (x : List ℕ) (ks more : List (List ℕ)) (k : List ℕ) → (place (i - 1) ks ≡ Some k → place (i - 1) (ks ++ more) ≡ Some k)
-        → (if b then Some x else place (i - 1) ks) ≡ Some k → (if b then Some x else place (i - 1) (ks ++ more)) ≡ Some k
-    place-cons true i x ks more k ih e = e
-    place-cons false i x ks more k ih e = ih e
+  place-cons : (b : Bool) (i : ℕ) (x : List ℕ) (ks more : List (List ℕ)) (k : List ℕ) → (place (i - 1) ks ≡ Some k → place (i - 1) (ks ++ more) ≡ Some k)
+      → (if b then Some x else place (i - 1) ks) ≡ Some k → (if b then Some x else place (i - 1) (ks ++ more)) ≡ Some k
+  place-cons true i x ks more k ih e = e
+  place-cons false i x ks more k ih e = ih e
 
 -- an inbound put has the key whose place its serial is
 given-key : (p : ℕ) (g : ℕ) (y : Association) (h : List Act) → IsPast p h → Given (PutIn y) g h → place (y.serial - 1) (keys h) ≡ Some y.key
@@ -94,25 +94,25 @@ fresh-key ps p g s k x h l = not-yes (world.is_key_used (aes_part x.key) (past_t
     let at = l.0.3.serial in
     let one = at-least p h l.1 u.0 u.1 in
     omega (arith, low, same, at, one)) where
-    at-least : (p : ℕ) (h : List Act) → IsPast p h → (y : Association) → Given (PutIn y) y.way.receiver h → 1 ≤ y.serial
-    at-least p [] l y e = absurd e
-    at-least p (Opened f s ∷ h) l y e = at-least p h l.1 y e
-    at-least p (Cut f s ∷ h) l y e = at-least p h l.1 y e
-    at-least p (Answered f s k a ∷ h) l y e = at-least p h l.1 y e
-    at-least p (Heard f s t ∷ h) l y e = at-least p h l.1 y e
-    at-least p (Accepted c ∷ h) l y e = at-least p h l.1 y e
-    at-least p (Refused w ∷ h) l y e = at-least p h l.1 y e
-    at-least p (Ordered f s k o ∷ h) l y (inr e) = at-least p h l.1 y e
-    at-least p (Ordered f s k Read ∷ h) l y (inl e) = let r : PutIn y ≡ Read = e.0 in absurd (grind (arith, r))
-    at-least p (Ordered f s k (Policy list) ∷ h) l y (inl e) = let r : PutIn y ≡ Policy list = e.0 in absurd (grind (arith, r))
-    at-least p (Ordered f s k (PutIn z) ∷ h) l y (inl e) =
-        let r : PutIn y ≡ PutIn z = e.0 in
-        let q : y ≡ z = grind (arith, r) in
-        let n = l.0.3.serial in
-        subst (λ (v : Association). 1 ≤ v.serial) (sym q) (omega (arith, n))
-    at-least p (Ordered f s k (PutOut z) ∷ h) l y (inl e) = let r : PutIn y ≡ PutOut z = e.0 in absurd (grind (arith, r))
-    at-least p (Ordered f s k (RemoveIn m) ∷ h) l y (inl e) = let r : PutIn y ≡ RemoveIn m = e.0 in absurd (grind (arith, r))
-    at-least p (Ordered f s k (RemoveOut m) ∷ h) l y (inl e) = let r : PutIn y ≡ RemoveOut m = e.0 in absurd (grind (arith, r))
+      at-least : (p : ℕ) (h : List Act) → IsPast p h → (y : Association) → Given (PutIn y) y.way.receiver h → 1 ≤ y.serial
+      at-least p [] l y e = absurd e
+      at-least p (Opened f s ∷ h) l y e = at-least p h l.1 y e
+      at-least p (Cut f s ∷ h) l y e = at-least p h l.1 y e
+      at-least p (Answered f s k a ∷ h) l y e = at-least p h l.1 y e
+      at-least p (Heard f s t ∷ h) l y e = at-least p h l.1 y e
+      at-least p (Accepted c ∷ h) l y e = at-least p h l.1 y e
+      at-least p (Refused w ∷ h) l y e = at-least p h l.1 y e
+      at-least p (Ordered f s k o ∷ h) l y (inr e) = at-least p h l.1 y e
+      at-least p (Ordered f s k Read ∷ h) l y (inl e) = let r : PutIn y ≡ Read = e.0 in absurd (grind (arith, r))
+      at-least p (Ordered f s k (Policy list) ∷ h) l y (inl e) = let r : PutIn y ≡ Policy list = e.0 in absurd (grind (arith, r))
+      at-least p (Ordered f s k (PutIn z) ∷ h) l y (inl e) =
+          let r : PutIn y ≡ PutIn z = e.0 in
+          let q : y ≡ z = grind (arith, r) in
+          let n = l.0.3.serial in
+          subst (λ (v : Association). 1 ≤ v.serial) (sym q) (omega (arith, n))
+      at-least p (Ordered f s k (PutOut z) ∷ h) l y (inl e) = let r : PutIn y ≡ PutOut z = e.0 in absurd (grind (arith, r))
+      at-least p (Ordered f s k (RemoveIn m) ∷ h) l y (inl e) = let r : PutIn y ≡ RemoveIn m = e.0 in absurd (grind (arith, r))
+      at-least p (Ordered f s k (RemoveOut m) ∷ h) l y (inl e) = let r : PutIn y ≡ RemoveOut m = e.0 in absurd (grind (arith, r))
 
 -- ---- which halves were put
 
@@ -186,7 +186,7 @@ may-put-out ps g s k x h l names f =
     let e = not-ended (ended x h) (not (heard PuttingOut x.serial h)) (not (sends x.serial h)) (heard PuttingIn x.serial h) (ready l.0.3.way.sender h) (ready l.0.3.way.receiver h) l.0.3.may in
     let i = in-half x.serial in
     let far : bytes_eq (name_of ps x.way.receiver) (name_of ps g) ≡ false =
-      ap (λ (z : ℕ). bytes_eq (name_of ps x.way.receiver) (name_of ps z)) out.0 ∙ names x.way.receiver x.way.sender w.receiver w.sender ∙ w.apart in
+    ap (λ (z : ℕ). bytes_eq (name_of ps x.way.receiver) (name_of ps z)) out.0 ∙ names x.way.receiver x.way.sender w.receiver w.sender ∙ w.apart in
     record {
       serial = decimal x.serial;
       name = out-half x.serial;

@@ -189,7 +189,7 @@ in-order ps p x (Ordered g s k (PutIn y) ∷ h) i l e =
     record {
       order = some-in b (in_entry ps y) (in_entry ps x) (world.order_of (in_name x.serial) (past_told ps h)) (λ q. ap (in_entry ps) (sym (same q))) (λ q. (in-order ps p x h i l.1 (old q)).order);
       site = site-in b (name_of ps g) (name_of ps x.way.receiver) (world.site (in_name x.serial) (past_told ps h))
-        (λ q. ap (name_of ps) at.at ∙ ap (λ (z : Association). name_of ps z.way.receiver) (sym (same q))) (λ q. (in-order ps p x h i l.1 (old q)).site);
+          (λ q. ap (name_of ps) at.at ∙ ap (λ (z : Association). name_of ps z.way.receiver) (sym (same q))) (λ q. (in-order ps p x h i l.1 (old q)).site);
     }
 in-order ps p x (Ordered g s k (PutOut y) ∷ h) i l (inl e) = let r : PutIn x ≡ PutOut y = e.0 in absurd (grind (arith, r))
 in-order ps p x (Ordered g s k (PutOut y) ∷ h) i l (inr e) =
@@ -229,7 +229,7 @@ out-site ps p g x (Ordered f s k (PutOut y) ∷ h) i l e =
     let hy = out-home p all l f y (inl (refl, refl)) in
     let same : b ≡ true → x ≡ y = λ q. one-put p all l x.way.receiver y.way.receiver x y hx.1 hy.1 (eq-nat x.serial y.serial (sym w ∙ q)) in
     site-in b (name_of ps f) (name_of ps g) (world.site (out_name x.serial) (past_told ps h))
-      (λ q. ap (name_of ps) (hy.0 ∙ ap (λ (z : Association). z.way.sender) (sym (same q)) ∙ sym hx.0)) (λ q. out-site ps p g x h i l.1 (old q))
+    (λ q. ap (name_of ps) (hy.0 ∙ ap (λ (z : Association). z.way.sender) (sym (same q)) ∙ sym hx.0)) (λ q. out-site ps p g x h i l.1 (old q))
 out-site ps p g x (Ordered f s k (RemoveIn m) ∷ h) i l (inl e) = let r : PutOut x ≡ RemoveIn m = e.0 in absurd (grind (arith, r))
 out-site ps p g x (Ordered f s k (RemoveIn m) ∷ h) i l (inr e) = out-site ps p g x h i l.1 e
 out-site ps p g x (Ordered f s k (RemoveOut m) ∷ h) i l (inl e) = let r : PutOut x ≡ RemoveOut m = e.0 in absurd (grind (arith, r))
@@ -286,7 +286,7 @@ made-told ps p n x (Answered g s k a ∷ h) i e l names f q r =
     let m : Bool = world.is_put (in_name n) (sessions.order_at (name_of ps g) s k (past_told ps h)) && nat_lt a.status 400 in
     or-case (answers_to PuttingIn n (oldest (queue g h))) (heard PuttingIn n h) (m || world.is_made (in_name n) (past_told ps h))
     (λ w. or-left m (world.is_made (in_name n) (past_told ps h))
-      (subst (λ (z : Option tree.Order.Order). (world.is_put (in_name n) z && nat_lt a.status 400) ≡ true) (sym t) (is-made ps n x g a (oldest (queue g h)) (heard PuttingIn x.serial h) (sends x.serial h) i e w d.0)))
+    (subst (λ (z : Option tree.Order.Order). (world.is_put (in_name n) z && nat_lt a.status 400) ≡ true) (sym t) (is-made ps n x g a (oldest (queue g h)) (heard PuttingIn x.serial h) (sends x.serial h) i e w d.0)))
     (λ w. or-true m (world.is_made (in_name n) (past_told ps h)) (made-told ps p n x h i e l.1 names f.1 w d.1)) q
 made-told ps p n x (Heard g s t ∷ h) i e l names f q r = made-told ps p n x h i e l.1 names f.1 q r
 made-told ps p n x (Ordered g s k o ∷ h) i e l names f q r =
@@ -322,7 +322,7 @@ left-told ps p n (Answered g s k a ∷ h) i l names f q =
     let m : Bool = world.is_removal (out_name n) (sessions.order_at (name_of ps g) s k (past_told ps h)) in
     or-case (answers_to RemovingOut n (oldest (queue g h))) (heard RemovingOut n h) (m || world.is_left (out_name n) (past_told ps h))
     (λ w. or-left m (world.is_left (out_name n) (past_told ps h))
-      (subst (λ (z : Option tree.Order.Order). world.is_removal (out_name n) z ≡ true) (sym t) (is-gone ps n (oldest (queue g h)) i w)))
+    (subst (λ (z : Option tree.Order.Order). world.is_removal (out_name n) z ≡ true) (sym t) (is-gone ps n (oldest (queue g h)) i w)))
     (λ w. or-true m (world.is_left (out_name n) (past_told ps h)) (left-told ps p n h i l.1 names f.1 w)) q
 left-told ps p n (Heard g s t ∷ h) i l names f q = left-told ps p n h i l.1 names f.1 q
 left-told ps p n (Ordered g s k o ∷ h) i l names f q = left-told ps p n h i l.1 names f.1 (heard-kept (is PuttingIn n o) (heard RemovingOut n h) q)
