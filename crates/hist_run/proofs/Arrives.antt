@@ -205,7 +205,7 @@ gives gs c o x n p h at a =
 
 -- ---- the shape of the answer
 
-abbrev ArriveAnswer : List ℕ → Act → Type 0
+abbrev pub ArriveAnswer : List ℕ → Act → Type 0
 ArriveAnswer g (acts.Gave f x n p) = f ≡ g
 ArriveAnswer g (acts.Pass f o) = f ≡ g
 ArriveAnswer g (acts.Drop f w) = f ≡ g
@@ -266,7 +266,7 @@ view-shape g own h o (Ok v) =
     shaped-if (ArriveAnswer g) (is_sealed_for own v) (esp_acts g h v.payload) (by_entry g o (first_entry (force g h) In v) ∷ [])
     (esp-shape g h v.payload) (shaped (ArriveAnswer g) (by_entry g o (first_entry (force g h) In v)) [] (entry-shape g o (first_entry (force g h) In v)) refl)
 
-arrive-shape : (g : List ℕ) (own : Addr) (h : List Act) (o : List ℕ) → Shaped (ArriveAnswer g) (arrive_acts g own h o)
+pub arrive-shape : (g : List ℕ) (own : Addr) (h : List Act) (o : List ℕ) → Shaped (ArriveAnswer g) (arrive_acts g own h o)
 unfolding arrive_acts
 arrive-shape g own h o = view-shape g own h o (view_of o)
 

@@ -95,7 +95,7 @@ row-is-live : (g x : List ℕ) (h : List Act) → list_any (is_row x) (tree_of g
 row-is-live g x h = rows-have g x h (live g h) ∙ live-is g x h
 
 -- what may happen after the number of an event, and leaves no question
-abbrev Goes : List Peer → List Act → List Act → Type 0
+abbrev pub Goes : List Peer → List Act → List Act → Type 0
 Goes gs w xs = MayAll gs w xs × (is_ready (after w xs) ≡ true)
 
 goes-if : (gs : List Peer) (w : List Act) (b : Bool) (F : Outcome → List Act) (x y : Outcome) → (b ≡ true → Goes gs w (F x)) → (b ≡ false → Goes gs w (F y)) → Goes gs w (F (if b then x else y))

@@ -105,7 +105,7 @@ sends-may gs c g o x d n h l low s =
     }
 
 -- an answer of the gateway
-abbrev LetAnswer : List ℕ → Act → Type 0
+abbrev pub LetAnswer : List ℕ → Act → Type 0
 LetAnswer g (acts.Clear f o) = f ≡ g
 LetAnswer g (acts.Sent f x n d) = f ≡ g
 LetAnswer g (acts.Drop f w) = f ≡ g
@@ -153,7 +153,7 @@ let-view g o q h (Ok v) =
     shaped-if (LetAnswer g) (nat_lt 65000 (length o)) (acts.Drop g why.TooLong ∷ []) (by_entry g q h o v (first_entry (force g h) Out v))
     (shaped (LetAnswer g) (acts.Drop g why.TooLong) [] refl refl) (let-entry g o q h v (first_entry (force g h) Out v))
 
-let-shape : (g o : List ℕ) (q : ℕ) (h : List Act) → Shaped (LetAnswer g) (let_acts g q h o)
+pub let-shape : (g o : List ℕ) (q : ℕ) (h : List Act) → Shaped (LetAnswer g) (let_acts g q h o)
 unfolding let_acts
 let-shape g o q h = let-view g o q h (view_of o)
 

@@ -6,3 +6,4 @@ pub mod Told
 pub mod MayOrders
 pub mod Parts
 pub mod Controls
+pub mod Owns

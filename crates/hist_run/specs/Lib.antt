@@ -2,3 +2,4 @@ pub mod Arrivals
 pub mod Block
 pub mod Headers
 pub mod Parts
+pub mod Events

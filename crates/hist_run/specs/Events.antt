@@ -1,0 +1,22 @@
+-- The events that a line of a script can say under a header.
+use Rattle.std.specs.Prelude.{ℕ, ◌<◌, List, [], ◌∷◌, length}
+use Rattle.hist_acts.specs.declared.event.Event.{Event}
+use Rattle.hist_acts.specs.declared.event.Event.TheVariants as events
+use Rattle.hist_acts.specs.declared.event.Header.{Header}
+use Rattle.hist_controller.specs.Law.{number_of}
+
+-- a gateway of the header
+abbrev pub IsKnown : Header → List ℕ → Type 0
+IsKnown header g = number_of g header.gateways < length header.gateways
+
+-- an event of the controller's with a gateway names one of the header
+abbrev pub IsEventOf : Header → Event → Type 0
+IsEventOf header (events.Open g) = IsKnown header g
+IsEventOf header (events.Cut g) = IsKnown header g
+IsEventOf header (events.Up g) = IsKnown header g
+IsEventOf header (events.Note g) = IsKnown header g
+IsEventOf header _ = Unit {0}
+
+abbrev pub AreEventsOf : Header → List Event → Type 0
+AreEventsOf header [] = Unit {0}
+AreEventsOf header (e ∷ es) = IsEventOf header e × AreEventsOf header es
