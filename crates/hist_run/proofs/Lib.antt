@@ -7,3 +7,4 @@ pub mod MayOrders
 pub mod Parts
 pub mod Controls
 pub mod Owns
+pub mod Runs
