@@ -1,6 +1,5 @@
 -- The answer of a gateway to a datagram from outside may happen in the world, where the datagram isn't forged.
-use Rattle.std.proofs.Common.{◌≡◌, ℕ, ◌+◌, ◌≤◌, Bool, true, false, ◌==◌, not, ◌&&◌, ◌||◌, nat_lt, List, [], ◌∷◌, length, Option, Some, None, Result, Ok, Err, refl, sym, ◌∙◌, ap, subst, MatchOption, arith, if◌then◌else◌}
-use Rattle.std.specs.Str.{bytes_eq}
+use Rattle.std.proofs.Common.{◌≡◌, ℕ, ◌≤◌, Bool, true, false, ◌==◌, not, ◌&&◌, ◌||◌, nat_lt, List, [], ◌∷◌, length, Option, Some, None, Result, Ok, Err, refl, sym, ◌∙◌, ap, subst, MatchOption, arith, if◌then◌else◌}
 use Rattle.ikl_base.specs.declared.address.Addr.{Addr}
 use Rattle.ikl_base.specs.declared.address.Addr.TheVariants.{V4, V6}
 use Rattle.ip_packet.specs.declared.packet.NotPacket.{NotPacket}
@@ -32,7 +31,7 @@ use Rattle.hist_node.specs.Stands.{bad_spi_stands}
 use Rattle.hist_node.specs.Datagram.{fault_why, is_address}
 use Rattle.hist_node.specs.Look.{look, tells}
 use Rattle.hist_node.specs.Let.{unless}
-use Rattle.hist_node.specs.Arrive.{arrive_acts, by_action, by_entry, by_half, by_inner, by_number, by_packet, by_text, by_verdict, by_view, drops, esp_acts, is_sealed_for, is_told_version, uses}
+use Rattle.hist_node.specs.Arrive.{arrive_acts, by_action, by_entry, by_half, by_inner, by_packet, by_text, by_verdict, by_view, drops, esp_acts, is_sealed_for, is_told_version, uses}
 use Rattle.hist_node.specs.Block.{Gateway}
 use Rattle.hist_node.specs.May.{AllMay, IsDelivery, IsOpenedArrival, MayDrop, MayFollow, OpensArrival}
 use Rattle.hist_node.proofs.DeliveryLemmas.{delivers-is}
@@ -40,7 +39,7 @@ use Rattle.hist_world.specs.Carried.{ComesTo, Delivers, IsGenuine, IsOpened, IsU
 use Rattle.hist_world.specs.Law.{MayAll, MayHappen, is_ready}
 use Rattle.hist_world.proofs.Basics.{no, both, both-left, both-right, eq-nat, name-is, name-self}
 use Rattle.hist_run.specs.Arrivals.{does_open, is_esp_forged, is_forged, is_fresh, is_half_forged, is_view_forged}
-use Rattle.hist_run.proofs.Followers.{are_followers, follow, look-follows, unless-follows}
+use Rattle.hist_run.proofs.Followers.{follow, look-follows, unless-follows}
 use Rattle.hist_run.proofs.Lets.{Shaped, shaped, shaped-if}
 
 -- ---- addresses and versions

@@ -1,5 +1,5 @@
 -- The controller's block may happen in the world, where the controller's part of what happened is its own past, told.
-use Rattle.std.proofs.Common.{◌≡◌, ℕ, ◌+◌, ◌<◌, Bool, true, false, not, ◌&&◌, ◌||◌, List, [], ◌∷◌, ◌++◌, length, Option, Some, None, refl, sym, ◌∙◌, ap, subst, append-nil, arith, if◌then◌else◌}
+use Rattle.std.proofs.Common.{◌≡◌, ℕ, ◌+◌, ◌<◌, Bool, true, false, List, [], ◌∷◌, ◌++◌, length, Option, Some, None, refl, sym, ◌∙◌, ap, subst, if◌then◌else◌}
 use Rattle.std.specs.List.{list_all, list_any}
 use Rattle.ikeless_tree.specs.declared.command.Peer.{Peer}
 use Rattle.ikeless_tree.specs.declared.command.Refusal.{Refusal}
@@ -13,17 +13,17 @@ use Rattle.hist_acts.specs.Past as world_past
 use Rattle.hist_acts.specs.Sessions as sessions
 use Rattle.hist_controller.specs.Acts.{Way, Order, Read, Policy, Placed, SetPolicy, Tunnel, End, Rekey, Keys, Act, Opened, Cut, Answered, Heard, Ordered, Accepted, Refused, Event, Told, Opens, Cuts, Answers, Notices}
 use Rattle.hist_controller.specs.Past.{after, answers, directions, is_open, newest_list, orders, queue, session}
-use Rattle.hist_controller.specs.Law.{asked, asked_then, block, by_answer, by_command, by_notice, by_refusal, give, going, is_reading, order, pass, placed, read_put, refusal, with_list}
-use Rattle.hist_controller.specs.Clauses.{IsPast, MayAll, MayFollow}
-use Rattle.hist_controller.specs.Table.{AllFit, EventFits, Fits}
-use Rattle.hist_controller.specs.Told.{Named, all_told, name_of, order_told, past_told, told}
+use Rattle.hist_controller.specs.Law.{asked, asked_then, block, by_answer, by_command, by_notice, by_refusal, give, going, is_reading, order, pass, placed, refusal, with_list}
+use Rattle.hist_controller.specs.Clauses.{MayAll, MayFollow}
+use Rattle.hist_controller.specs.Table.{EventFits}
+use Rattle.hist_controller.specs.Told.{Named, all_told, name_of, order_told, told}
 use Rattle.hist_controller.proofs.Clauses.{may-block}
-use Rattle.hist_controller.proofs.Fitting.{OpenFits, act-fits}
+use Rattle.hist_controller.proofs.Fitting.{act-fits}
 use Rattle.hist_controller.proofs.Gives.{Given, nothing, out_removed, in_removed, out_was_put, in_was_put, given}
 use Rattle.hist_controller.proofs.Transcript.{answered-told, open-told, openings-told, orders-told}
 use Rattle.hist_world.specs.Law as law
 use Rattle.hist_world.proofs.Basics.{no, both, both-left, both-right}
-use Rattle.hist_run.specs.Parts.{controllers_part}
+use Rattle.hist_run.specs.Stands.{Meet}
 use Rattle.hist_run.proofs.MayOrders.{Family, order-may}
 use Rattle.hist_run.proofs.Parts.{answered-part, open-part, openings-part, order-part, orders-part}
 
@@ -85,12 +85,6 @@ then-orders : (h : List Act) (a : Act) → are_orders (asked_then (a ∷ h) (ask
 then-orders h a = joined (asked (a ∷ h) a) _ (asked-orders (a ∷ h) a) (pass-orders (after (a ∷ h) (asked (a ∷ h) a)) (directions (after (a ∷ h) (asked (a ∷ h) a))))
 
 -- ---- what the controller and the world know alike
-
--- the controller's part of what happened is its own past, told
-pub record Meet (ps : List Peer) (w : List happened.Act.Act) (c : List Act) : Type 0 where
-  pub part : controllers_part w ≡ past_told ps c
-  pub past : IsPast (length ps) c
-  pub fit : AllFit (length ps) c
 
 open-meet : (ps : List Peer) (w : List happened.Act.Act) (c : List Act) (g : ℕ) → Named ps → Meet ps w c → g < length ps → sessions.is_open (name_of ps g) w ≡ is_open g c
 open-meet ps w c g names m i = open-part (name_of ps g) w ∙ ap (sessions.is_open (name_of ps g)) m.part ∙ open-told ps c names m.fit g i

@@ -1,5 +1,5 @@
 -- What follows a gateway's answer in its block: halves that are gone by a hard limit, and notices.
-use Rattle.std.proofs.Common.{◌≡◌, ℕ, Bool, true, false, not, ◌&&◌, List, [], ◌∷◌, ◌++◌, refl, sym, if◌then◌else◌}
+use Rattle.std.proofs.Common.{◌≡◌, ℕ, Bool, true, false, List, [], ◌∷◌, ◌++◌, refl, if◌then◌else◌}
 use Rattle.std.specs.List.{list_all}
 use Rattle.ikeless_tree.specs.declared.association.SadEntry.{SadEntry}
 use Rattle.ikeless_tree.specs.declared.command.Peer.{Peer}
@@ -17,7 +17,7 @@ use Rattle.hist_node.specs.Look.{is_reached, expiry, given_by, goings, expiries,
 use Rattle.hist_node.specs.Let.{unless}
 use Rattle.hist_world.specs.Law.{MayAll, MayHappen, is_ready}
 use Rattle.hist_world.proofs.Basics.{no, both, both-left, both-right}
-use Rattle.hist_run.specs.Block.{looks, raised}
+use Rattle.hist_run.specs.Block.{looks}
 
 abbrev pub is_follower : Act → Bool
 is_follower (acts.Gone f x w) = is_hard w

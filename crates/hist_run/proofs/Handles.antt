@@ -1,15 +1,12 @@
 -- The answer of a gateway to a request of its session may happen in the world.
-use Rattle.std.proofs.Common.{◌≡◌, ℕ, ◌+◌, ◌<◌, ◌≤◌, Bool, true, false, ◌==◌, not, ◌&&◌, ◌||◌, nat_le, List, [], ◌∷◌, ◌++◌, length, map, Option, Some, None, Ok, refl, sym, ◌∙◌, ap, subst, inl, inr, ◌⊎◌, arith, if◌then◌else◌}
+use Rattle.std.proofs.Common.{◌≡◌, ℕ, ◌+◌, ◌<◌, ◌≤◌, Bool, true, false, ◌==◌, ◌&&◌, ◌||◌, List, [], ◌∷◌, map, Option, Some, None, Ok, refl, sym, ◌∙◌, ap, inl, inr, ◌⊎◌, arith, if◌then◌else◌}
 use Rattle.std.specs.List.{list_any}
 use Rattle.std.specs.Str.{bytes_eq}
 use Rattle.ikeless_tree.specs.declared.association.SadEntry.{SadEntry}
 use Rattle.ikeless_tree.specs.declared.association.Tree.{Tree}
 use Rattle.ikeless_tree.specs.declared.command.Peer.{Peer}
-use Rattle.ikeless_tree.specs.declared.entry.SpdEntry.{SpdEntry}
 use Rattle.ikeless_tree.specs.declared.order.Order.{Order}
 use Rattle.ikeless_tree.specs.declared.order.Order.TheVariants as asks
-use Rattle.ikeless_tree.specs.declared.order.Answer.{Answer}
-use Rattle.ikeless_tree.specs.declared.reply.GoneWhy.TheVariants as gone
 use Rattle.ikeless_tree.specs.Half.{is_inbound}
 use Rattle.reply_table.specs.Order.{ask_of}
 use Rattle.reply_table.specs.Reply.{Outcome, absent, delete_sad, exists, full, has_spi, is_row, is_sad_full, post_sad, reply, spi_taken}
@@ -22,8 +19,8 @@ use Rattle.hist_node.specs.Rows.{row_of, tree_of}
 use Rattle.hist_node.specs.May.{has_half}
 use Rattle.hist_node.specs.Handle.{answer_of, handle_acts, reply_acts, requests}
 use Rattle.hist_node.proofs.ReadingsLemmas.{live-is}
-use Rattle.hist_world.specs.Law.{IsAnswer, IsLawful, MayAll, MayHappen, is_ready}
-use Rattle.hist_world.proofs.Basics.{no, both, both-left, both-right, eq-nat, name-is, name-self, self}
+use Rattle.hist_world.specs.Law.{IsLawful, MayAll, is_ready}
+use Rattle.hist_world.proofs.Basics.{no, eq-nat, name-is}
 use Rattle.hist_world.proofs.Sessions.{openings-at, taken-last}
 
 -- ---- the number of a request

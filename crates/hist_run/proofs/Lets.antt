@@ -1,5 +1,5 @@
 -- The answer of a gateway to a packet from inside may happen in the world.
-use Rattle.std.proofs.Common.{◌≡◌, ℕ, ◌+◌, ◌<◌, ◌^◌, Bool, true, false, ◌==◌, not, ◌&&◌, nat_le, nat_lt, List, [], ◌∷◌, ◌++◌, length, Option, Some, None, Result, Ok, Err, refl, sym, ◌∙◌, ap, subst, inl, inr, ◌⊎◌, arith, if◌then◌else◌}
+use Rattle.std.proofs.Common.{◌≡◌, ℕ, ◌+◌, ◌<◌, ◌^◌, Bool, true, false, ◌==◌, not, ◌&&◌, nat_le, nat_lt, List, [], ◌∷◌, length, Option, Some, None, Result, Ok, Err, refl, sym, ◌∙◌, ap, subst, inl, inr, arith, if◌then◌else◌}
 use Rattle.ip_packet.specs.declared.packet.NotPacket.{NotPacket}
 use Rattle.ip_packet.specs.View.{Packet, view_of}
 use Rattle.ip_packet.specs.Outer.{AreOneFamily, outer_header}
@@ -11,7 +11,6 @@ use Rattle.ikeless_tree.specs.declared.entry.Action.{Action}
 use Rattle.ikeless_tree.specs.declared.entry.Action.TheVariants as actions
 use Rattle.ikeless_tree.specs.declared.entry.Direction.TheVariants.{Out}
 use Rattle.ikeless_tree.specs.declared.order.Notice.TheVariants as notices
-use Rattle.ikeless_tree.specs.declared.reply.DropWhy.{DropWhy}
 use Rattle.ikeless_tree.specs.declared.reply.DropWhy.TheVariants as why
 use Rattle.esp_frame.specs.Esp.{esp, keying}
 use Rattle.spd_match.specs.Match.{first_entry, holds_packet}
@@ -21,7 +20,7 @@ use Rattle.hist_acts.specs.Past.{after, force}
 use Rattle.hist_halves.specs.Sealed.{esp_of, is_inbound}
 use Rattle.hist_halves.specs.Halves.{is_live, live, put_of, sent}
 use Rattle.hist_node.specs.Stands.{acquire_stands, overflow_given}
-use Rattle.hist_node.specs.Datagram.{datagram, fault_why, flow_of, next_header, outer_of, wrapped}
+use Rattle.hist_node.specs.Datagram.{datagram, fault_why, flow_of, next_header, outer_of}
 use Rattle.hist_node.specs.Look.{look, tells}
 use Rattle.hist_node.specs.Let.{by_action, by_entry, by_half, by_view, let_acts, newer, newest, seals, sends, unless}
 use Rattle.hist_node.specs.Block.{Gateway}
@@ -29,7 +28,7 @@ use Rattle.hist_node.specs.May.{AllMay, IsLetOut, IsSealedLet, MayFollow}
 use Rattle.hist_world.specs.Carried.{Sends, keying_of}
 use Rattle.hist_world.specs.Law.{IsLawful, MayAll, MayHappen, is_ready}
 use Rattle.hist_gateway.specs.Safe.{ClearIsLet}
-use Rattle.hist_world.proofs.Basics.{no, both-left, both-right, eq-nat, some-is}
+use Rattle.hist_world.proofs.Basics.{no, both-right, some-is}
 use Rattle.hist_world.specs.Kept.{IsOneOf}
 use Rattle.hist_world.proofs.Live.{stands}
 use Rattle.hist_world.proofs.Orders.{put-order}

@@ -1,23 +1,23 @@
 -- Each order of the controller may be given in the world.
-use Rattle.std.proofs.Common.{◌≡◌, ℕ, ◌+◌, ◌-◌, ◌<◌, ◌≤◌, ◌^◌, Bool, true, false, ◌==◌, not, ◌&&◌, ◌||◌, List, [], ◌∷◌, ◌++◌, length, decimal, Option, Some, None, refl, sym, ◌∙◌, ap, subst, inl, inr, ◌⊎◌, arith, if◌then◌else◌}
+use Rattle.std.proofs.Common.{◌≡◌, ℕ, ◌+◌, ◌-◌, ◌<◌, ◌≤◌, ◌^◌, Bool, true, false, ◌==◌, not, ◌||◌, List, [], ◌∷◌, ◌++◌, length, decimal, Some, refl, sym, ◌∙◌, ap, subst, inl, inr, ◌⊎◌, arith, if◌then◌else◌}
 use Rattle.std.specs.Str.{bytes_eq}
 use Rattle.ip_packet.specs.Outer.{AreOneFamily}
 use Rattle.ikeless_tree.specs.declared.command.Peer.{Peer}
-use Rattle.hist_controller.specs.Acts.{Way, Association, in_name, out_name, Order, Read, Policy, PutIn, PutOut, RemoveIn, RemoveOut, Act, Opened, Cut, Answered, Heard, Ordered, Accepted, Refused}
-use Rattle.hist_controller.specs.Past.{directions, serials, spare, keys, sends, heard, ended, ready, Kind, PuttingIn, PuttingOut, RemovingIn, RemovingOut, is}
+use Rattle.hist_controller.specs.Acts.{Association, in_name, out_name, Order, Read, Policy, PutIn, PutOut, RemoveIn, RemoveOut, Act, Opened, Cut, Answered, Heard, Ordered, Accepted, Refused}
+use Rattle.hist_controller.specs.Past.{keys, sends, heard, ended, ready, PuttingIn, PuttingOut, is}
 use Rattle.hist_controller.specs.Law.{aes_part}
-use Rattle.hist_controller.specs.Clauses.{Has, IsPast, MayFollow, MayInPut, MayOutPut, MayInRemove, MayOutRemove}
+use Rattle.hist_controller.specs.Clauses.{IsPast}
 use Rattle.hist_controller.specs.Machine.{place}
-use Rattle.hist_controller.specs.Orders.{Before, Given, PutOf, given}
+use Rattle.hist_controller.specs.Orders.{Given, given}
 use Rattle.hist_controller.specs.Table.{AllFit}
 use Rattle.hist_controller.specs.Told.{Named, address_of, in_entry, out_entry, name_of, order_told, past_told}
 use Rattle.hist_controller.proofs.Accepts.{apart, few-keys, few-serials, placings}
 use Rattle.hist_controller.proofs.Befores.{before, not-ended}
-use Rattle.hist_controller.proofs.Homes.{in-home, in-removal, out-home, out-removal, own-way}
+use Rattle.hist_controller.proofs.Homes.{in-home, in-removal, out-home, out-removal}
 use Rattle.hist_controller.proofs.Often.{keyed}
 use Rattle.hist_world.specs.Law as law
 use Rattle.hist_world.specs.Orders as world
-use Rattle.hist_world.proofs.Basics.{no, name-is, or-left, or-true, self, some-is}
+use Rattle.hist_world.proofs.Basics.{no, name-is, or-left, or-true, self}
 use Rattle.hist_run.proofs.Told.{in-doomed, in-half, in-order, in-ordered, inbound-given, inbounds-told, left-told, made-told, out-half, out-ordered, out-site}
 
 -- ---- keys

@@ -1,5 +1,5 @@
 -- The acts of gateways leave the controller's part of what happened as it is.
-use Rattle.std.proofs.Common.{◌≡◌, ℕ, Bool, true, false, not, ◌&&◌, List, [], ◌∷◌, ◌++◌, refl, sym, ◌∙◌, ap, subst}
+use Rattle.std.proofs.Common.{◌≡◌, ℕ, Bool, true, false, List, [], ◌∷◌, ◌++◌, refl, ◌∙◌, ap}
 use Rattle.std.specs.List.{list_all}
 use Rattle.ikl_base.specs.declared.address.Addr.{Addr}
 use Rattle.ikeless_tree.specs.declared.order.Answer.{Answer}
@@ -9,7 +9,6 @@ use Rattle.reply_table.specs.declared.ask.Change.TheVariants as changes
 use Rattle.hist_acts.specs.declared.act.Act.{Act}
 use Rattle.hist_acts.specs.declared.act.Act.TheVariants as acts
 use Rattle.hist_acts.specs.Past.{after}
-use Rattle.hist_halves.specs.Halves.{is_hard}
 use Rattle.hist_node.specs.Arrive.{arrive_acts}
 use Rattle.hist_node.specs.Handle.{change_acts}
 use Rattle.hist_node.specs.Let.{let_acts}

@@ -1,8 +1,7 @@
 -- Every history of the whole is lawful act by act, and so safe.
-use Rattle.std.proofs.Common.{◌≡◌, ℕ, suc, ◌+◌, ◌-◌, ◌<◌, ◌^◌, Bool, true, false, ◌==◌, not, ◌&&◌, nat_lt, max, List, [], ◌∷◌, ◌++◌, length, Option, Some, None, Ok, refl, sym, ◌∙◌, ap, subst, append-nil, arith, if◌then◌else◌}
+use Rattle.std.proofs.Common.{◌≡◌, ℕ, suc, ◌+◌, ◌-◌, ◌<◌, ◌^◌, Bool, true, false, ◌==◌, nat_lt, max, List, [], ◌∷◌, ◌++◌, length, Option, Some, None, Ok, refl, sym, ◌∙◌, ap, subst, append-nil, arith, if◌then◌else◌}
 use Rattle.std.specs.Prelude.{find}
 use Rattle.std.specs.Str.{bytes_eq}
-use Rattle.ikl_base.specs.declared.address.Addr.{Addr}
 use Rattle.ip_packet.specs.Ttl.{with_ttl}
 use Rattle.ikeless_tree.specs.declared.command.Command.TheVariants as commands
 use Rattle.ikeless_tree.specs.declared.command.Peer.{Peer}
@@ -18,22 +17,17 @@ use Rattle.hist_acts.specs.declared.event.Event.TheVariants as events
 use Rattle.hist_acts.specs.declared.event.Header.{Header}
 use Rattle.hist_acts.specs.Past.{after, clock, events_taken}
 use Rattle.hist_acts.specs.Sessions.{next_answer, next_notice, next_request, taken}
-use Rattle.hist_halves.specs.Halves.{live}
-use Rattle.hist_node.specs.Arrive.{arrive_acts}
 use Rattle.hist_node.specs.Block as node
-use Rattle.hist_node.specs.Handle.{answer_of, handle_acts, requests}
-use Rattle.hist_node.specs.Let.{let_acts}
-use Rattle.hist_node.specs.May.{AllMay}
+use Rattle.hist_node.specs.Handle.{answer_of, requests}
 use Rattle.hist_node.specs.Rows.{tree_of}
 use Rattle.hist_node.proofs.MayLemmas.{may-arrive, may-let}
 use Rattle.hist_controller.specs.Acts as controller
-use Rattle.hist_controller.specs.Clauses.{IsPast, NotIdle}
 use Rattle.hist_controller.specs.Law.{number_of}
 use Rattle.hist_controller.specs.Past as controller_past
 use Rattle.hist_controller.specs.Told.{all_told, name_of}
 use Rattle.hist_controller.proofs.Turns.{idle-block}
 use Rattle.hist_world.specs.Carried.{address_in, address_of}
-use Rattle.hist_world.specs.Law.{IsLawful, MayAll, MayHappen, is_ready}
+use Rattle.hist_world.specs.Law.{IsLawful, MayAll, is_ready}
 use Rattle.hist_world.proofs.Basics.{no, name-is, some-is}
 use Rattle.hist_world.proofs.Blocks.{lawful-after}
 use Rattle.hist_run.specs.Arrivals.{flipped, is_forged, sent_at}
@@ -42,9 +36,10 @@ use Rattle.hist_run.specs.Events.{AreEventsOf, IsEventOf, IsKnown}
 use Rattle.hist_run.specs.Headers.{IsHeader}
 use Rattle.hist_run.specs.Parts.{controllers_part}
 use Rattle.hist_run.proofs.Arrives.{arrive-may, genuine}
-use Rattle.hist_run.proofs.Controls.{AnswerFits, Meet, Told_all, block-goes}
+use Rattle.hist_run.specs.Stands.{AreGenuine, Meet, Stands, past_at}
+use Rattle.hist_run.proofs.Controls.{Told_all, block-goes}
 use Rattle.hist_run.proofs.Followers.{are_followers, follow, looks-follow}
-use Rattle.hist_run.proofs.Handles.{Goes, handle-may}
+use Rattle.hist_run.proofs.Handles.{handle-may}
 use Rattle.hist_run.proofs.Lets.{let-may}
 use Rattle.hist_run.proofs.Owns.{are_own, arrivals-own, changes-own, followers-own, lets-own, own-part}
 
@@ -133,12 +128,6 @@ boot-fits header g w (Some c) r = record { may = (r, tt); ready = refl; own = re
 
 -- ---- what holds between events
 
-pub record Stands (header : Header) (p : Past) : Type 0 where
-  pub lawful : IsLawful header.gateways p.world
-  pub ready : is_ready p.world ≡ true
-  pub meet : Meet header.gateways p.world p.controller
-  pub not_idle : NotIdle p.controller
-
 -- a block that may happen, and after it what holds again
 pub record Step (header : Header) (p : Past) (xs : List Act) (cs : List controller.Act) : Type 0 where
   pub may : MayAll header.gateways p.world xs
@@ -186,14 +175,14 @@ minus-one n = grind arith
 name-number : (g : List ℕ) (ps : List Peer) → number_of g ps < length ps → name_of ps (number_of g ps) ≡ g
 name-number g [] i = absurd (omega (arith, i))
 name-number g (p ∷ ps) i = name-case (bytes_eq p.name g) g p ps (name-is p.name g) (name-number g ps) i where
-    name-case : (b : Bool) (g : List ℕ) (p : Peer) (ps : List Peer) → (b ≡ true → p.name ≡ g) → (number_of g ps < length ps → name_of ps (number_of g ps) ≡ g)
-        → (if b then 0 else number_of g ps + 1) < suc (length ps) → name_of (p ∷ ps) (if b then 0 else number_of g ps + 1) ≡ g
-    name-case true g p ps e ih i = e refl
-    name-case false g p ps e ih i =
-        let z = minus-one (number_of g ps) in
-        let j : number_of g ps < length ps = omega (arith, i) in
-        let m : number_of g ps + 1 - 1 ≡ number_of g ps = omega arith in
-        rw z (ap (name_of ps) m ∙ ih j)
+  name-case : (b : Bool) (g : List ℕ) (p : Peer) (ps : List Peer) → (b ≡ true → p.name ≡ g) → (number_of g ps < length ps → name_of ps (number_of g ps) ≡ g)
+      → (if b then 0 else number_of g ps + 1) < suc (length ps) → name_of (p ∷ ps) (if b then 0 else number_of g ps + 1) ≡ g
+  name-case true g p ps e ih i = e refl
+  name-case false g p ps e ih i =
+      let z = minus-one (number_of g ps) in
+      let j : number_of g ps < length ps = omega (arith, i) in
+      let m : number_of g ps + 1 - 1 ≡ number_of g ps = omega arith in
+      rw z (ap (name_of ps) m ∙ ih j)
 
 -- ---- each event
 
@@ -249,9 +238,9 @@ step shows header p (events.Keys key) i k s n = told-event header p (commands.Ke
 forged-at : (gs : List Peer) (w : List Act) (o : List ℕ) (c : Option node.Gateway) → is_forgery w o c ≡ true → is_ready w ≡ true → MayAll gs w (arrives_at w o c)
 forged-at gs w o None e r = absurd (no e)
 forged-at gs w o (Some c) e r = forged-case gs c w o (is_forged c.name c.address w o) e r where
-    forged-case : (gs : List Peer) (c : node.Gateway) (w : List Act) (o : List ℕ) (b : Bool) → b ≡ true → is_ready w ≡ true → MayAll gs w (if b then acts.Arrived c.name o ∷ [] else node.gw_block c w (node.Arrive o))
-    forged-case gs c w o true e r = (r, tt)
-    forged-case gs c w o false e r = absurd (no e)
+  forged-case : (gs : List Peer) (c : node.Gateway) (w : List Act) (o : List ℕ) (b : Bool) → b ≡ true → is_ready w ≡ true → MayAll gs w (if b then acts.Arrived c.name o ∷ [] else node.gw_block c w (node.Arrive o))
+  forged-case gs c w o true e r = (r, tt)
+  forged-case gs c w o false e r = absurd (no e)
 
 forged-block : (header : Header) (p : Past) (xs : List Act) → Stands header p → MayAll header.gateways (took p.world) xs → MayAll header.gateways p.world (acts.Took (events_taken p.world + 1) ∷ (xs ++ []))
 forged-block header p xs s m = (s.ready, subst (MayAll header.gateways (took p.world)) (sym (append-nil xs)) m)
@@ -276,14 +265,26 @@ pub lawful-history : (shows : Shows) (header : Header) (p : Past) (es : List Eve
     → IsLawful header.gateways (after p.world (history shows header p es))
 lawful-history shows header p [] i k s = s.lawful
 lawful-history shows header p (e ∷ es) i k s = lawful-case (forges header p e) refl (λ t. lawful-history shows header (past_after shows header p e) es i k.1 t) where
-    lawful-case : (b : Bool) → forges header p e ≡ b
-        → (Stands header (past_after shows header p e) → IsLawful header.gateways (after (past_after shows header p e).world (history shows header (past_after shows header p e) es)))
-        → IsLawful header.gateways (after p.world (block shows header p e ++ unless_forged b (history shows header (past_after shows header p e) es)))
-    lawful-case true f ih =
-        let xs : List Act = block shows header p e in
-        let l = lawful-after header.gateways p.world xs s.lawful (forged-step shows header p e s f) in
-        subst (λ z. IsLawful header.gateways (after p.world z)) (sym (append-nil xs)) l
-    lawful-case false f ih =
-        let xs : List Act = block shows header p e in
-        let t = step shows header p e i k.0 s f in
-        subst (IsLawful header.gateways) (sym (after-append p.world xs (history shows header (past_after shows header p e) es))) (ih t.stands)
+  lawful-case : (b : Bool) → forges header p e ≡ b
+      → (Stands header (past_after shows header p e) → IsLawful header.gateways (after (past_after shows header p e).world (history shows header (past_after shows header p e) es)))
+      → IsLawful header.gateways (after p.world (block shows header p e ++ unless_forged b (history shows header (past_after shows header p e) es)))
+  lawful-case true f ih =
+      let xs : List Act = block shows header p e in
+      let l = lawful-after header.gateways p.world xs s.lawful (forged-step shows header p e s f) in
+      subst (λ z. IsLawful header.gateways (after p.world z)) (sym (append-nil xs)) l
+  lawful-case false f ih =
+      let xs : List Act = block shows header p e in
+      let t = step shows header p e i k.0 s f in
+      subst (IsLawful header.gateways) (sym (after-append p.world xs (history shows header (past_after shows header p e) es))) (ih t.stands)
+
+pub stands-at : (shows : Shows) (header : Header) (p : Past) (es : List Event) → IsHeader header → AreEventsOf header es → AreGenuine shows header p es → Stands header p
+    → Stands header (past_at shows header p es)
+stands-at shows header p [] i k g s = s
+stands-at shows header p (e ∷ es) i k g s = stands-at shows header (past_after shows header p e) es i k.1 g.1 (step shows header p e i k.0 s g.0).stands
+
+pub history-at : (shows : Shows) (header : Header) (p : Past) (es : List Event) → AreGenuine shows header p es → after p.world (history shows header p es) ≡ (past_at shows header p es).world
+history-at shows header p [] g = refl
+history-at shows header p (e ∷ es) g =
+    let xs : List Act = block shows header p e in
+    let more : List Act = history shows header (past_after shows header p e) es in
+    ap (λ b. after p.world (xs ++ unless_forged b more)) g.0 ∙ after-append p.world xs more ∙ history-at shows header (past_after shows header p e) es g.1

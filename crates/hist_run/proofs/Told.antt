@@ -1,33 +1,28 @@
 -- The words on orders say of the controller's acts, told in a transcript, what the controller's own words say.
-use Rattle.std.proofs.Common.{◌≡◌, ℕ, ◌+◌, ◌-◌, ◌<◌, ◌≤◌, ◌^◌, Bool, true, false, ◌==◌, not, ◌&&◌, ◌||◌, nat_le, nat_lt, List, [], ◌∷◌, ◌++◌, length, decimal, Option, Some, None, refl, sym, ◌∙◌, ap, subst, inl, inr, ◌⊎◌, arith, if◌then◌else◌}
+use Rattle.std.proofs.Common.{◌≡◌, ℕ, ◌+◌, ◌<◌, ◌≤◌, ◌^◌, Bool, true, false, ◌==◌, not, ◌&&◌, ◌||◌, nat_le, nat_lt, List, [], ◌∷◌, length, decimal, Option, Some, None, refl, sym, ◌∙◌, ap, subst, inl, inr, arith, if◌then◌else◌}
 use Rattle.std.proofs.lemmas.Grind.{common_steps}
 use Rattle.std.specs.Str.{bytes_eq}
 use Rattle.std.specs.Option.{option_map}
 use Rattle.ikeless_tree.specs.declared.association.SadEntry.{SadEntry}
 use Rattle.ikeless_tree.specs.declared.command.Peer.{Peer}
 use Rattle.ikeless_tree.specs.declared.order as tree
-use Rattle.ikeless_tree.specs.declared.order.Order.TheVariants as asks
 use Rattle.ikeless_tree.specs.declared.order.Answer.{Answer}
 use Rattle.ikeless_tree.specs.Half.{is_inbound}
 use Rattle.hist_acts.specs.Sessions as sessions
-use Rattle.hist_controller.specs.Acts.{Way, Association, in_name, out_name, Order, Read, Policy, PutIn, PutOut, RemoveIn, RemoveOut, Act, Opened, Cut, Answered, Heard, Ordered, Accepted, Refused}
-use Rattle.hist_controller.specs.Past.{serials, keys, queue, oldest, left, is, answers_to, heard, spoils, ended, sends, Kind, PuttingIn, PuttingOut, RemovingIn, RemovingOut}
-use Rattle.hist_controller.specs.Law.{aes_part}
-use Rattle.hist_controller.specs.Clauses.{Has, IsPast, MayFollow, MayOrder, MayInPut, MayOutPut, MayInRemove, MayOutRemove}
-use Rattle.hist_controller.specs.Counts.{KeysRight}
-use Rattle.hist_controller.specs.Machine.{place}
-use Rattle.hist_controller.specs.Numbers.{numbered}
+use Rattle.hist_controller.specs.Acts.{Association, in_name, out_name, Order, Read, Policy, PutIn, PutOut, RemoveIn, RemoveOut, Act, Opened, Cut, Answered, Heard, Ordered, Accepted, Refused}
+use Rattle.hist_controller.specs.Past.{serials, queue, oldest, is, answers_to, heard, spoils, ended, sends, PuttingIn, PuttingOut, RemovingIn, RemovingOut}
+use Rattle.hist_controller.specs.Clauses.{IsPast, MayInPut, MayOutPut, MayInRemove, MayOutRemove}
 use Rattle.hist_controller.specs.Orders.{given, Given}
 use Rattle.hist_controller.specs.Table.{AllFit}
-use Rattle.hist_controller.specs.Told.{Named, in_entry, out_entry, name_of, order_told, past_told, told}
+use Rattle.hist_controller.specs.Told.{Named, in_entry, name_of, order_told, past_told}
 use Rattle.hist_controller.proofs.Accepts.{few-keys, few-serials}
-use Rattle.hist_controller.proofs.Homes.{HomeIn, in-home, one-put, out-home}
+use Rattle.hist_controller.proofs.Homes.{in-home, one-put, out-home}
 use Rattle.hist_controller.proofs.Names.{in-names, no-both, out-names}
 use Rattle.hist_controller.proofs.Readings.{answers-number}
 use Rattle.hist_controller.proofs.Serials.{low}
 use Rattle.hist_controller.proofs.Transcript.{order-told}
 use Rattle.hist_world.specs.Orders as world
-use Rattle.hist_world.proofs.Basics.{no, both-left, both-right, eq-nat, name-is, name-not, name-self, or-left, or-true, self}
+use Rattle.hist_world.proofs.Basics.{no, eq-nat, name-not, name-self, or-left, or-true}
 
 -- ---- names of halves
 

@@ -3,3 +3,4 @@ pub mod Block
 pub mod Headers
 pub mod Parts
 pub mod Events
+pub mod Stands
