@@ -1,11 +1,10 @@
 ghost use Rattle.rc_resource.specs.Lists.{IsTree};
 
 use super::*;
-use crate::halves::unused;
 use http_header::HeaderMap;
-use ikeless_tree::{Entries, Order, Rows, Tree, check_sad, check_spd};
+use ikeless_tree::{Order, Rows, Tree, check_spd};
 use ikl_base::{Addr, ListOf, NoMemory, Octets, OrMemory};
-use json_codec::{read_sad_entry, read_spd_entry};
+use json_codec::read_spd_entry;
 use rc_http::HttpMessage;
 use std::alloc::Global;
 use std::process::Abort;
@@ -26,40 +25,10 @@ const P1: &str =
 const P0: &str =
     r#"{"ietf-i2nsf-ikeless:spd-entry":[{"direction":"outbound","ipsec-policy-config":{"processing-info":{"action":"bypass"},"traffic-selector":{"local-prefix":"10.1.0.0/16","remote-prefix":"10.2.0.0/16"}},"name":"p0","reqid":"1"}]}"#;
 
-const IN1: &str =
-    r#"{"ietf-i2nsf-ikeless:sad-entry":[{"ipsec-sa-config":{"esp-sa":{"encryption":{"key":"00:01:02:03:04:05:06:07:08:09:0a:0b:0c:0d:0e:0f:a0:a1:a2:a3"}},"sa-lifetime-soft":{"action":"replace","time":3600},"spi":257,"traffic-selector":{"local-prefix":"2001:db8:2::/48","remote-prefix":"2001:db8:1::/48"},"tunnel":{"local":"198.51.100.1","remote":"192.0.2.1"}},"name":"in/1","reqid":"10"}]}"#;
-
 const NUMBER: &str =
     r#"{"ietf-i2nsf-ikeless:sad-entry":[{"ipsec-sa-config":{"esp-sa":{"encryption":{"key":"00:01:02:03:04:05:06:07:08:09:0a:0b:0c:0d:0e:0f:a0:a1:a2:a3"}},"spi":257,"traffic-selector":{"local-prefix":"2001:db8:2::/48","remote-prefix":"2001:db8:1::/48"},"tunnel":{"local":"198.51.100.1","remote":"192.0.2.1"}},"name":"in/1","reqid":10}]}"#;
 
 const COLOUR: &str = r#"{"ietf-i2nsf-ikeless:sad-entry":[{"colour":1,"name":"in/1"}]}"#;
-
-const NO_POLICY: [Row; 4] = [
-    Row {
-        method: "POST",
-        target: "/restconf/data/ietf-i2nsf-ikeless:ipsec-ikeless/spd?insert=before",
-        body: P1,
-        shown: r#"400 {"ietf-restconf:errors":{"error":[{"error-app-tag":"query","error-tag":"invalid-value","error-type":"protocol"}]}}"#,
-    },
-    Row {
-        method: "POST",
-        target: "/restconf/data/ietf-i2nsf-ikeless:ipsec-ikeless/spd?insert=before&point=%2Fietf-i2nsf-ikeless%3Aipsec-ikeless%2Fspd%2Fspd-entry%3Dzz",
-        body: P1,
-        shown: r#"400 {"ietf-restconf:errors":{"error":[{"error-app-tag":"point","error-tag":"invalid-value","error-type":"application"}]}}"#,
-    },
-    Row {
-        method: "PUT",
-        target: "/restconf/data/ietf-i2nsf-ikeless:ipsec-ikeless/spd/spd-entry=p1",
-        body: P1,
-        shown: "201 /restconf/data/ietf-i2nsf-ikeless:ipsec-ikeless/spd/spd-entry=p1 p1",
-    },
-    Row {
-        method: "PATCH",
-        target: "/restconf/data/ietf-i2nsf-ikeless:ipsec-ikeless/spd",
-        body: "",
-        shown: r#"405 GET, PUT, POST{"ietf-restconf:errors":{"error":[{"error-app-tag":"method","error-tag":"operation-not-supported","error-type":"protocol"}]}}"#,
-    },
-];
 
 const ONE_POLICY: [Row; 4] = [
     Row {
@@ -88,42 +57,54 @@ const ONE_POLICY: [Row; 4] = [
     },
 ];
 
-const ONE_HALF: [Row; 6] = [
+const REFUSED: [Row; 8] = [
     Row {
         method: "POST",
-        target: "/restconf/data/ietf-i2nsf-ikeless:ipsec-ikeless/sad",
-        body: IN1,
-        shown: r#"409 {"ietf-restconf:errors":{"error":[{"error-app-tag":"exists","error-tag":"resource-denied","error-type":"application"}]}} in/1"#,
+        target: "/restconf/data/ietf-i2nsf-ikeless:ipsec-ikeless/spd",
+        body: P1,
+        shown: r#"409 {"ietf-restconf:errors":{"error":[{"error-app-tag":"exists","error-tag":"resource-denied","error-type":"application"}]}} p1"#,
+    },
+    Row {
+        method: "POST",
+        target: "/restconf/data/ietf-i2nsf-ikeless:ipsec-ikeless/spd?insert=before",
+        body: P1,
+        shown: r#"400 {"ietf-restconf:errors":{"error":[{"error-app-tag":"query","error-tag":"invalid-value","error-type":"protocol"}]}} p1"#,
+    },
+    Row {
+        method: "POST",
+        target: "/restconf/data/ietf-i2nsf-ikeless:ipsec-ikeless/spd?insert=before&point=%2Fietf-i2nsf-ikeless%3Aipsec-ikeless%2Fspd%2Fspd-entry%3Dzz",
+        body: P0,
+        shown: r#"400 {"ietf-restconf:errors":{"error":[{"error-app-tag":"point","error-tag":"invalid-value","error-type":"application"}]}} p1"#,
+    },
+    Row {
+        method: "PATCH",
+        target: "/restconf/data/ietf-i2nsf-ikeless:ipsec-ikeless/spd",
+        body: "",
+        shown: r#"405 GET, PUT, POST{"ietf-restconf:errors":{"error":[{"error-app-tag":"method","error-tag":"operation-not-supported","error-type":"protocol"}]}} p1"#,
     },
     Row {
         method: "DELETE",
         target: "/restconf/data/ietf-i2nsf-ikeless:ipsec-ikeless/sad/sad-entry=in%2F7",
         body: "",
-        shown: r#"404 {"ietf-restconf:errors":{"error":[{"error-app-tag":"absent","error-tag":"invalid-value","error-type":"application"}]}} in/1"#,
+        shown: r#"404 {"ietf-restconf:errors":{"error":[{"error-app-tag":"absent","error-tag":"invalid-value","error-type":"application"}]}} p1"#,
     },
     Row {
         method: "POST",
         target: "/restconf/data/ietf-i2nsf-ikeless:ipsec-ikeless/sad",
         body: NUMBER,
-        shown: r#"400 {"ietf-restconf:errors":{"error":[{"error-app-tag":"form","error-message":"at /ietf-i2nsf-ikeless:sad-entry/0/reqid","error-tag":"invalid-value","error-type":"application"}]}} in/1"#,
+        shown: r#"400 {"ietf-restconf:errors":{"error":[{"error-app-tag":"form","error-message":"at /ietf-i2nsf-ikeless:sad-entry/0/reqid","error-tag":"invalid-value","error-type":"application"}]}} p1"#,
     },
     Row {
         method: "POST",
         target: "/restconf/data/ietf-i2nsf-ikeless:ipsec-ikeless/sad",
         body: COLOUR,
-        shown: r#"400 {"ietf-restconf:errors":{"error":[{"error-app-tag":"unknown","error-message":"at /ietf-i2nsf-ikeless:sad-entry/0","error-tag":"unknown-element","error-type":"application"}]}} in/1"#,
-    },
-    Row {
-        method: "DELETE",
-        target: "/restconf/data/ietf-i2nsf-ikeless:ipsec-ikeless/sad/sad-entry=in%2F1",
-        body: "",
-        shown: "204 ",
+        shown: r#"400 {"ietf-restconf:errors":{"error":[{"error-app-tag":"unknown","error-message":"at /ietf-i2nsf-ikeless:sad-entry/0","error-tag":"unknown-element","error-type":"application"}]}} p1"#,
     },
     Row {
         method: "GET",
         target: "/restconf/data/ietf-i2nsf-ikeless:ipsec-ikeless/sad/sad-entry=in/1",
         body: "",
-        shown: r#"404 {"ietf-restconf:errors":{"error":[{"error-app-tag":"path","error-tag":"invalid-value","error-type":"protocol"}]}} in/1"#,
+        shown: r#"404 {"ietf-restconf:errors":{"error":[{"error-app-tag":"path","error-tag":"invalid-value","error-type":"protocol"}]}} p1"#,
     },
 ];
 
@@ -194,14 +175,6 @@ fn over(alloc: Global, tree: Tree, row: &Row) -> Result<Vec<u8>, NoMemory>
     shown(alloc, &reply, &tree)
 }
 
-fn over_none(alloc: Global, row: &Row) -> Result<Vec<u8>, NoMemory> {
-    let tree = Tree {
-        spd: Entries::new(alloc),
-        sad: Rows::new(alloc),
-    };
-    over(alloc, tree, row)
-}
-
 fn over_policy(alloc: Global, row: &Row) -> Result<Vec<u8>, NoMemory> {
     let Ok(e) = read_spd_entry(alloc, P1.as_bytes()) else {
         return Err(NoMemory);
@@ -221,36 +194,6 @@ fn over_policy(alloc: Global, row: &Row) -> Result<Vec<u8>, NoMemory> {
     }
 }
 
-fn over_half(alloc: Global, row: &Row) -> Result<Vec<u8>, NoMemory> {
-    let Ok(e) = read_sad_entry(alloc, IN1.as_bytes()) else {
-        return Err(NoMemory);
-    };
-    match check_sad(&e) {
-        Ok(()) => {
-            let mut sad = ListOf::new(alloc);
-            sad.push(unused(e))?;
-            over(
-                alloc,
-                Tree {
-                    spd: Entries::new(alloc),
-                    sad,
-                },
-                row,
-            )
-        }
-        Err(_) => Err(NoMemory),
-    }
-}
-
-#[test]
-fn requests_over_no_policy(rt: HostRuntime) -> Result<(), Fail> {
-    for row in &NO_POLICY {
-        let text = over_none(rt.alloc(), row)?;
-        assert_eq!(rt; text.as_slice(), row.shown.as_bytes());
-    }
-    Ok(())
-}
-
 #[test]
 fn requests_over_a_policy(rt: HostRuntime) -> Result<(), Fail> {
     for row in &ONE_POLICY {
@@ -261,9 +204,9 @@ fn requests_over_a_policy(rt: HostRuntime) -> Result<(), Fail> {
 }
 
 #[test]
-fn requests_over_an_association(rt: HostRuntime) -> Result<(), Fail> {
-    for row in &ONE_HALF {
-        let text = over_half(rt.alloc(), row)?;
+fn refused_requests_change_nothing(rt: HostRuntime) -> Result<(), Fail> {
+    for row in &REFUSED {
+        let text = over_policy(rt.alloc(), row)?;
         assert_eq!(rt; text.as_slice(), row.shown.as_bytes());
     }
     Ok(())
