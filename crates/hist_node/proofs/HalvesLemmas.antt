@@ -65,7 +65,7 @@ apart-kept : (x : List ℕ) (e : SadEntry) (es : List SadEntry) (b : Bool) → b
 apart-kept x e es true own new ih = rw own ih
 apart-kept x e es false own new ih = rw (own, none-without e.name x es new) ih
 
-apart-without : (x : List ℕ) (es : List SadEntry) → are_apart es ≡ true → are_apart (without x es) ≡ true
+pub apart-without : (x : List ℕ) (es : List SadEntry) → are_apart es ≡ true → are_apart (without x es) ≡ true
 apart-without x [] p = refl
 apart-without x (e ∷ es) p = let q = and-both (not (has_half e.name es)) (are_apart es) p in apart-kept x e es (bytes_eq e.name x) refl (not-true (has_half e.name es) q.0) (apart-without x es q.1)
 
@@ -115,7 +115,7 @@ put-more g f x h (e ∷ es) at new p =
     let away : is_half f x.name g e.name ≡ false = and-false (bytes_eq f g) (bytes_eq x.name e.name) (s ∙ q.0) in
     (rw away p.0, put-more g f x h es at q.1 p.1)
 
-apart-more : (x : SadEntry) (es : List SadEntry) → has_half x.name es ≡ false → are_apart es ≡ true → are_apart (es ++ x ∷ []) ≡ true
+pub apart-more : (x : SadEntry) (es : List SadEntry) → has_half x.name es ≡ false → are_apart es ≡ true → are_apart (es ++ x ∷ []) ≡ true
 apart-more x [] new p = refl
 apart-more x (e ∷ es) new p =
     let q = or-parts (bytes_eq e.name x.name) (has_half x.name es) new in

@@ -8,3 +8,4 @@ pub mod Parts
 pub mod Controls
 pub mod Owns
 pub mod Runs
+pub mod Fresh
