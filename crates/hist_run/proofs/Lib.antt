@@ -9,3 +9,5 @@ pub mod Controls
 pub mod Owns
 pub mod Runs
 pub mod Fresh
+pub mod Owners
+pub mod Room

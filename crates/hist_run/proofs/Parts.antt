@@ -41,7 +41,7 @@ answered-part g s [] = refl
 answered-part g s (acts.Answered f t k a ∷ h) = if-add (is_session f t g s) _ _ (answered-part g s h)
 answered-part g s (a ∷ h) = answered-part g s h
 
-order-at-part : (g : List ℕ) (s k : ℕ) (h : List Act) → order_at g s k h ≡ order_at g s k (controllers_part h)
+pub order-at-part : (g : List ℕ) (s k : ℕ) (h : List Act) → order_at g s k h ≡ order_at g s k (controllers_part h)
 order-at-part g s k [] = refl
 order-at-part g s k (acts.Order f t j o ∷ h) = if-both (is_session f t g s && (j == k)) (Some o) _ _ (order-at-part g s k h)
 order-at-part g s k (a ∷ h) = order-at-part g s k h
@@ -51,12 +51,12 @@ ordered-part x [] = refl
 ordered-part x (acts.Order f t j (asks.Put e) ∷ h) = ap (λ b. bytes_eq e.name x || b) (ordered-part x h)
 ordered-part x (a ∷ h) = ordered-part x h
 
-order-of-part : (x : List ℕ) (h : List Act) → order_of x h ≡ order_of x (controllers_part h)
+pub order-of-part : (x : List ℕ) (h : List Act) → order_of x h ≡ order_of x (controllers_part h)
 order-of-part x [] = refl
 order-of-part x (acts.Order f t j (asks.Put e) ∷ h) = if-both (bytes_eq e.name x) (Some e) _ _ (order-of-part x h)
 order-of-part x (a ∷ h) = order-of-part x h
 
-site-part : (x : List ℕ) (h : List Act) → site x h ≡ site x (controllers_part h)
+pub site-part : (x : List ℕ) (h : List Act) → site x h ≡ site x (controllers_part h)
 site-part x [] = refl
 site-part x (acts.Order f t j (asks.Put e) ∷ h) = if-both (bytes_eq e.name x) f _ _ (site-part x h)
 site-part x (a ∷ h) = site-part x h
@@ -83,7 +83,7 @@ made-part x (acts.Answered f s k a ∷ h) =
     ∙ ap (λ b. (is_put x (order_at f s k (controllers_part h)) && nat_lt a.status 400) || b) (made-part x h)
 made-part x (a ∷ h) = made-part x h
 
-left-part : (x : List ℕ) (h : List Act) → is_left x h ≡ is_left x (controllers_part h)
+pub left-part : (x : List ℕ) (h : List Act) → is_left x h ≡ is_left x (controllers_part h)
 left-part x [] = refl
 left-part x (acts.Answered f s k a ∷ h) =
     ap (λ (o : Option Order). is_removal x o || is_left x h) (order-at-part f s k h)

@@ -32,7 +32,7 @@ small n e = omega (arith, e)
 few : (p : ℕ) (h : List Act) → IsPast p h → serials h ≤ 1048576
 few p h l = let a = few-serials p h l in let b = few-keys p h l in omega (arith, a, b)
 
-same-in : (b : Bool) (m n : ℕ) → (n == m) ≡ b → m < 2 ^ 64 → n < 2 ^ 64 → bytes_eq (in_name m) (in_name n) ≡ b
+pub same-in : (b : Bool) (m n : ℕ) → (n == m) ≡ b → m < 2 ^ 64 → n < 2 ^ 64 → bytes_eq (in_name m) (in_name n) ≡ b
 same-in true m n e i j = let q : n ≡ m = grind (arith, e) in subst (λ (z : ℕ). bytes_eq (in_name m) (in_name z) ≡ true) (sym q) (name-self (in_name m))
 same-in false m n e i j = name-not (in_name m) (in_name n) (λ q. let r = in-names m n i j q in grind (arith, e, r))
 
@@ -235,7 +235,7 @@ out-site ps p g x (Ordered f s k (RemoveOut m) ∷ h) i l (inr e) = out-site ps 
 pub inbound-given : (ps : List Peer) (p : ℕ) (x : Association) (h : List Act) → IsPast p h → Given (PutIn x) x.way.receiver h → x.serial < 2 ^ 64
 inbound-given ps p x h l e = let a = (in-home p h l x.way.receiver x e).low in let b = few p h l in omega (arith, a, b)
 
-told-at : (ps : List Peer) (p g s n : ℕ) (a : Answer) (h : List Act) → IsPast p (Answered g s n a ∷ h) → Named ps → AllFit (length ps) h → g < length ps
+pub told-at : (ps : List Peer) (p g s n : ℕ) (a : Answer) (h : List Act) → IsPast p (Answered g s n a ∷ h) → Named ps → AllFit (length ps) h → g < length ps
     → sessions.order_at (name_of ps g) s n (past_told ps h) ≡ option_map (order_told ps) (oldest (queue g h))
 told-at ps p g s n a h l names f i = order-told ps h names f g s n i ∙ ap (option_map (order_told ps)) (answers-number p g s n a h l)
 
