@@ -88,7 +88,7 @@ rows-have : (g x : List ℕ) (h : List Act) (es : List SadEntry) → list_any (i
 rows-have g x h [] = refl
 rows-have g x h (e ∷ es) = ap (λ b. bytes_eq e.name x || b) (rows-have g x h es)
 
-row-is-live : (g x : List ℕ) (h : List Act) → list_any (is_row x) (tree_of g h).sad ≡ is_live g x h
+pub row-is-live : (g x : List ℕ) (h : List Act) → list_any (is_row x) (tree_of g h).sad ≡ is_live g x h
 row-is-live g x h = rows-have g x h (live g h) ∙ live-is g x h
 
 -- what may happen after the number of an event, and leaves no question

@@ -11,3 +11,5 @@ pub mod Runs
 pub mod Fresh
 pub mod Owners
 pub mod Room
+pub mod Made
+pub mod Unrefused

@@ -254,7 +254,7 @@ forged-step shows header p e s f = absurd (no f)
 
 -- ---- all events
 
-after-append : (h xs ys : List Act) → after h (xs ++ ys) ≡ after (after h xs) ys
+pub after-append : (h xs ys : List Act) → after h (xs ++ ys) ≡ after (after h xs) ys
 after-append h [] ys = refl
 after-append h (x ∷ xs) ys = after-append (x ∷ h) xs ys
 

@@ -4,3 +4,4 @@ pub mod Headers
 pub mod Parts
 pub mod Events
 pub mod Stands
+pub mod Puts

@@ -1,13 +1,18 @@
 // Laws for the crates above: each is the contract of a function with an empty body.
-ghost use Rattle.std.specs.Prelude.{◌≡◌, false, List, []};
+ghost use Rattle.std.specs.Prelude.{◌≡◌, ◌≤◌, ℕ, false, List, [], length};
 ghost use Rattle.hist_acts.specs.declared.event.Event.{Event};
 ghost use Rattle.hist_acts.specs.declared.event.Header.{Header};
 ghost use Rattle.hist_acts.specs.Past.{after};
+ghost use Rattle.hist_halves.specs.Halves.{live};
+ghost use Rattle.hist_controller.specs.Acts.{Way};
+ghost use Rattle.hist_controller.specs.Halves.{PlainAnswers};
+ghost use Rattle.hist_controller.specs.Past.{left};
 ghost use Rattle.hist_world.specs.Law.{IsLawful};
 ghost use Rattle.hist_world.specs.Safe.{Safe};
 ghost use Rattle.hist_run.specs.Block.{Past, Shows, forges, history, nothing, past_after};
 ghost use Rattle.hist_run.specs.Events.{AreEventsOf, IsEventOf};
 ghost use Rattle.hist_run.specs.Headers.{IsHeader};
+ghost use Rattle.hist_run.specs.Puts.{NoneRefused};
 ghost use Rattle.hist_run.specs.Stands.{AreGenuine, Stands, past_at};
 
 /// Whatever events come to gateways and their controller, each act may happen after those before it, up to the first forged
@@ -35,4 +40,22 @@ pub fn stands_between_events()
         → AreGenuine shows header nothing events → Stands header (past_at shows header nothing events) }
     ensures past { (shows : Shows) (header : Header) (events : List Event) → AreGenuine shows header nothing events
         → after [] (history shows header nothing events) ≡ (past_at shows header nothing events).world }
+{}
+
+/// Whatever events come, each put that a gateway handles is answered with 201, and so is each put whose answer the controller
+/// hears: the half has a new name, an inbound one a new SPI, and there is room for it.
+pub fn no_put_is_refused()
+    ensures { (shows : Shows) (header : Header) (events : List Event) → IsHeader header → AreEventsOf header events
+        → NoneRefused (after [] (history shows header nothing events)) }
+{}
+
+/// Between the events of a history without a forged arrival no put was answered otherwise than with 201 or a refusal, each
+/// direction has two associations left at most, and at most 4,096 halves are live at a gateway.
+pub fn few_halves_are_live()
+    ensures plain { (shows : Shows) (header : Header) (events : List Event) → IsHeader header → AreEventsOf header events
+        → AreGenuine shows header nothing events → PlainAnswers (past_at shows header nothing events).controller }
+    ensures left { (shows : Shows) (header : Header) (events : List Event) → IsHeader header → AreEventsOf header events
+        → AreGenuine shows header nothing events → (d : Way) → length (left d (past_at shows header nothing events).controller) ≤ 2 }
+    ensures live { (shows : Shows) (header : Header) (events : List Event) → IsHeader header → AreEventsOf header events
+        → AreGenuine shows header nothing events → (g : List ℕ) → length (live g (past_at shows header nothing events).world) ≤ 4096 }
 {}

@@ -4,4 +4,7 @@
 
 mod laws;
 
-pub use laws::{is_every_history_lawful, is_every_history_safe, stands_between_events};
+pub use laws::{
+    few_halves_are_live, is_every_history_lawful, is_every_history_safe, no_put_is_refused,
+    stands_between_events,
+};
