@@ -29,11 +29,11 @@ use Rattle.hist_run.proofs.Parts.{answered-part, open-part, openings-part, order
 
 -- ---- after its first act a block has orders alone
 
-abbrev is_order : Act → Bool
+abbrev pub is_order : Act → Bool
 is_order (Ordered g s n o) = true
 is_order _ = false
 
-abbrev are_orders : List Act → Bool
+abbrev pub are_orders : List Act → Bool
 are_orders xs = list_all is_order xs
 
 joined : (xs ys : List Act) → are_orders xs ≡ true → are_orders ys ≡ true → are_orders (xs ++ ys) ≡ true
@@ -81,7 +81,7 @@ asked-orders h (Ordered g s n o) = refl
 asked-orders h (Accepted c) = command-orders h c
 asked-orders h (Refused w) = refl
 
-then-orders : (h : List Act) (a : Act) → are_orders (asked_then (a ∷ h) (asked (a ∷ h) a)) ≡ true
+pub then-orders : (h : List Act) (a : Act) → are_orders (asked_then (a ∷ h) (asked (a ∷ h) a)) ≡ true
 then-orders h a = joined (asked (a ∷ h) a) _ (asked-orders (a ∷ h) a) (pass-orders (after (a ∷ h) (asked (a ∷ h) a)) (directions (after (a ∷ h) (asked (a ∷ h) a))))
 
 -- ---- what the controller and the world know alike

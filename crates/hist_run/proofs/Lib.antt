@@ -13,3 +13,6 @@ pub mod Owners
 pub mod Room
 pub mod Made
 pub mod Unrefused
+pub mod ListPlaces
+pub mod InForce
+pub mod Commanded

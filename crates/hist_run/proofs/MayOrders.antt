@@ -22,10 +22,10 @@ use Rattle.hist_run.proofs.Told.{in-doomed, in-half, in-order, in-ordered, inbou
 
 -- ---- keys
 
-place-more : (i : ℕ) (ks more : List (List ℕ)) (k : List ℕ) → place i ks ≡ Some k → place i (ks ++ more) ≡ Some k
+pub place-more : {A : Type 0} (i : ℕ) (ks more : List A) (k : A) → place i ks ≡ Some k → place i (ks ++ more) ≡ Some k
 place-more i [] more k e = cc
-place-more i (x ∷ ks) more k e = place-cons (i == 0) i x ks more k (place-more (i - 1) ks more k) e where
-  place-cons : (b : Bool) (i : ℕ) (x : List ℕ) (ks more : List (List ℕ)) (k : List ℕ) → (place (i - 1) ks ≡ Some k → place (i - 1) (ks ++ more) ≡ Some k)
+place-more {A = A} i (x ∷ ks) more k e = place-cons (i == 0) i x ks more k (place-more (i - 1) ks more k) e where
+  place-cons : (b : Bool) (i : ℕ) (x : A) (ks more : List A) (k : A) → (place (i - 1) ks ≡ Some k → place (i - 1) (ks ++ more) ≡ Some k)
       → (if b then Some x else place (i - 1) ks) ≡ Some k → (if b then Some x else place (i - 1) (ks ++ more)) ≡ Some k
   place-cons true i x ks more k ih e = e
   place-cons false i x ks more k ih e = ih e

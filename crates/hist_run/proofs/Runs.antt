@@ -172,7 +172,7 @@ nothing-done header p s = of-gateways header p [] s (none-fits header.gateways (
 minus-one : (n : ℕ) → (n + 1 == 0) ≡ false
 minus-one n = grind arith
 
-name-number : (g : List ℕ) (ps : List Peer) → number_of g ps < length ps → name_of ps (number_of g ps) ≡ g
+pub name-number : (g : List ℕ) (ps : List Peer) → number_of g ps < length ps → name_of ps (number_of g ps) ≡ g
 name-number g [] i = absurd (omega (arith, i))
 name-number g (p ∷ ps) i = name-case (bytes_eq p.name g) g p ps (name-is p.name g) (name-number g ps) i where
   name-case : (b : Bool) (g : List ℕ) (p : Peer) (ps : List Peer) → (b ≡ true → p.name ≡ g) → (number_of g ps < length ps → name_of ps (number_of g ps) ≡ g)

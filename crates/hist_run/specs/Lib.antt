@@ -5,3 +5,4 @@ pub mod Parts
 pub mod Events
 pub mod Stands
 pub mod Puts
+pub mod Lists

@@ -1,17 +1,20 @@
 // Laws for the crates above: each is the contract of a function with an empty body.
-ghost use Rattle.std.specs.Prelude.{◌≡◌, ◌≤◌, ℕ, false, List, [], length};
+ghost use Rattle.std.specs.Prelude.{◌≡◌, ◌<◌, ◌≤◌, ℕ, false, List, [], length};
 ghost use Rattle.hist_acts.specs.declared.event.Event.{Event};
 ghost use Rattle.hist_acts.specs.declared.event.Header.{Header};
 ghost use Rattle.hist_acts.specs.Past.{after};
 ghost use Rattle.hist_halves.specs.Halves.{live};
 ghost use Rattle.hist_controller.specs.Acts.{Way};
+ghost use Rattle.hist_controller.specs.Counts.{lists};
 ghost use Rattle.hist_controller.specs.Halves.{PlainAnswers};
 ghost use Rattle.hist_controller.specs.Past.{left};
+ghost use Rattle.hist_controller.specs.Told.{name_of};
 ghost use Rattle.hist_world.specs.Law.{IsLawful};
 ghost use Rattle.hist_world.specs.Safe.{Safe};
 ghost use Rattle.hist_run.specs.Block.{Past, Shows, forges, history, nothing, past_after};
-ghost use Rattle.hist_run.specs.Events.{AreEventsOf, IsEventOf};
+ghost use Rattle.hist_run.specs.Events.{AreEventsOf, IsEventOf, IsKnown};
 ghost use Rattle.hist_run.specs.Headers.{IsHeader};
+ghost use Rattle.hist_run.specs.Lists.{NeverBack, commanded, put_in_force};
 ghost use Rattle.hist_run.specs.Puts.{NoneRefused};
 ghost use Rattle.hist_run.specs.Stands.{AreGenuine, Stands, past_at};
 
@@ -58,4 +61,16 @@ pub fn few_halves_are_live()
         → AreGenuine shows header nothing events → (d : Way) → length (left d (past_at shows header nothing events).controller) ≤ 2 }
     ensures live { (shows : Shows) (header : Header) (events : List Event) → IsHeader header → AreEventsOf header events
         → AreGenuine shows header nothing events → (g : List ℕ) → length (live g (past_at shows header nothing events).world) ≤ 4096 }
+{}
+
+/// The lists of policies put in force at a gateway are lists commanded for it, in the order of the commands: some may be left
+/// out and some come again, but none goes back. So it is between events, where those accepted for a gateway are those commanded,
+/// and at the end of every history, with a forged arrival or without.
+pub fn lists_never_go_back()
+    ensures between { (header : Header) (p : Past) → IsHeader header → Stands header p → (g : ℕ) → g < length header.gateways
+        → NeverBack (lists g p.controller) (put_in_force (name_of header.gateways g) p.world) }
+    ensures accepted { (shows : Shows) (header : Header) (events : List Event) → IsHeader header → (g : ℕ) → g < length header.gateways
+        → lists g (past_at shows header nothing events).controller ≡ commanded (name_of header.gateways g) events }
+    ensures history { (shows : Shows) (header : Header) (events : List Event) → IsHeader header → AreEventsOf header events → (g : List ℕ) → IsKnown header g
+        → NeverBack (commanded g events) (put_in_force g (after [] (history shows header nothing events))) }
 {}

@@ -5,6 +5,6 @@
 mod laws;
 
 pub use laws::{
-    few_halves_are_live, is_every_history_lawful, is_every_history_safe, no_put_is_refused,
-    stands_between_events,
+    few_halves_are_live, is_every_history_lawful, is_every_history_safe, lists_never_go_back,
+    no_put_is_refused, stands_between_events,
 };
