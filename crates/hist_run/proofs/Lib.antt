@@ -16,3 +16,8 @@ pub mod Unrefused
 pub mod ListPlaces
 pub mod InForce
 pub mod Commanded
+pub mod Goes
+pub mod Shown
+pub mod ShownAcquire
+mod ShownLists
+mod ShownWire
