@@ -21,3 +21,8 @@ pub mod Shown
 pub mod ShownAcquire
 mod ShownLists
 mod ShownWire
+pub mod ShownSetup
+pub mod ShownDatagrams
+pub mod ShownPacket
+mod ShownChanged
+mod ShownForged
