@@ -26,3 +26,6 @@ pub mod ShownDatagrams
 pub mod ShownPacket
 mod ShownChanged
 mod ShownForged
+mod ShownRekey
+mod ShownKeys
+mod ShownLimit
