@@ -29,3 +29,6 @@ mod ShownForged
 mod ShownRekey
 mod ShownKeys
 mod ShownLimit
+mod ShownCut
+mod ShownRestart
+mod ShownAbandoned
