@@ -32,3 +32,5 @@ mod ShownLimit
 mod ShownCut
 mod ShownRestart
 mod ShownAbandoned
+mod ShownClock
+mod ShownCommands
