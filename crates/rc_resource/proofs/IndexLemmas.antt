@@ -1,10 +1,9 @@
 -- Where a new policy is put.
-use Rattle.std.proofs.Common.{◌≡◌, ℕ, ◌+◌, ◌<◌, ◌≤◌, List, Bool, true, false, length, Option, Some, None, refl, sym, ap, ◌∙◌, arith, subst}
-use Rattle.std.specs.List.{list_any, insert, position_or_len}
+use Rattle.std.proofs.Common.{ℕ, ◌+◌, ◌<◌, List, length, Option, Some, None, sym, ap, ◌∙◌, arith}
+use Rattle.std.specs.List.{insert}
 use Rattle.ikeless_tree.specs.declared.entry.SpdEntry.{SpdEntry}
 use Rattle.ikeless_tree.specs.Check.{is_named}
 use Rattle.reply_table.specs.declared.ask.Place.TheVariants as places
-use Rattle.reply_table.specs.Reply.{has_point, put_at, put_after}
 use Rattle.rc_resource.specs.Lists.{IsFirst, IsIndexFor}
 use Rattle.rc_resource.proofs.NameLemmas.{before_is, after_is}
 

@@ -1,7 +1,6 @@
 -- Names in databases without a fault stand once.
-use Rattle.std.proofs.Common.{◌≡◌, ℕ, ◌+◌, ◌<◌, not, ◌||◌, List, [], ◌∷◌, ◌++◌, Bool, true, false, length, Option, Some, None, refl, ap, sym, ◌∙◌, arith, nat_lt, cond, subst}
+use Rattle.std.proofs.Common.{◌≡◌, ℕ, ◌+◌, List, [], ◌∷◌, ◌++◌, Bool, true, false, Option, Some, None, refl, ap, sym, ◌∙◌, arith, subst}
 use Rattle.std.specs.List.{list_any, insert, position_or_len, find}
-use Rattle.std.specs.Str.{bytes_eq}
 use Rattle.ikeless_tree.specs.declared.entry.SpdEntry.{SpdEntry}
 use Rattle.ikeless_tree.specs.declared.association.SadRow.{SadRow}
 use Rattle.ikeless_tree.specs.declared.reply.TreeFault.{TreeFault}
@@ -40,19 +39,19 @@ entry_new : (before : List SpdEntry) (e : SpdEntry) → entry_fault before e ≡
 unfolding entry_fault
 entry_new before e h = (no_fault _ _ _ h).0
 
-entry_alone : (before : List SpdEntry) (e : SpdEntry) → entry_fault before e ≡ None → entry_fault [] e ≡ None
+pub entry_alone : (before : List SpdEntry) (e : SpdEntry) → entry_fault before e ≡ None → entry_fault [] e ≡ None
 unfolding entry_fault
 entry_alone before e h = (no_fault _ _ _ h).1
 
-both_none : (a b : Option TreeFault) → first_of a b ≡ None → (a ≡ None) × (b ≡ None)
+pub both_none : (a b : Option TreeFault) → first_of a b ≡ None → (a ≡ None) × (b ≡ None)
 both_none None b h = (refl, h)
 both_none (Some x) b h = absurd (let e : ⊥ = cc in e)
 
-entries_of : (list : List SpdEntry) → spd_fault list ≡ None → entries_fault [] list ≡ None
+pub entries_of : (list : List SpdEntry) → spd_fault list ≡ None → entries_fault [] list ≡ None
 unfolding spd_fault
 entries_of list h = (no_fault _ _ _ h).1
 
-at_end : {X : Type 0} (p : X → Bool) (xs : List X) (x : X) → p x ≡ true → list_any p (xs ++ x ∷ []) ≡ true
+pub at_end : {X : Type 0} (p : X → Bool) (xs : List X) (x : X) → p x ≡ true → list_any p (xs ++ x ∷ []) ≡ true
 at_end p [] x h = rw h refl
 at_end p (y ∷ ys) x h = let ih = at_end p ys x h in grind (arith, ih)
 
@@ -65,7 +64,7 @@ sooner p (y ∷ ys) x h = by_test (p y) refl h (sooner p ys x)
     by_test false t g ih = let rest : list_any p ys ≡ true = cc in rw t (ih rest)
 
 -- a name that stood before doesn't stand in what comes after
-no_more : (name : List ℕ) (before es : List SpdEntry) → list_any (is_named name) before ≡ true → entries_fault before es ≡ None → list_any (is_named name) es ≡ false
+pub no_more : (name : List ℕ) (before es : List SpdEntry) → list_any (is_named name) before ≡ true → entries_fault before es ≡ None → list_any (is_named name) es ≡ false
 no_more name before [] there h = refl
 no_more name before (e ∷ es) there h =
     let parts = both_none (entry_fault before e) (entries_fault (before ++ e ∷ []) es) h in

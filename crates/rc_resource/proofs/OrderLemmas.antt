@@ -1,5 +1,5 @@
 -- What is read of the request of an order.
-use Rattle.std.proofs.Common.{◌≡◌, ℕ, ◌+◌, ◌<◌, suc, ◌==◌, ◌||◌, List, [], ◌∷◌, ◌++◌, Bool, true, false, not, cond, length, take, Option, Some, None, Ok, codes, refl, ap, sym, ◌∙◌, arith, nat_lt, All}
+use Rattle.std.proofs.Common.{◌≡◌, ℕ, ◌+◌, ◌<◌, suc, ◌==◌, List, [], ◌∷◌, ◌++◌, Bool, true, false, length, take, Some, None, Ok, codes, refl, ap, sym, ◌∙◌, arith, nat_lt, All}
 use Rattle.std.specs.List.{list_any, list_all, position_or_len, before_first, flat_map}
 use Rattle.std.specs.Option.{option_map}
 use Rattle.std.proofs.lemmas.Bool.{agree_below, agree_below_at}
@@ -7,7 +7,6 @@ use Rattle.std.proofs.lemmas.Bool.Decides.{nat_tests}
 use Rattle.std.proofs.lemmas.Bool.{and_parts}
 use Rattle.std.proofs.lemmas.List.Folds.{list_any-append}
 use Rattle.std.proofs.lemmas.List.Elements.{All-cons, All-nil, All-head, All-tail}
-use Rattle.percent_encoding.specs.Percent.{percent_decode}
 use Rattle.percent_encoding.proofs.PercentLemmas.{IsByte}
 use Rattle.ikl_base.specs.declared.address.Addr.{Addr}
 use Rattle.ikeless_tree.specs.Check.{is_sad_name, is_path_octet}
@@ -17,10 +16,10 @@ use Rattle.json_codec.proofs.Passed.{half_octets}
 use Rattle.reply_table.specs.Order.{ask_of}
 use Rattle.rc_resource.specs.declared.resource.Resource.TheVariants as resources
 use Rattle.rc_resource.specs.Paths.{escape_octet, escaped, key_of, half_path, resource_of}
-use Rattle.rc_resource.specs.Queries.{before_mark, behind_mark}
+use Rattle.rc_resource.specs.Queries.{behind_mark}
 use Rattle.rc_resource.specs.Operations.{method_of}
 use Rattle.rc_resource.specs.Messages.{order_message, IsOrder}
-use Rattle.rc_resource.specs.Requests.{by_resource, request_of}
+use Rattle.rc_resource.specs.Requests.{request_of}
 use Rattle.rc_resource.specs.Laws.{IsReadAgain}
 use Rattle.rc_resource.proofs.KeyLemmas.{back_again}
 use Rattle.rc_resource.proofs.PlaceLemmas.{any_at}

@@ -1,5 +1,5 @@
 -- Lists at the first element that passes a test.
-use Rattle.std.proofs.Common.{◌≡◌, ℕ, ◌+◌, ◌<◌, ◌≤◌, suc, not, List, [], ◌∷◌, ◌++◌, Bool, true, false, length, take, drop, map, Option, Some, None, refl, ap, sym, ◌∙◌, arith, nat_lt, cond, ltb-true, ltb-false, get_or, slice_set}
+use Rattle.std.proofs.Common.{◌≡◌, ℕ, ◌+◌, suc, not, List, [], ◌∷◌, Bool, true, false, length, map, Some, None, refl, ap, sym, ◌∙◌, arith, nat_lt, cond, ltb-true, slice_set}
 use Rattle.std.specs.List.{list_any, filter, insert, remove, position_or_len, find}
 use Rattle.std.proofs.Common.{slice_get}
 use Rattle.std.proofs.lemmas.List.Folds.{find_at}

@@ -1,18 +1,24 @@
 -- Databases that a gateway can have, and places in them.
 use Rattle.std.specs.Prelude.{◌≡◌, ℕ, ◌≤◌, ◌<◌, not, Bool, true, false, List, [], ◌∷◌, length, Option, Some, None, if◌then◌else◌}
 use Rattle.std.specs.List.{list_any, insert, position_or_len}
+use Rattle.std.specs.Str.{bytes_eq}
 use Rattle.ikeless_tree.specs.declared.entry.SpdEntry.{SpdEntry}
 use Rattle.ikeless_tree.specs.declared.association.SadRow.{SadRow}
 use Rattle.ikeless_tree.specs.declared.association.Tree.{Tree}
-use Rattle.ikeless_tree.specs.Check.{spd_fault}
+use Rattle.ikeless_tree.specs.Check.{sad_fault, spd_fault}
 use Rattle.json_codec.specs.Associations.{ArePassed}
+use Rattle.reply_table.specs.declared.ask.Ask.{Ask}
+use Rattle.reply_table.specs.declared.ask.Ask.TheVariants as asks
 use Rattle.reply_table.specs.declared.ask.Place.{Place}
-use Rattle.reply_table.specs.Reply.{has_point, put_at, is_row}
+use Rattle.reply_table.specs.Reply.{has_point, put_at}
 
--- no two associations have one name
+-- no two of these have one name
+abbrev pub AreApart : {X : Type 0} → (X → List ℕ) → List X → Type 0
+AreApart name [] = Unit {0}
+AreApart name (x ∷ xs) = (list_any (λ y. bytes_eq (name y) (name x)) xs ≡ false) × AreApart name xs
+
 abbrev pub AreDistinct : List SadRow → Type 0
-AreDistinct [] = Unit {0}
-AreDistinct (r ∷ rows) = (list_any (is_row r.entry.name) rows ≡ false) × AreDistinct rows
+AreDistinct rows = AreApart (λ r. r.entry.name) rows
 
 -- databases without a fault, as a gateway has them
 pub record IsTree (t : Tree) : Type 0 where
@@ -20,6 +26,14 @@ pub record IsTree (t : Tree) : Type 0 where
   pub halves : ArePassed t.sad
   pub few : length t.sad ≤ 4096
   pub distinct : AreDistinct t.sad
+
+-- a request of entries without a fault
+abbrev pub IsAsk : Ask → Type 0
+IsAsk (asks.PutSpd list) = spd_fault list ≡ None
+IsAsk (asks.PostSpd e place) = spd_fault (e ∷ []) ≡ None
+IsAsk (asks.PutSpdEntry e) = spd_fault (e ∷ []) ≡ None
+IsAsk (asks.PostSad e) = sad_fault e ≡ None
+IsAsk _ = Unit {0}
 
 -- the first element that passes, and no other
 abbrev pub at_most_once : {X : Type 0} → (X → Bool) → List X → Bool

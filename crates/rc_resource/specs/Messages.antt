@@ -1,5 +1,5 @@
 -- Orders as requests and replies as responses (RFC 8040 sections 3.4 to 4.8, RFC 9110 section 6).
-use Rattle.std.specs.Prelude.{◌≡◌, ℕ, ◌==◌, true, List, [], ◌∷◌, ◌++◌, length, codes, if◌then◌else◌, Option, Some, None}
+use Rattle.std.specs.Prelude.{◌≡◌, ℕ, ◌==◌, true, List, [], ◌∷◌, ◌++◌, length, codes, if◌then◌else◌, None}
 use Rattle.std.specs.Fmt.{decimal}
 use Rattle.serde_json.specs.Written.{compact_text}
 use Rattle.ikl_base.specs.declared.address.Addr.{Addr}

@@ -1,5 +1,5 @@
 -- Which methods a resource has (RFC 8040 section 4), of this project.
-use Rattle.std.specs.Prelude.{ℕ, Bool, List, [], ◌∷◌, ◌++◌, map, filter, codes, if◌then◌else◌, Option, Some, None, is_some, option_and_then}
+use Rattle.std.specs.Prelude.{ℕ, List, [], ◌∷◌, ◌++◌, map, filter, codes, if◌then◌else◌, Option, Some, None, is_some}
 use Rattle.std.specs.Str.{bytes_eq}
 use Rattle.rc_resource.specs.declared.operation.Method.{Method}
 use Rattle.rc_resource.specs.declared.operation.Method.TheVariants as methods

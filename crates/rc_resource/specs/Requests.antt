@@ -9,6 +9,8 @@ use Rattle.ikeless_tree.specs.declared.reply.App.{App}
 use Rattle.ikeless_tree.specs.declared.reply.App.TheVariants as apps
 use Rattle.json_codec.specs.declared.fault.CodecFault.{CodecFault}
 use Rattle.json_codec.specs.Bodies.{spd_of, spd_entry_of, sad_entry_of}
+use Rattle.rc_http.specs.declared.message.HttpFault.{HttpFault}
+use Rattle.rc_http.specs.declared.message.HttpFault.TheVariants as faults
 use Rattle.rc_http.specs.declared.message.HttpMessage.{HttpMessage}
 use Rattle.reply_table.specs.declared.ask.Place.{Place}
 use Rattle.reply_table.specs.declared.ask.Place.TheVariants as places
@@ -26,6 +28,13 @@ use Rattle.rc_resource.specs.Operations.{method_of, operation_by, allow_text}
 
 abbrev pub plain_error : ℕ → Tag → App → RcError
 plain_error status tag app = record { status = status; tag = tag; app = app; path = None; allow = [] }
+
+-- octets that are no message
+abbrev pub no_message : HttpFault → RcError
+no_message faults.Head = plain_error 400 tags.MalformedMessage apps.Form
+no_message faults.Version = plain_error 400 tags.MalformedMessage apps.Form
+no_message faults.Chunked = plain_error 501 tags.OperationNotSupported apps.Chunked
+no_message faults.TooBig = plain_error 413 tags.TooBig apps.Size
 
 abbrev pub no_resource : RcError
 no_resource = plain_error 404 tags.InvalidValue apps.Path

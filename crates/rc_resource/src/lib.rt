@@ -22,5 +22,5 @@ pub use message::{order_request, reply_response};
 pub use perform::apply;
 pub use reply::{Reply, error_reply};
 pub use reply_table::{Ask, Change, Place};
-pub use request::read_request;
+pub use request::{message_fault, read_request};
 pub use resource::Resource;

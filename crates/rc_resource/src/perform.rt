@@ -4,7 +4,7 @@ ghost use Rattle.ikeless_tree.specs.Check.{is_named, spd_fault};
 ghost use Rattle.json_codec.specs.Associations.{ArePassed};
 ghost use Rattle.reply_table.specs.Reply as table;
 ghost use Rattle.reply_table.specs.declared.ask.Change.TheVariants as changes;
-ghost use Rattle.rc_resource.specs.Lists.{IsTree, AreDistinct};
+ghost use Rattle.rc_resource.specs.Lists.{IsAsk, IsTree, AreDistinct};
 ghost use Rattle.rc_resource.specs.Paths.{half_path};
 ghost use Rattle.rc_resource.specs.Replies.{reply_of, plain_refusal, made_reply};
 ghost use Rattle.ikeless_tree.specs.declared.reply.Tag.TheVariants as tags;
@@ -213,6 +213,7 @@ pub fn apply(alloc: Global, tree: &mut Tree, ask: &Ask) -> Result<Reply, NoMemor
     ensures reply { IfOk result (λ r. r ≡ reply_of (table.reply tree.old ask.now)) }
     ensures tree { OnOk result (tree.new ≡ (table.reply tree.old ask.now).tree) }
     ensures err { OnErr result (tree.new ≡ tree.old) }
+    ensures rules { IsAsk ask.now → IsTree tree.new }
 {
     match ask {
         Ask::GetSpd => get_spd(alloc, tree),

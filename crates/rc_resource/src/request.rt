@@ -4,8 +4,9 @@ ghost use Rattle.std.specs.Option.{option_copied};
 ghost use Rattle.ikl_base.specs.Answers.{Gives};
 ghost use Rattle.json_codec.specs.Bodies.{spd_of, spd_entry_of, sad_entry_of};
 ghost use Rattle.reply_table.specs.declared.ask.Ask.TheVariants as asks;
+ghost use Rattle.rc_resource.specs.Lists.{IsAsk};
 ghost use Rattle.rc_resource.specs.Queries.{place_of};
-ghost use Rattle.rc_resource.specs.Requests.{ask_by, asked, at_place, bad_query, body_status, by_operation, if_named, no_method, no_resource, of_body, on_resource, other_name, plain_ask, plain_error, posted, request_of, unless_query};
+ghost use Rattle.rc_resource.specs.Requests.{ask_by, asked, at_place, bad_query, body_status, by_operation, if_named, no_message, no_method, no_resource, of_body, on_resource, other_name, plain_ask, plain_error, posted, request_of, unless_query};
 
 use crate::error::RcError;
 use crate::operation::{Operation, allow, method_named, operation_on};
@@ -14,7 +15,7 @@ use crate::resource::{Resource, resource_at};
 use ikeless_tree::{App, Tag};
 use ikl_base::{Name, NoMemory, Octets, OrMemory};
 use json_codec::{CodecFault, read_sad_entry, read_spd, read_spd_entry};
-use rc_http::HttpMessage;
+use rc_http::{HttpFault, HttpMessage};
 use reply_table::{Ask, Place};
 use std::alloc::Global;
 
@@ -29,6 +30,17 @@ fn plain(alloc: Global, status: u16, tag: Tag, app: App) -> RcError
         app,
         path: None,
         allow: Octets::new(alloc),
+    }
+}
+
+/// The refusal of octets that are no message.
+pub fn message_fault(alloc: Global, fault: HttpFault) -> RcError
+    ensures { result ≡ no_message fault }
+{
+    match fault {
+        HttpFault::Head | HttpFault::Version => plain(alloc, 400, Tag::MalformedMessage, App::Form),
+        HttpFault::Chunked => plain(alloc, 501, Tag::OperationNotSupported, App::Chunked),
+        HttpFault::TooBig => plain(alloc, 413, Tag::TooBig, App::Size),
     }
 }
 
@@ -186,7 +198,8 @@ fn read_on(alloc: Global, r: Resource, m: &HttpMessage) -> Asked
 /// query that isn't allowed, a fault of the body, and a name in the body that isn't the one in the path.
 #[tactic(auto, unfolding(crate::specs::Requests::request_of))]
 pub fn read_request(alloc: Global, m: &HttpMessage) -> Result<Ask, OrMemory<RcError>>
-    ensures { Gives result (request_of m.now) }
+    ensures request { Gives result (request_of m.now) }
+    ensures rules { IfOk result IsAsk }
 {
     match resource_at(alloc, before(m.target.as_slice(), b'?'))? {
         Some(r) => read_on(alloc, r, m),

@@ -1,4 +1,3 @@
-use Rattle.std.proofs.Common.{Some}
 use Rattle.reply_table.specs.Reply.{is_row}
 use Rattle.rc_resource.proofs.PlaceLemmas.{first_from_position}
 use Rattle.rc_resource.proofs.halves.find_half.Goals as goal

@@ -1,4 +1,3 @@
-use Rattle.std.proofs.Common.{◌∙◌}
 use Rattle.reply_table.specs.Reply.{is_row}
 use Rattle.rc_resource.proofs.NameLemmas.{half_once}
 use Rattle.rc_resource.proofs.PlaceLemmas.{removed_at}

@@ -1,4 +1,4 @@
-use Rattle.std.proofs.Common.{◌≡◌, ◌∙◌, sym, ap, find, Some}
+use Rattle.std.proofs.Common.{◌∙◌, sym, ap}
 use Rattle.std.specs.Option.{option_copied}
 use Rattle.ikeless_tree.specs.Check.{is_named}
 use Rattle.rc_resource.proofs.NameLemmas.{policy_found}

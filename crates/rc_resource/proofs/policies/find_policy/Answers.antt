@@ -1,4 +1,3 @@
-use Rattle.std.proofs.Common.{Some}
 use Rattle.ikeless_tree.specs.Check.{is_named}
 use Rattle.rc_resource.proofs.PlaceLemmas.{first_from_position}
 use Rattle.rc_resource.proofs.policies.find_policy.Goals as goal

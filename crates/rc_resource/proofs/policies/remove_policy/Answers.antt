@@ -1,4 +1,3 @@
-use Rattle.std.proofs.Common.{◌∙◌}
 use Rattle.ikeless_tree.specs.Check.{is_named}
 use Rattle.rc_resource.proofs.NameLemmas.{policy_once}
 use Rattle.rc_resource.proofs.PlaceLemmas.{removed_at}
