@@ -57,6 +57,7 @@ PUT / HTTP/1.1~Content-Length: 0000000003~~abc|whole\n\
 PUT / HTTP/1.1~Content-Length: 00000000003~~abc|head\n\
 PUT / HTTP/1.1~Content-Length: 10000000000~~|head\n\
 PUT / HTTP/1.1~Content-Length:~~|head\n\
+PUT / HTTP/1.1~Content-Length: \t ~~|head\n\
 PUT / HTTP/1.1~Content-Length: 1x~~|head\n\
 PUT / HTTP/1.1~Content-Length: +3~~|head\n\
 PUT / HTTP/1.1~Content-Length: -3~~|head\n\
@@ -104,8 +105,15 @@ HTTP/1.1 20 OK~~|head\n\
 HTTP/1.0 200 OK~~|version\n\
 GET / HTTP/1.1~~|head\n\
 HTTP/1.1 200 OK~Content-Length: 1048577~~|waits\n\
+HTTP/1.1 200 OK~Content-Length: 16777215~~|waits\n\
 HTTP/1.1 200 OK~Content-Length: 16777216~~|waits\n\
 HTTP/1.1 200 OK~Content-Length: 16777217~~|too big\n\
+HTTP/1.1 200 OK~Content-Length: 9999999999~~|too big\n\
+HTTP/1.1 200 OK~Content-Length: 10000000000~~|head\n\
+HTTP/1.1 200 OK~Content-Length: -0~~|head\n\
+HTTP/1.1 200 OK~Content-Length: 3~Content-Length: 3~~abc|head\n\
+HTTP/1.1 200 OK~Content-Length: 3~~ab|waits\n\
+HTTP/1.1 200 OK~Content-Length: 3~~abc|whole\n\
 HTTP/1.1 200 OK~Transfer-Encoding: chunked~~|chunked\n\
 ";
 
