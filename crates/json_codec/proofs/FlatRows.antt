@@ -1,6 +1,6 @@
 -- What is written for associations has no floats, and nests a few levels deep.
-use Rattle.std.proofs.Common.{◌≡◌, ◌==◌, ℕ, suc, Bool, true, false, if◌then◌else◌, List, [], ◌∷◌, Option, Some, None, refl, arith, codes, decimal}
-use Rattle.serde_json.specs.Data.{Data, number, string, boolean, array, object, unsigned, Items, no_items, item, Members, no_members, member, put}
+use Rattle.std.proofs.Common.{◌==◌, ℕ, Bool, true, false, if◌then◌else◌, List, [], ◌∷◌, Option, Some, None, refl, arith, codes, decimal}
+use Rattle.serde_json.specs.Data.{Data, string, boolean, object, Members, no_members, put}
 use Rattle.ikeless_tree.specs.declared.association.Limits.{Limits}
 use Rattle.ikeless_tree.specs.declared.association.SadEntry.{SadEntry}
 use Rattle.ikeless_tree.specs.declared.association.SadRow.{SadRow}
@@ -93,7 +93,7 @@ unfolding state_data
 flat_state s = flat_object 3 _ (flat_put 3 (codes "replay-stats") _ _ (flat_only 2 (codes "last-sequence") (wide s.top) (flat_string 2 _))
     (flat_put 3 (codes "sa-lifetime-current") _ _ (flat_counts s.current) (flat_none 3)))
 
-flat_row : (r : SadRow) → IsFlat 5 (row_data r)
+pub flat_row : (r : SadRow) → IsFlat 5 (row_data r)
 unfolding row_data with_state
 flat_row r = flat_object 4 _ (flat_put 4 (codes "ipsec-sa-config") _ _ (flat_config r.entry None)
     (flat_put 4 (codes "ipsec-sa-state") _ _ (flat_state r.state)

@@ -16,3 +16,4 @@ pub mod PolicyAgain
 pub mod HalfAgain
 pub mod CommandAgain
 pub mod OneRow
+pub mod RowTexts

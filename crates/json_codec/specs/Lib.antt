@@ -14,3 +14,4 @@ pub mod Operations
 pub mod Bodies
 pub mod Typed
 pub mod OneRow
+pub mod ReadAgain

