@@ -1,8 +1,6 @@
 -- What is written for a command stands for it.
-use Rattle.std.proofs.Common.{◌≡◌, ℕ, ◌<◌, ◌≤◌, ◌^◌, if◌then◌else◌, Bool, true, false, List, [], ◌∷◌, codes, Option, Some, None, Ok, refl}
-use Rattle.std.specs.List.{All}
-use Rattle.serde_json.specs.Data.{Data, Members, no_members, string, object, put}
-use Rattle.ikeless_tree.specs.declared.association.Limits.{Limits}
+use Rattle.std.proofs.Common.{◌≡◌, ℕ, if◌then◌else◌, Bool, true, false, List, codes, None, refl}
+use Rattle.serde_json.specs.Data.{Data, no_members, string, object, put}
 use Rattle.ikeless_tree.specs.declared.command.Command.{Command}
 use Rattle.ikeless_tree.specs.declared.command.Command.TheVariants as commands
 use Rattle.ikeless_tree.specs.declared.command.TunnelSpec.{TunnelSpec}
@@ -10,11 +8,11 @@ use Rattle.ikeless_tree.specs.declared.entry.SpdEntry.{SpdEntry}
 use Rattle.ikeless_tree.specs.Check.{is_window, spd_fault, is_gateway}
 use Rattle.yang_values.specs.HexText.{hex_colons}
 use Rattle.yang_values.specs.Prefixes.{prefix_text}
-use Rattle.json_codec.specs.Written.{count, wide, word, only}
-use Rattle.json_codec.specs.Associations.{limits_members, has_no_limits, with_lifetime}
+use Rattle.json_codec.specs.Written.{count, wide, word}
+use Rattle.json_codec.specs.Associations.{limits_members, has_no_limits}
 use Rattle.json_codec.specs.Commands.{mode_word, policy_input, with_first, with_second, tunnel_input, input_of, command_data, IsLawful}
 use Rattle.json_codec.specs.Operations.{operation_of, HasWindow, command_fault}
-use Rattle.json_codec.specs.Json.{IsWide, IsHex, IsOnly, IsListInput, IsTunnelInput, IsInput, IsCommand}
+use Rattle.json_codec.specs.Json.{IsListInput, IsTunnelInput, IsInput, IsCommand}
 use Rattle.json_codec.specs.Typed.{AreTypedPolicies, IsTypedTunnel, IsTypedCommand}
 use Rattle.json_codec.proofs.PolicyAgain.{wide_again, prefix_text_again, window_again, entries_again}
 use Rattle.json_codec.proofs.HalfAgain.{CanHex, limits_again, none_is}

@@ -1,5 +1,5 @@
 -- What is written for an association stands for it.
-use Rattle.std.proofs.Common.{◌≡◌, ℕ, ◌<◌, ◌≤◌, ◌^◌, ◌-◌, ◌==◌, ◌&&◌, nat_lt, if◌then◌else◌, Bool, true, false, List, [], ◌∷◌, codes, length, Option, Some, None, Ok, refl, sym, ap, subst, ◌∙◌, arith, decimal}
+use Rattle.std.proofs.Common.{◌≡◌, ℕ, ◌<◌, ◌≤◌, ◌^◌, ◌-◌, ◌==◌, ◌&&◌, nat_lt, if◌then◌else◌, Bool, true, false, List, codes, length, Some, None, Ok, refl, arith}
 use Rattle.std.specs.List.{All}
 use Rattle.std.proofs.lemmas.Bool.{and_parts}
 use Rattle.std.proofs.lemmas.Bool.Decides.{nat_tests}
@@ -9,11 +9,11 @@ use Rattle.ikeless_tree.specs.declared.association.Limits.{Limits}
 use Rattle.ikeless_tree.specs.declared.association.SadEntry.{SadEntry}
 use Rattle.ikeless_tree.specs.Check.{is_sad_name, is_key_length, is_window, sad_fault}
 use Rattle.yang_values.specs.HexText.{hex_of, hex_colons}
-use Rattle.yang_values.specs.Addresses.{IsAddress, address_of, address_text}
+use Rattle.yang_values.specs.Addresses.{IsAddress, address_text}
 use Rattle.yang_values.proofs.AddressText.{address_again}
-use Rattle.json_codec.specs.Written.{count, wide, word, only}
-use Rattle.json_codec.specs.Associations.{with_count, with_wide, limits_members, has_no_limits, with_lifetime, with_soft, tunnel_data, with_key, encryption_data, with_ends, with_fixed, with_sealing, config_data, sad_entry_data, one_association}
-use Rattle.json_codec.specs.Json.{IsAddressText, IsKey, IsHex, HasLimits, no_limits, IsLimits, IsSoft, IsEncryption, IsTunnel, IsHalfConfig, IsSadEntry, IsOneSadEntry}
+use Rattle.json_codec.specs.Written.{count, wide, word}
+use Rattle.json_codec.specs.Associations.{limits_members, has_no_limits, tunnel_data, encryption_data, with_ends, with_fixed, with_sealing, config_data, sad_entry_data, one_association}
+use Rattle.json_codec.specs.Json.{IsAddressText, no_limits, IsLimits, IsSoft, IsEncryption, IsTunnel, IsHalfConfig, IsSadEntry, IsOneSadEntry}
 use Rattle.json_codec.specs.Typed.{IsTypedLimits, IsTypedAssociation}
 use Rattle.json_codec.proofs.Passed.{no_fault, holds}
 use Rattle.json_codec.proofs.PolicyAgain.{number_again, wide_again, selector_again, window_again}

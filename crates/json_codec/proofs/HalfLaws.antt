@@ -1,11 +1,11 @@
 -- Associations that are read, and what they stand for.
-use Rattle.std.proofs.Common.{◌≡◌, ℕ, ◌-◌, ◌^◌, ◌==◌, ◌||◌, Bool, true, false, List, [], ◌∷◌, codes, length, if◌then◌else◌, Option, Some, None, option_and_then, Result, Ok, Err, refl, sym, ap, subst, ◌∙◌, arith}
+use Rattle.std.proofs.Common.{◌≡◌, ℕ, ◌-◌, ◌^◌, ◌==◌, Bool, true, false, List, [], ◌∷◌, codes, length, if◌then◌else◌, Option, Some, None, option_and_then, Result, Ok, Err, refl, sym, ap, subst, ◌∙◌, arith}
 use Rattle.std.specs.Bool.{⊤}
 use Rattle.std.specs.List.{list_any}
 use Rattle.std.specs.Str.{bytes_eq}
 use Rattle.std.proofs.lemmas.Bool.Decides.{nat_tests}
 use Rattle.serde_json.specs.Data.{Data, number, string, unsigned}
-use Rattle.serde_json.specs.Find.{get, as_array, as_number, as_u64}
+use Rattle.serde_json.specs.Find.{get, as_number, as_u64}
 use Rattle.ikl_base.specs.declared.address.Addr.{Addr}
 use Rattle.ikeless_tree.specs.declared.association.Df.{Df}
 use Rattle.ikeless_tree.specs.declared.association.Df.TheVariants as bits
@@ -16,21 +16,20 @@ use Rattle.yang_values.specs.Addresses.{address_of}
 use Rattle.yang_values.specs.HexText.{hex_of}
 use Rattle.json_codec.specs.declared.fault.Kind.{Kind}
 use Rattle.json_codec.specs.declared.fault.Kind.TheVariants as kinds
-use Rattle.json_codec.specs.declared.fault.Fault.{Fault}
 use Rattle.json_codec.specs.declared.halves.Sealing.{Sealing}
 use Rattle.json_codec.specs.declared.halves.Lifetimes.{Lifetimes}
 use Rattle.json_codec.specs.declared.halves.TunnelEnds.{TunnelEnds}
 use Rattle.json_codec.specs.declared.halves.Traffic.{Traffic}
 use Rattle.json_codec.specs.declared.halves.HalfConfig.{HalfConfig}
-use Rattle.json_codec.specs.Faults.{within, at_member, checked, ◌>>=◌}
+use Rattle.json_codec.specs.Faults.{at_member}
 use Rattle.json_codec.specs.Shapes.{lacks}
 use Rattle.json_codec.specs.Words.{df_word}
-use Rattle.json_codec.specs.Leaves.{or_form, text_in, df_from, df_leaf, address_from, address_leaf, octets_from, octets_leaf, keying, key_leaf, fixed_number, this_number, count_or, number_or, wide_or, needed_number, name_leaf}
+use Rattle.json_codec.specs.Leaves.{or_form, text_in, df_from, df_leaf, address_from, address_leaf, octets_from, octets_leaf, keying, key_leaf, fixed_number, this_number, count_or, wide_or}
 use Rattle.json_codec.specs.Members.{limits_names, limits_shape, soft_shape, encryption_shape, tunnel_shape, config_names, config_shape, sad_entry_shape}
 use Rattle.json_codec.specs.Selectors.{limits_from, selector_of}
 use Rattle.json_codec.specs.Policies.{unset_in, word_in, window_in, reqid_in, name_in}
 use Rattle.json_codec.specs.Halves.{algorithm_in, key_in, encryption_in, suite_key, suite_key_of, sealing_in, limits_in, limits_of, soft_in, soft_of, lifetimes_in, df_in, address_in, tunnel_in, tunnel_of, spi_in, traffic_in, config_in, config_of, half_of, sad_entry_in, one_half, one_sad_entry_in}
-use Rattle.json_codec.specs.Json.{HasOnly, Needed, Optional, IsNumber, IsWord, IsFalse, IsWide, IsHex, IsKey, IsAddressText, IsName, IsOne, IsOnly, IsSelector, HasLimits, no_limits, IsLimits, IsSoft, IsAlgorithm, IsEncryption, IsTunnel, IsHalfConfig, IsSadEntry, IsOneSadEntry}
+use Rattle.json_codec.specs.Json.{HasOnly, Needed, Optional, IsNumber, IsWord, IsFalse, IsHex, IsKey, IsAddressText, IsOnly, HasLimits, no_limits, IsLimits, IsSoft, IsAlgorithm, IsEncryption, IsTunnel, IsHalfConfig, IsSadEntry, IsOneSadEntry}
 use Rattle.json_codec.proofs.LeafLaws.{ok_is, bind_ok, within_ok, within_of, member_ok, member_of, text_ok, u64_ok, kind_ok, kind_of, same, needed_number_ok, needed_number_of, number_or_ok, number_or_of, wide_or_ok, wide_or_of, name_ok, name_of}
 use Rattle.json_codec.proofs.ShapeLaws.{shape_ok, shape_of, there, only_ok, only_of, one_ok, one_of}
 use Rattle.json_codec.proofs.PolicyLaws.{unset_in_ok, unset_in_of, word_in_ok, word_in_of, selector_of_ok, selector_of_back, checked_ok}

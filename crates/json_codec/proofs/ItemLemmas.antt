@@ -7,7 +7,7 @@ use Rattle.serde_json.specs.declared.value.Value.{Value}
 use Rattle.json_codec.specs.declared.fault.Fault.{Fault}
 use Rattle.ikl_base.specs.declared.fault.OrMemory.{OrMemory}
 use Rattle.ikl_base.specs.declared.fault.OrMemory.TheVariants as failures
-use Rattle.ikl_base.specs.Answers.{Refuses, Gives}
+use Rattle.ikl_base.specs.Answers.{Refuses}
 use Rattle.json_codec.specs.declared.fault.Kind.TheVariants as kinds
 use Rattle.json_codec.specs.Faults.{here, within, ◌>>=◌}
 use Rattle.json_codec.specs.Shapes.{each_item, one_read}

@@ -1,13 +1,12 @@
 -- What a leaf is read as, and what it stands for.
-use Rattle.std.proofs.Common.{◌≡◌, ℕ, ◌-◌, ◌^◌, ◌≤◌, ◌==◌, ◌&&◌, nat_le, if◌then◌else◌, Bool, true, false, List, [], ◌∷◌, codes, length, Option, Some, None, option_and_then, Result, Ok, Err, refl, sym, ap, subst, ◌∙◌, arith}
+use Rattle.std.proofs.Common.{◌≡◌, ℕ, ◌≤◌, ◌&&◌, nat_le, if◌then◌else◌, Bool, true, false, List, codes, Option, Some, None, option_and_then, Result, Ok, Err, refl, sym, ap, subst, ◌∙◌, arith}
 use Rattle.std.specs.Bool.{⊤}
 use Rattle.std.specs.Str.{bytes_eq}
 use Rattle.std.proofs.lemmas.Slice.Eq.{bytes_eq-Decides}
-use Rattle.std.proofs.lemmas.Bool.{and_parts, and_from}
+use Rattle.std.proofs.lemmas.Bool.{and_parts}
 use Rattle.std.proofs.lemmas.Bool.Decides.{nat_tests}
-use Rattle.serde_json.specs.Data.{Num, unsigned, negative, float, Data, null, boolean, number, string, array, object}
+use Rattle.serde_json.specs.Data.{unsigned, negative, float, Data, null, boolean, number, string, array, object}
 use Rattle.serde_json.specs.Find.{as_number, as_u64, as_str, as_bool}
-use Rattle.ikl_base.specs.declared.address.Addr.{Addr}
 use Rattle.ikl_base.specs.declared.address.Prefix.{Prefix}
 use Rattle.ikeless_tree.specs.declared.entry.Direction.{Direction}
 use Rattle.ikeless_tree.specs.declared.entry.Direction.TheVariants as directions
@@ -19,9 +18,9 @@ use Rattle.yang_values.specs.Prefixes.{prefix_of}
 use Rattle.json_codec.specs.declared.fault.Kind.{Kind}
 use Rattle.json_codec.specs.declared.fault.Kind.TheVariants as kinds
 use Rattle.json_codec.specs.declared.fault.Fault.{Fault}
-use Rattle.json_codec.specs.Faults.{◌>>=◌, or_kind, within, at_member, of_member}
+use Rattle.json_codec.specs.Faults.{◌>>=◌, or_kind, within, at_member}
 use Rattle.json_codec.specs.Words.{direction_word, action_word}
-use Rattle.json_codec.specs.Leaves.{or_form, or_missing, text_in, in_range, number_in, wide_from, wide_in, needed_text, needed_number, needed_wide, number_or, wide_or, prefix_from, prefix_leaf, protocol_leaf, protocol_from, any_protocol, one_protocol, direction_from, direction_leaf, action_from, action_leaf, this_word, fixed_word, not_set, unset_leaf, name_where, name_leaf}
+use Rattle.json_codec.specs.Leaves.{or_form, text_in, in_range, number_in, wide_from, wide_in, needed_number, number_or, wide_or, prefix_from, prefix_leaf, protocol_leaf, protocol_from, direction_from, direction_leaf, action_from, action_leaf, this_word, fixed_word, not_set, unset_leaf, name_where, name_leaf}
 use Rattle.json_codec.specs.Json.{Needed, Optional, IsNumber, IsWord, IsFalse, IsWide, IsPrefix, IsName, IsProtocol}
 
 -- ---- steps

@@ -1,11 +1,11 @@
 -- What is written for one row, from what is written for a list of one.
-use Rattle.std.proofs.Common.{◌≡◌, ◌≤◌, ◌+◌, suc, ℕ, Bool, true, false, ◌||◌, ◌&&◌, not, max, [], ◌∷◌, refl, arith, codes}
+use Rattle.std.proofs.Common.{◌≡◌, ◌≤◌, suc, ℕ, Bool, true, false, ◌||◌, ◌&&◌, not, max, [], ◌∷◌, refl, arith, codes}
 use Rattle.std.proofs.lemmas.Bool.{and_parts}
 use Rattle.std.specs.Str.{bytes_eq}
 use Rattle.serde_json.specs.Data.{depth}
 use Rattle.serde_json.specs.Written.{has_float}
 use Rattle.ikeless_tree.specs.declared.association.SadRow.{SadRow}
-use Rattle.json_codec.specs.Associations.{all_rows, is_free_of}
+use Rattle.json_codec.specs.Associations.{is_free_of}
 use Rattle.json_codec.specs.OneRow.{one_row}
 use Rattle.json_codec.proofs.FlatRows.{flat_all_rows}
 use Rattle.json_codec.proofs.Keyless.{free_all_rows}

@@ -1,5 +1,5 @@
 -- What is known of policies and associations in which no fault was found.
-use Rattle.std.proofs.Common.{◌≡◌, ◌<◌, ℕ, Bool, true, false, not, ◌&&◌, ◌++◌, if◌then◌else◌, nat_lt, nat_le, List, [], ◌∷◌, length, Option, Some, None, refl, sym, subst, ap}
+use Rattle.std.proofs.Common.{◌≡◌, ℕ, Bool, true, false, not, ◌&&◌, ◌++◌, if◌then◌else◌, nat_le, List, [], ◌∷◌, length, Option, Some, None, refl}
 use Rattle.std.specs.List.{list_all}
 use Rattle.std.proofs.lemmas.Bool.{and_from, and_parts, or_left, or_cases}
 use Rattle.std.proofs.lemmas.List.Folds.{list_all-append}

@@ -8,7 +8,7 @@ use Rattle.std.proofs.lemmas.Bool.Decides.{nat_tests}
 use Rattle.std.proofs.lemmas.Fmt.{IsAscii-decimal}
 use Rattle.std.proofs.lemmas.Str.{IsUtf8-from_ascii}
 use Rattle.std.proofs.lemmas.Str.Ascii.{IsAscii-nil}
-use Rattle.ikeless_tree.specs.Check.{is_path_octet, is_word_octet, is_gateway, is_gateway_octet}
+use Rattle.ikeless_tree.specs.Check.{is_path_octet, is_gateway, is_gateway_octet}
 use Rattle.std.specs.List.{All}
 use Rattle.std.specs.Char.{is_ascii_hexdigit}
 use Rattle.std.proofs.Common.{refl}

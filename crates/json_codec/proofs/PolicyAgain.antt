@@ -1,28 +1,25 @@
 -- What is written for policies stands for them.
-use Rattle.std.proofs.Common.{◌≡◌, ℕ, ◌<◌, ◌≤◌, ◌^◌, ◌-◌, ◌&&◌, ◌++◌, not, nat_le, nat_lt, if◌then◌else◌, Bool, true, false, List, [], ◌∷◌, codes, map, Option, Some, None, Result, Ok, Err, refl, sym, ap, subst, ◌∙◌, arith, decimal}
-use Rattle.std.specs.List.{All, AllByRecursion, list_any}
+use Rattle.std.proofs.Common.{◌≡◌, ℕ, ◌<◌, ◌≤◌, ◌^◌, ◌++◌, nat_le, true, List, [], ◌∷◌, codes, map, Option, Some, None, refl, arith, decimal}
+use Rattle.std.specs.List.{All, AllByRecursion}
 use Rattle.std.proofs.lemmas.Bool.{and_parts}
 use Rattle.std.proofs.lemmas.Bool.Decides.{nat_tests}
 use Rattle.std.proofs.lemmas.List.Elements.{recursion_from_All}
-use Rattle.serde_json.specs.Data.{Data, Items, string, array, object, number, unsigned}
+use Rattle.serde_json.specs.Data.{Data, string, array}
 use Rattle.serde_json.specs.View.{items_of}
 use Rattle.ikl_base.specs.declared.address.Prefix.{Prefix}
 use Rattle.ikeless_tree.specs.declared.entry.Range.{Range}
-use Rattle.ikeless_tree.specs.declared.entry.Direction.{Direction}
 use Rattle.ikeless_tree.specs.declared.entry.Action.{Action}
 use Rattle.ikeless_tree.specs.declared.entry.Selector.{Selector}
 use Rattle.ikeless_tree.specs.declared.entry.SpdEntry.{SpdEntry}
-use Rattle.ikeless_tree.specs.declared.reply.TreeFault.{TreeFault}
 use Rattle.ikeless_tree.specs.Check.{is_spd_name, is_window, entry_fault, entries_fault, spd_fault}
-use Rattle.yang_values.specs.Numbers.{u64_of}
 use Rattle.yang_values.specs.Addresses.{IsAddress}
-use Rattle.yang_values.specs.Prefixes.{prefix_of, prefix_text}
+use Rattle.yang_values.specs.Prefixes.{prefix_text}
 use Rattle.yang_values.proofs.ValueText.{number_of-decimal}
 use Rattle.yang_values.proofs.AddressText.{address_again}
 use Rattle.yang_values.proofs.PrefixText.{prefix_again}
-use Rattle.json_codec.specs.Words.{direction_word, action_word}
+use Rattle.json_codec.specs.Words.{action_word}
 use Rattle.json_codec.specs.Written.{count, wide, word, only, range_data, range_items, proto_data, selector_data, policy_data, spd_entry_data, spd_entry_items, spd_entries_data, one_policy, all_policies}
-use Rattle.json_codec.specs.Json.{IsNumber, IsWord, IsWide, IsPrefix, IsName, IsProtocol, Each, IsListOf, IsOnly, IsRange, ArePorts, IsSelector, IsProcessing, IsPolicy, IsSpdEntry, IsSpd, IsOneSpdEntry}
+use Rattle.json_codec.specs.Json.{IsNumber, IsWide, IsPrefix, IsProtocol, Each, IsListOf, IsRange, ArePorts, IsSelector, IsProcessing, IsPolicy, IsSpdEntry, IsSpd, IsOneSpdEntry}
 use Rattle.json_codec.specs.Typed.{IsTypedRange, IsTypedProtocol, IsTypedSelector, IsTypedPolicy, AreTypedPolicies}
 use Rattle.json_codec.proofs.Passed.{no_fault, first_none, holds}
 

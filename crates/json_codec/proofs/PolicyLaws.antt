@@ -1,5 +1,5 @@
 -- Selectors and policies that are read, and what they stand for.
-use Rattle.std.proofs.Common.{◌≡◌, ℕ, ◌||◌, Bool, true, false, List, [], ◌∷◌, codes, Option, Some, None, Result, Ok, Err, refl, sym, ap, subst, ◌∙◌}
+use Rattle.std.proofs.Common.{◌≡◌, ℕ, false, List, [], ◌∷◌, codes, Option, Some, None, Ok, refl, sym, ap, subst}
 use Rattle.std.specs.Bool.{⊤}
 use Rattle.std.specs.List.{list_any}
 use Rattle.serde_json.specs.Data.{Data}
@@ -11,16 +11,15 @@ use Rattle.ikeless_tree.specs.declared.entry.Selector.{Selector}
 use Rattle.ikeless_tree.specs.declared.entry.SpdEntry.{SpdEntry}
 use Rattle.ikeless_tree.specs.declared.reply.TreeFault.{TreeFault}
 use Rattle.ikeless_tree.specs.Check.{is_spd_name, spd_fault}
-use Rattle.json_codec.specs.declared.fault.Fault.{Fault}
 use Rattle.json_codec.specs.declared.selectors.Side.{Side}
 use Rattle.json_codec.specs.declared.entries.PolicyConfig.{PolicyConfig}
-use Rattle.json_codec.specs.Faults.{within, at_member, checked, ◌>>=◌}
-use Rattle.json_codec.specs.Shapes.{lacks, only_in, items_read}
-use Rattle.json_codec.specs.Leaves.{needed_number, number_or, wide_or, prefix_leaf, protocol_leaf, direction_leaf, action_leaf, fixed_word, unset_leaf, name_leaf}
+use Rattle.json_codec.specs.Faults.{at_member, checked}
+use Rattle.json_codec.specs.Shapes.{lacks, items_read}
+use Rattle.json_codec.specs.Leaves.{needed_number, prefix_leaf, protocol_leaf, direction_leaf, action_leaf, fixed_word, unset_leaf}
 use Rattle.json_codec.specs.Members.{range_names, range_shape, selector_names, selector_shape, suite_shape, processing_shape, policy_shape, spd_entry_shape}
 use Rattle.json_codec.specs.Selectors.{range_in, ports_in, side_in, selector_in, selector_of}
 use Rattle.json_codec.specs.Policies.{unset_in, word_in, window_in, reqid_in, name_in, suite_front, suite_back, suite_in, suite_of, processing_in, processing_of, policy_in, policy_of, spd_entry_in, entries_in, database_in, all_entries, spd_in, one_entry, one_spd_entry_in}
-use Rattle.json_codec.specs.Json.{HasOnly, Needed, Optional, IsNumber, IsWord, IsFalse, IsWide, IsPrefix, IsName, IsProtocol, IsListOf, IsOne, IsOnly, IsRange, ArePorts, IsSelector, IsSuite, IsProcessing, IsPolicy, IsSpdEntry, IsSpd, IsOneSpdEntry}
+use Rattle.json_codec.specs.Json.{HasOnly, Needed, Optional, IsNumber, IsWord, IsFalse, IsPrefix, IsRange, ArePorts, IsSelector, IsSuite, IsProcessing, IsPolicy, IsSpdEntry, IsSpd, IsOneSpdEntry}
 use Rattle.json_codec.proofs.LeafLaws.{ok_is, bind_ok, within_ok, within_of, member_ok, member_of, needed_number_ok, needed_number_of, number_or_ok, number_or_of, wide_or_ok, wide_or_of, needed_prefix_ok, needed_prefix_of, protocol_ok, protocol_of, direction_ok, direction_of, action_ok, action_of, fixed_ok, fixed_of, unset_ok, unset_of, name_ok, name_of}
 use Rattle.json_codec.proofs.ShapeLaws.{shape_ok, shape_of, there, only_ok, only_of, list_ok, list_of, one_ok, one_of}
 

@@ -13,8 +13,6 @@ use Rattle.json_codec.specs.declared.fault.Kind.{Kind}
 use Rattle.json_codec.specs.declared.fault.Kind.TheVariants as kinds
 use Rattle.json_codec.specs.declared.fault.Fault.{Fault}
 use Rattle.json_codec.specs.declared.fault.CodecFault.{CodecFault}
-use Rattle.ikl_base.specs.declared.fault.OrMemory.{OrMemory}
-use Rattle.ikl_base.specs.Answers.{Gives}
 
 abbrev pub tag_of : Kind → Tag
 tag_of kinds.Unknown = tags.UnknownElement

@@ -1,5 +1,5 @@
 -- Reads associations (RFC 9061 section 5.3).
-use Rattle.std.specs.Prelude.{ℕ, ◌-◌, ◌^◌, List, [], ◌∷◌, codes, Option, Some, None, Result, Ok, Err, ⊤}
+use Rattle.std.specs.Prelude.{ℕ, ◌-◌, ◌^◌, List, codes, Option, Some, None, Result, Ok, Err, ⊤}
 use Rattle.serde_json.specs.Data.{Data}
 use Rattle.serde_json.specs.Find.{get, as_array}
 use Rattle.ikl_base.specs.declared.address.Addr.{Addr}
@@ -16,7 +16,7 @@ use Rattle.json_codec.specs.declared.halves.Traffic.{Traffic}
 use Rattle.json_codec.specs.declared.halves.HalfConfig.{HalfConfig}
 use Rattle.json_codec.specs.Faults.{here, within, at_member, checked, ◌>>=◌}
 use Rattle.json_codec.specs.Shapes.{only_in, one_read}
-use Rattle.json_codec.specs.Leaves.{needed_number, address_leaf, df_leaf, fixed_number, fixed_word, key_leaf}
+use Rattle.json_codec.specs.Leaves.{needed_number, address_leaf, df_leaf, fixed_number, key_leaf}
 use Rattle.json_codec.specs.Members.{encryption_shape, tunnel_shape, limits_shape, soft_shape, config_shape, sad_entry_shape}
 use Rattle.json_codec.specs.Selectors.{selector_of, limits_from}
 use Rattle.json_codec.specs.Json.{no_limits}

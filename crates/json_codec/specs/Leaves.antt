@@ -1,8 +1,8 @@
 -- Leaves (RFC 7951 section 6, over the YANG module ietf-i2nsf-ikeless of RFC 9061): first the kind of the value and
 -- its spelling, then its range, then whether it is supported.
-use Rattle.std.specs.Prelude.{ℕ, ◌-◌, ◌^◌, ◌==◌, ◌&&◌, nat_le, Bool, true, false, List, [], codes, length, if◌then◌else◌, Option, Some, None, option_and_then, Result, Ok, Err, ⊤}
+use Rattle.std.specs.Prelude.{ℕ, ◌-◌, ◌^◌, ◌==◌, ◌&&◌, nat_le, Bool, true, false, List, codes, length, if◌then◌else◌, Option, Some, None, option_and_then, Result, Ok, Err, ⊤}
 use Rattle.std.specs.Str.{bytes_eq}
-use Rattle.serde_json.specs.Data.{Num, Data, null, boolean, number, string, array, object}
+use Rattle.serde_json.specs.Data.{Data}
 use Rattle.serde_json.specs.Find.{as_number, as_u64, as_str, as_bool}
 use Rattle.ikl_base.specs.declared.address.Addr.{Addr}
 use Rattle.ikl_base.specs.declared.address.Prefix.{Prefix}
@@ -12,7 +12,7 @@ use Rattle.ikeless_tree.specs.declared.entry.Action.{Action}
 use Rattle.ikeless_tree.specs.declared.entry.Action.TheVariants as actions
 use Rattle.ikeless_tree.specs.declared.association.Df.{Df}
 use Rattle.ikeless_tree.specs.declared.association.Df.TheVariants as bits
-use Rattle.ikeless_tree.specs.Check.{is_spd_name, is_sad_name, is_key_length, is_gateway}
+use Rattle.ikeless_tree.specs.Check.{is_key_length}
 use Rattle.yang_values.specs.Numbers.{u64_of}
 use Rattle.yang_values.specs.Addresses.{address_of}
 use Rattle.yang_values.specs.Prefixes.{prefix_of}

@@ -1,5 +1,5 @@
 -- Reads selectors, lifetimes and counts (RFC 9061 section 5.3).
-use Rattle.std.specs.Prelude.{ℕ, ◌-◌, ◌^◌, List, [], ◌∷◌, codes, Option, Some, None, Result, Ok, Err}
+use Rattle.std.specs.Prelude.{ℕ, List, [], codes, Option, Some, None, Result, Ok, Err}
 use Rattle.serde_json.specs.Data.{Data}
 use Rattle.serde_json.specs.Find.{get, as_array}
 use Rattle.ikeless_tree.specs.declared.entry.Range.{Range}
@@ -10,7 +10,7 @@ use Rattle.json_codec.specs.declared.fault.Fault.{Fault}
 use Rattle.json_codec.specs.declared.selectors.Side.{Side}
 use Rattle.json_codec.specs.Faults.{here, within, at_member, ◌>>=◌}
 use Rattle.json_codec.specs.Shapes.{items_read}
-use Rattle.json_codec.specs.Leaves.{needed_number, needed_wide, count_or, wide_or, prefix_leaf, protocol_leaf}
+use Rattle.json_codec.specs.Leaves.{needed_number, count_or, wide_or, prefix_leaf, protocol_leaf}
 use Rattle.json_codec.specs.Members.{range_shape, selector_shape, counts_shape}
 
 unfoldable pub range_in : Data → Result Range Fault

@@ -1,15 +1,14 @@
 -- Objects by the names of their members, and lists item by item.
-use Rattle.std.specs.Prelude.{ℕ, ◌+◌, ◌||◌, not, Bool, false, List, [], ◌∷◌, codes, map, Option, Some, None, is_none, Result, Ok, Err, ⊤, if◌then◌else◌}
+use Rattle.std.specs.Prelude.{ℕ, ◌+◌, ◌||◌, not, Bool, false, List, [], ◌∷◌, map, Option, Some, None, is_none, Result, Ok, Err, ⊤, if◌then◌else◌}
 use Rattle.std.specs.Option.{option_map}
 use Rattle.std.specs.List.{list_any}
 use Rattle.std.specs.Str.{bytes_eq}
 use Rattle.std.specs.Fmt.{decimal}
 use Rattle.std.specs.Borrow.{Bor}
 use Rattle.serde_json.specs.Data.{Data, Items, no_items, item, Members, no_members, member}
-use Rattle.serde_json.specs.Find.{get, as_object, as_array}
+use Rattle.serde_json.specs.Find.{get, as_object}
 use Rattle.serde_json.specs.View.{view}
 use Rattle.serde_json.specs.declared.value.Value.{Value}
-use Rattle.json_codec.specs.declared.fault.Kind.{Kind}
 use Rattle.json_codec.specs.declared.fault.Kind.TheVariants as kinds
 use Rattle.json_codec.specs.declared.fault.Fault.{Fault}
 use Rattle.json_codec.specs.Faults.{here, within, ◌>>=◌}

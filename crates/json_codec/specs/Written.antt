@@ -1,26 +1,15 @@
 -- The one value that is written for a policy, an association, a database or a command: RFC 7951 over the YANG module
 -- ietf-i2nsf-ikeless (RFC 9061 section 5.3).
-use Rattle.std.specs.Prelude.{◌≡◌, ℕ, ◌==◌, ◌&&◌, not, Bool, true, false, List, [], ◌∷◌, ◌++◌, codes, map, if◌then◌else◌, Option, Some, None}
+use Rattle.std.specs.Prelude.{ℕ, Bool, List, [], ◌∷◌, codes, map, Option, Some, None}
 use Rattle.std.specs.Fmt.{decimal}
-use Rattle.std.specs.Str.{bytes_eq}
 use Rattle.serde_json.specs.View.{items_of}
-use Rattle.serde_json.specs.Data.{Num, unsigned, Data, null, boolean, number, string, array, object, Items, no_items, item, Members, no_members, member, put}
-use Rattle.ikl_base.specs.declared.address.Addr.{Addr}
+use Rattle.serde_json.specs.Data.{unsigned, Data, number, string, array, object, Items, Members, no_members, put}
 use Rattle.ikeless_tree.specs.declared.entry.Range.{Range}
 use Rattle.ikeless_tree.specs.declared.entry.Selector.{Selector}
 use Rattle.ikeless_tree.specs.declared.entry.SpdEntry.{SpdEntry}
-use Rattle.ikeless_tree.specs.declared.association.Limits.{Limits}
-use Rattle.ikeless_tree.specs.declared.association.SadEntry.{SadEntry}
-use Rattle.ikeless_tree.specs.declared.association.SadRow.{SadRow}
-use Rattle.ikeless_tree.specs.declared.association.SaState.{SaState}
-use Rattle.ikeless_tree.specs.declared.command.Command.{Command}
-use Rattle.ikeless_tree.specs.declared.command.Command.TheVariants as commands
-use Rattle.ikeless_tree.specs.declared.command.TunnelSpec.{TunnelSpec}
-use Rattle.yang_values.specs.Addresses.{address_text}
 use Rattle.yang_values.specs.Prefixes.{prefix_text}
-use Rattle.yang_values.specs.HexText.{hex_colons}
 use Rattle.ikeless_tree.specs.Check.{is_spd_name}
-use Rattle.json_codec.specs.Words.{direction_word, action_word, df_word}
+use Rattle.json_codec.specs.Words.{direction_word, action_word}
 
 -- a number of at most 32 bits
 abbrev pub count : ℕ → Data

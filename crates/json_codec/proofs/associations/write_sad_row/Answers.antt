@@ -1,4 +1,4 @@
-use Rattle.std.proofs.Common.{◌≡◌, ◌≤◌, ◌∙◌, ap, arith, Some}
+use Rattle.std.proofs.Common.{◌≤◌, ◌∙◌, ap, arith, Some}
 use Rattle.std.proofs.lemmas.Result.{IfOk-weaker}
 use Rattle.serde_json.specs.Data.{depth}
 use Rattle.json_codec.specs.OneRow.{one_row}

@@ -1,4 +1,4 @@
-use Rattle.std.proofs.Common.{◌≡◌, ◌∙◌, IsUtf8, decimal}
+use Rattle.std.proofs.Common.{◌≡◌, ◌∙◌, decimal}
 use Rattle.json_codec.proofs.Plain.{utf8_number}
 use Rattle.json_codec.proofs.build.put_wide.Goals as goal
 

@@ -1,4 +1,4 @@
-use Rattle.std.proofs.Common.{◌≡◌, ◌∙◌, IsUtf8}
+use Rattle.std.proofs.Common.{◌≡◌, ◌∙◌}
 use Rattle.yang_values.specs.Prefixes.{prefix_text}
 use Rattle.json_codec.proofs.Plain.{utf8_value}
 use Rattle.json_codec.proofs.policies.put_prefix.Goals as goal

@@ -1,5 +1,3 @@
-use Rattle.std.proofs.Common.{◌≡◌, ◌∙◌, ap, get_or}
-use Rattle.serde_json.specs.View.{view}
 use Rattle.json_codec.specs.Written.{range_data}
 use Rattle.json_codec.proofs.Lists.{more}
 use Rattle.json_codec.proofs.policies.range_values.Goals as goal

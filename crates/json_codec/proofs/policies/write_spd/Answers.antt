@@ -1,4 +1,4 @@
-use Rattle.std.proofs.Common.{◌≡◌, ◌≤◌, arith}
+use Rattle.std.proofs.Common.{◌≤◌, arith}
 use Rattle.serde_json.specs.Data.{depth}
 use Rattle.json_codec.specs.Written.{all_policies}
 use Rattle.json_codec.proofs.Flat.{flat_all_policies}

@@ -1,4 +1,4 @@
-use Rattle.std.proofs.Common.{◌≡◌, ◌∙◌, sym}
+use Rattle.std.proofs.Common.{◌∙◌, sym}
 use Rattle.serde_json.specs.View.{view}
 use Rattle.json_codec.specs.Selectors.{range_in}
 use Rattle.json_codec.proofs.ItemLemmas.{item-more, item-refuses, items-done}
