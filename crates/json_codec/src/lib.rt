@@ -16,8 +16,6 @@ mod operations;
 mod policies;
 mod selectors;
 mod shapes;
-#[cfg(test)]
-mod tests;
 mod words;
 
 pub use associations::{counts_value, write_sad, write_sad_entry, write_sad_row};

@@ -1,6 +1,6 @@
 // What bodies are read as, and what is wrong with those that are refused.
-use super::*;
 use ikl_base::{Name, NoMemory, Octets, OrMemory};
+use json_codec::{CodecFault, read_command, read_sad_entry, read_spd, read_spd_entry};
 use std::alloc::Global;
 use std::process::Abort;
 use std::test::Fail;

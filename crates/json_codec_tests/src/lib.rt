@@ -1,0 +1,7 @@
+//! Tests of `json_codec`, which stand here so that it is proved once alone: each proof with tests proves the crate anew.
+#![tactic(auto)]
+
+#[cfg(test)]
+mod reading;
+#[cfg(test)]
+mod writing;
