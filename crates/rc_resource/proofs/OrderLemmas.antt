@@ -1,5 +1,5 @@
 -- What is read of the request of an order.
-use Rattle.std.proofs.Common.{◌≡◌, ℕ, ◌+◌, ◌<◌, suc, ◌==◌, List, [], ◌∷◌, ◌++◌, Bool, true, false, length, take, Some, None, Ok, codes, refl, ap, sym, ◌∙◌, arith, nat_lt, All}
+use Rattle.std.proofs.Common.{◌≡◌, ℕ, ◌+◌, ◌<◌, suc, ◌==◌, List, [], ◌∷◌, ◌++◌, Bool, true, false, length, take, Some, None, Ok, codes, refl, ap, sym, ◌∙◌, arith, nat_lt, All, ◌≤◌, IsUtf8}
 use Rattle.std.specs.List.{list_any, list_all, position_or_len, before_first, flat_map}
 use Rattle.std.specs.Option.{option_map}
 use Rattle.std.proofs.lemmas.Bool.{agree_below, agree_below_at}
@@ -9,9 +9,20 @@ use Rattle.std.proofs.lemmas.List.Folds.{list_any-append}
 use Rattle.std.proofs.lemmas.List.Elements.{All-cons, All-nil, All-head, All-tail}
 use Rattle.percent_encoding.proofs.PercentLemmas.{IsByte}
 use Rattle.ikl_base.specs.declared.address.Addr.{Addr}
-use Rattle.ikeless_tree.specs.Check.{is_sad_name, is_path_octet}
+use Rattle.serde_json.specs.Data.{depth}
+use Rattle.serde_json.specs.Read.{read}
+use Rattle.serde_json.specs.Written.{compact_text}
+use Rattle.ikeless_tree.specs.declared.association.SadEntry.{SadEntry}
+use Rattle.ikeless_tree.specs.declared.entry.SpdEntry.{SpdEntry}
+use Rattle.ikeless_tree.specs.Check.{is_sad_name, is_path_octet, spd_fault, sad_fault}
 use Rattle.ikeless_tree.specs.declared.order.Order.{Order}
 use Rattle.ikeless_tree.specs.declared.order.Order.TheVariants as orders
+use Rattle.json_codec.specs.Associations.{one_association}
+use Rattle.json_codec.specs.Bodies.{sad_entry_of, spd_of}
+use Rattle.json_codec.specs.Typed.{AreTypedPolicies, IsTypedAssociation}
+use Rattle.json_codec.specs.Written.{all_policies}
+use Rattle.json_codec.proofs.Flat.{flat_all_policies}
+use Rattle.json_codec.proofs.FlatRows.{flat_one_association}
 use Rattle.json_codec.proofs.Passed.{half_octets}
 use Rattle.reply_table.specs.Order.{ask_of}
 use Rattle.rc_resource.specs.declared.resource.Resource.TheVariants as resources
@@ -20,9 +31,11 @@ use Rattle.rc_resource.specs.Queries.{behind_mark}
 use Rattle.rc_resource.specs.Operations.{method_of}
 use Rattle.rc_resource.specs.Messages.{order_message, IsOrder}
 use Rattle.rc_resource.specs.Requests.{request_of}
-use Rattle.rc_resource.specs.Laws.{IsReadAgain}
+use Rattle.rc_resource.specs.Laws.{IsTypedOrder}
 use Rattle.rc_resource.proofs.KeyLemmas.{back_again}
 use Rattle.rc_resource.proofs.PlaceLemmas.{any_at}
+use Rattle.rc_resource.proofs.ReadBack.{read_again, utf8_again}
+use Rattle.rc_resource.proofs.Writable.{write_association, write_policies}
 
 -- ---- texts without a mark
 
@@ -98,9 +111,28 @@ removal host name h =
     let whole = path_whole name h in
     rw (before_whole (λ c. c == 63) (half_path name) whole, half_again name h, behind_none 63 (half_path name) whole) refl
 
-pub order_again : (host : Addr) (o : Order) → IsOrder o → IsReadAgain o → request_of (order_message host o) ≡ Ok (ask_of o)
+-- what the codec says of its bodies
+abbrev PoliciesReadAgain : Type 0
+PoliciesReadAgain = (text : List ℕ) (es : List SpdEntry) → AreTypedPolicies es → spd_fault es ≡ None → IsUtf8 text → read text ≡ Some (all_policies es) → spd_of text ≡ Ok es
+
+abbrev AssociationReadsAgain : Type 0
+AssociationReadsAgain = (text : List ℕ) (e : SadEntry) → IsTypedAssociation e → sad_fault e ≡ None → IsUtf8 text → read text ≡ Some (one_association e) → sad_entry_of text ≡ Ok e
+
+policies_again : PoliciesReadAgain → (es : List SpdEntry) → AreTypedPolicies es → spd_fault es ≡ None → spd_of (compact_text (all_policies es)) ≡ Ok es
+policies_again codec es typed h =
+    let plain = write_policies es typed h in
+    let shallow : depth (all_policies es) ≤ 8 = (flat_all_policies es).shallow in
+    codec (compact_text (all_policies es)) es typed h (utf8_again (all_policies es) plain) (read_again (all_policies es) plain (omega arith))
+
+association_again : AssociationReadsAgain → (e : SadEntry) → IsTypedAssociation e → sad_fault e ≡ None → sad_entry_of (compact_text (one_association e)) ≡ Ok e
+association_again codec e typed h =
+    let plain = write_association e typed h in
+    let shallow : depth (one_association e) ≤ 7 = (flat_one_association e).shallow in
+    codec (compact_text (one_association e)) e typed h (utf8_again (one_association e) plain) (read_again (one_association e) plain (omega arith))
+
+pub order_again : PoliciesReadAgain → AssociationReadsAgain → (host : Addr) (o : Order) → IsOrder o → IsTypedOrder o → request_of (order_message host o) ≡ Ok (ask_of o)
 unfolding request_of resource_of method_of
-order_again host orders.Read h again = refl
-order_again host (orders.Policy list) h again = rw again refl
-order_again host (orders.Put e) h again = rw again refl
-order_again host (orders.Remove name) h again = removal host name h
+order_again policies association host orders.Read h typed = refl
+order_again policies association host (orders.Policy list) h typed = rw (policies_again policies list typed h) refl
+order_again policies association host (orders.Put e) h typed = rw (association_again association e typed h) refl
+order_again policies association host (orders.Remove name) h typed = removal host name h

@@ -7,3 +7,4 @@ pub mod Messages
 pub mod Operations
 pub mod Requests
 pub mod Laws
+pub mod Answers

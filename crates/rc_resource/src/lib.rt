@@ -1,6 +1,9 @@
 //! RESTCONF (RFC 8040) over the databases of a gateway: requests and answers, typed.
 #![tactic(auto)]
 
+mod answer;
+#[cfg(test)]
+mod answer_tests;
 mod error;
 mod halves;
 mod laws;
@@ -15,9 +18,11 @@ mod request;
 mod resource;
 #[cfg(test)]
 mod tests;
+mod words;
 
+pub use answer::{BadAnswer, ErrorTags, read_answer, read_error};
 pub use error::RcError;
-pub use laws::orders_are_read;
+pub use laws::{answers_are_read, errors_are_read, orders_are_read};
 pub use message::{order_request, reply_response};
 pub use perform::apply;
 pub use reply::{Reply, error_reply};
