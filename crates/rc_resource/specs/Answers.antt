@@ -1,6 +1,6 @@
 -- What the response to an order says: its status, and what is read of its body (RFC 8040 sections 4.3 and 7.1). Which
 -- statuses an order has is of this project.
-use Rattle.std.specs.Prelude.{ℕ, ◌==◌, List, [], ◌∷◌, codes, find, if◌then◌else◌, Option, Some, None, Result, Ok, Err}
+use Rattle.std.specs.Prelude.{ℕ, ◌==◌, ◌||◌, Bool, List, [], ◌∷◌, codes, find, if◌then◌else◌, Option, Some, None, Result, Ok, Err}
 use Rattle.std.specs.Str.{bytes_eq}
 use Rattle.serde_json.specs.Data.{Data, Items, no_items, item}
 use Rattle.serde_json.specs.Find.{get, as_array}
@@ -137,3 +137,10 @@ answer_of orders.Read m = reading_of m
 answer_of (orders.Policy list) m = policies_of m
 answer_of (orders.Put e) m = change_of 201 409 m
 answer_of (orders.Remove name) m = change_of 204 404 m
+
+-- the statuses of the answers to an order
+abbrev pub is_status_of : Order → ℕ → Bool
+is_status_of orders.Read status = status == 200
+is_status_of (orders.Policy list) status = status == 204
+is_status_of (orders.Put e) status = (status == 201) || (status == 409)
+is_status_of (orders.Remove name) status = (status == 204) || (status == 404)

@@ -303,3 +303,23 @@ fn responses_are_read(rt: HostRuntime) -> Result<(), Fail> {
     }
     Ok(())
 }
+
+const LIMITED: &str =
+    r#"{"ietf-restconf:errors":{"error":[{"error-app-tag":"key-limit","error-tag":"too-big","error-type":"application"}]}}"#;
+
+fn error_shown(alloc: Global, body: &str) -> Result<Vec<u8>, NoMemory> {
+    let Ok(found) = read_error(alloc, body.as_bytes()) else {
+        return Err(NoMemory);
+    };
+    let mut text = Vec::from_slice(alloc, found.tag.text().as_bytes())?;
+    text.push(b' ')?;
+    text.extend_from_slice(found.app.text().as_bytes())?;
+    Ok(text)
+}
+
+#[test]
+fn an_error_is_read(rt: HostRuntime) -> Result<(), Fail> {
+    let text = error_shown(rt.alloc(), LIMITED)?;
+    assert_eq!(rt; text.as_slice(), b"too-big key-limit".as_slice());
+    Ok(())
+}

@@ -22,7 +22,7 @@ mod words;
 
 pub use answer::{BadAnswer, ErrorTags, read_answer, read_error};
 pub use error::RcError;
-pub use laws::{answers_are_read, errors_are_read, orders_are_read};
+pub use laws::{answers_are_read, answers_have_statuses, errors_are_read, orders_are_read};
 pub use message::{order_request, reply_response};
 pub use perform::apply;
 pub use reply::{Reply, error_reply};
