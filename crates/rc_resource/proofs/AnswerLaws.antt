@@ -25,7 +25,7 @@ use Rattle.json_codec.proofs.Passed.{passed_half}
 use Rattle.reply_table.specs.declared.ask.Change.TheVariants as changes
 use Rattle.reply_table.specs.Order.{ask_of}
 use Rattle.reply_table.specs.Reply.{Outcome, At_half, reply, get_sad, refused, made, done, exists, spi_taken, full, absent, row_names, is_row, has_spi, is_sad_full, with_sad, without_row, new_row}
-use Rattle.rc_resource.specs.Answers.{answer_of, app_of, error_in, error_of, halves_in, name_in, names_in, names_of, tag_of}
+use Rattle.rc_answer.specs.Answers.{answer_of, app_of, error_in, error_of, halves_in, name_in, names_in, names_of, tag_of}
 use Rattle.rc_resource.specs.Errors.{error_data}
 use Rattle.rc_resource.specs.Laws.{AreTypedRows, answer_by}
 use Rattle.rc_resource.specs.Lists.{IsTree}

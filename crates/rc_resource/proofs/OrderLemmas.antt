@@ -25,14 +25,14 @@ use Rattle.json_codec.proofs.Flat.{flat_all_policies}
 use Rattle.json_codec.proofs.FlatRows.{flat_one_association}
 use Rattle.json_codec.proofs.Passed.{half_octets}
 use Rattle.reply_table.specs.Order.{ask_of}
-use Rattle.rc_resource.specs.declared.resource.Resource.TheVariants as resources
-use Rattle.rc_resource.specs.Paths.{escape_octet, escaped, key_of, half_path, resource_of}
-use Rattle.rc_resource.specs.Queries.{behind_mark}
-use Rattle.rc_resource.specs.Operations.{method_of}
+use Rattle.rc_request.specs.declared.resource.Resource.TheVariants as resources
+use Rattle.rc_request.specs.Paths.{escape_octet, escaped, key_of, half_path, resource_of}
+use Rattle.rc_request.specs.Queries.{behind_mark}
+use Rattle.rc_request.specs.Operations.{method_of}
 use Rattle.rc_resource.specs.Messages.{order_message, IsOrder}
-use Rattle.rc_resource.specs.Requests.{request_of}
+use Rattle.rc_request.specs.Requests.{request_of}
 use Rattle.rc_resource.specs.Laws.{IsTypedOrder}
-use Rattle.rc_resource.proofs.KeyLemmas.{back_again}
+use Rattle.rc_request.proofs.KeyLemmas.{back_again}
 use Rattle.rc_resource.proofs.PlaceLemmas.{any_at}
 use Rattle.rc_resource.proofs.ReadBack.{read_again, utf8_again}
 use Rattle.rc_resource.proofs.Writable.{write_association, write_policies}

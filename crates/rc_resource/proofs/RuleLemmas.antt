@@ -16,7 +16,8 @@ use Rattle.reply_table.specs.declared.ask.Ask.TheVariants as asks
 use Rattle.reply_table.specs.declared.ask.Place.{Place}
 use Rattle.reply_table.specs.declared.ask.Place.TheVariants as places
 use Rattle.reply_table.specs.Reply.{delete_sad, delete_spd_entry, has_point, has_policy, has_spi, is_row, is_sad_full, is_spd_full, new_row, post_sad, post_spd, put_after, put_at, put_before, put_spd_entry, replaced, reply, show_half, show_policy, without_policy, with_spd}
-use Rattle.rc_resource.specs.Lists.{AreApart, IsAsk, IsTree}
+use Rattle.rc_request.specs.Asks.{IsAsk}
+use Rattle.rc_resource.specs.Lists.{AreApart, IsTree}
 use Rattle.std.proofs.lemmas.Slice.Eq.{bytes_eq-Decides}
 
 bytes_eq_sym : (a b : List ℕ) → bytes_eq a b ≡ false → bytes_eq b a ≡ false

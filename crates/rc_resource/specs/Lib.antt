@@ -1,10 +1,5 @@
-pub mod Paths
-pub mod Queries
 pub mod Errors
 pub mod Replies
 pub mod Lists
 pub mod Messages
-pub mod Operations
-pub mod Requests
 pub mod Laws
-pub mod Answers

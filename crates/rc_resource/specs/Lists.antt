@@ -5,10 +5,8 @@ use Rattle.std.specs.Str.{bytes_eq}
 use Rattle.ikeless_tree.specs.declared.entry.SpdEntry.{SpdEntry}
 use Rattle.ikeless_tree.specs.declared.association.SadRow.{SadRow}
 use Rattle.ikeless_tree.specs.declared.association.Tree.{Tree}
-use Rattle.ikeless_tree.specs.Check.{sad_fault, spd_fault}
+use Rattle.ikeless_tree.specs.Check.{spd_fault}
 use Rattle.json_codec.specs.Associations.{ArePassed}
-use Rattle.reply_table.specs.declared.ask.Ask.{Ask}
-use Rattle.reply_table.specs.declared.ask.Ask.TheVariants as asks
 use Rattle.reply_table.specs.declared.ask.Place.{Place}
 use Rattle.reply_table.specs.Reply.{has_point, put_at}
 
@@ -26,14 +24,6 @@ pub record IsTree (t : Tree) : Type 0 where
   pub halves : ArePassed t.sad
   pub few : length t.sad ≤ 4096
   pub distinct : AreDistinct t.sad
-
--- a request of entries without a fault
-abbrev pub IsAsk : Ask → Type 0
-IsAsk (asks.PutSpd list) = spd_fault list ≡ None
-IsAsk (asks.PostSpd e place) = spd_fault (e ∷ []) ≡ None
-IsAsk (asks.PutSpdEntry e) = spd_fault (e ∷ []) ≡ None
-IsAsk (asks.PostSad e) = sad_fault e ≡ None
-IsAsk _ = Unit {0}
 
 -- the first element that passes, and no other
 abbrev pub at_most_once : {X : Type 0} → (X → Bool) → List X → Bool

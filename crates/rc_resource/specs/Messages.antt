@@ -13,7 +13,7 @@ use Rattle.json_codec.specs.Associations.{one_association}
 use Rattle.rc_http.specs.declared.message.HttpMessage.{HttpMessage}
 use Rattle.rc_http.specs.Heads.{fields_map}
 use Rattle.rc_resource.specs.declared.reply.Reply.{Reply}
-use Rattle.rc_resource.specs.Paths.{half_path}
+use Rattle.rc_request.specs.Paths.{half_path}
 
 -- ---- fields
 

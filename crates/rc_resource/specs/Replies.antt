@@ -10,9 +10,9 @@ use Rattle.json_codec.specs.Written.{one_policy, all_policies}
 use Rattle.json_codec.specs.Associations.{all_rows}
 use Rattle.json_codec.specs.OneRow.{one_row}
 use Rattle.rc_resource.specs.declared.reply.Reply.{Reply}
-use Rattle.rc_resource.specs.declared.error.RcError.{RcError}
+use Rattle.rc_request.specs.declared.error.RcError.{RcError}
 use Rattle.rc_resource.specs.Errors.{error_data}
-use Rattle.rc_resource.specs.Paths.{policy_path, half_path}
+use Rattle.rc_request.specs.Paths.{policy_path, half_path}
 
 abbrev pub location_text : Location → List ℕ
 location_text Nowhere = []

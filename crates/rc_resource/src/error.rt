@@ -14,19 +14,6 @@ use json_codec::{Members, put_word, single};
 use serde_json::{Map, Value};
 use std::alloc::Global;
 
-/// Why a request is refused: a status, the error tags of RFC 8040 section 7 and the app tags of this project.
-///
-/// `path` is the JSON Pointer (RFC 6901) to what is wrong in the body, and `allow` the methods of the resource where
-/// the method is wrong.
-#[derive(Debug, Drop)]
-pub struct RcError {
-    pub status: u16,
-    pub tag: Tag,
-    pub app: App,
-    pub path: Option<Octets>,
-    pub allow: Octets,
-}
-
 fn is_protocol(app: App) -> bool
     ensures { result ≡ is_of_protocol app }
 {

@@ -1,19 +1,17 @@
 // Laws for the crates above: each is the contract of a function with an empty body, or of one that calls other laws.
-ghost use Rattle.std.specs.Prelude.{◌≡◌, true, Ok, IfSome, IsUtf8};
+ghost use Rattle.std.specs.Prelude.{◌≡◌, Ok, IfSome, IsUtf8};
 ghost use Rattle.ikl_base.specs.declared.address.Addr.{Addr};
 ghost use Rattle.ikeless_tree.specs.declared.association.Tree.{Tree};
-ghost use Rattle.ikeless_tree.specs.declared.order.Answer.{Answer};
 ghost use Rattle.ikeless_tree.specs.declared.order.Order.{Order};
-ghost use Rattle.rc_http.specs.declared.message.HttpMessage.{HttpMessage};
 ghost use Rattle.reply_table.specs.Order.{ask_of};
 ghost use Rattle.reply_table.specs.Reply.{reply};
-ghost use Rattle.rc_resource.specs.declared.error.RcError.{RcError};
-ghost use Rattle.rc_resource.specs.Answers.{answer_of, error_of, is_status_of};
+ghost use Rattle.rc_request.specs.declared.error.RcError.{RcError};
+ghost use Rattle.rc_answer.specs.Answers.{answer_of, error_of};
 ghost use Rattle.rc_resource.specs.Laws.{AreTypedRows, IsTypedOrder, answer_by};
 ghost use Rattle.rc_resource.specs.Lists.{IsTree};
 ghost use Rattle.rc_resource.specs.Messages.{order_message, reply_message, IsOrder};
 ghost use Rattle.rc_resource.specs.Replies.{refusal, reply_of};
-ghost use Rattle.rc_resource.specs.Requests.{request_of};
+ghost use Rattle.rc_request.specs.Requests.{request_of};
 
 /// The request of an order is read as what that order asks.
 pub fn orders_are_read()
@@ -32,10 +30,4 @@ pub fn answers_are_read()
 /// The body of every refusal is read as its tags.
 pub fn errors_are_read()
     ensures { (e : RcError) → IfSome e.path IsUtf8 → error_of (refusal e).body ≡ Ok (record { tag = e.tag; app = e.app }) }
-{}
-
-/// An answer has the status of its response, which is one of those of its order.
-pub fn answers_have_statuses()
-    ensures { (o : Order) (m : HttpMessage) (a : Answer) → answer_of o m ≡ Ok a
-        → (a.status ≡ m.status) × (is_status_of o a.status ≡ true) }
 {}

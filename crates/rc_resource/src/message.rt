@@ -7,7 +7,6 @@ ghost use Rattle.std.specs.Prelude.{map};
 ghost use Rattle.rc_http.specs.Heads.{fields_map, lowered};
 ghost use Rattle.rc_resource.specs.Messages.{body_fields, host_text, if_type, length_field, order_body, order_message, order_method, order_target, own_field, reply_message, request_fields, response_fields, type_field, IsOrder};
 
-use crate::path::path_of_half;
 use crate::reply::Reply;
 use http_header::{
     ALLOW, CONTENT_LENGTH, CONTENT_TYPE, HOST, HeaderMap, HeaderName, HeaderValue, LOCATION,
@@ -16,6 +15,7 @@ use ikeless_tree::Order;
 use ikl_base::{Addr, NoMemory, Octets};
 use json_codec::{write_sad_entry, write_spd};
 use rc_http::HttpMessage;
+use rc_request::path_of_half;
 use std::alloc::Global;
 use yang_values::{write_address, write_u64};
 

@@ -4,8 +4,9 @@ ghost use Rattle.ikeless_tree.specs.Check.{is_named, spd_fault};
 ghost use Rattle.json_codec.specs.Associations.{ArePassed};
 ghost use Rattle.reply_table.specs.Reply as table;
 ghost use Rattle.reply_table.specs.declared.ask.Change.TheVariants as changes;
-ghost use Rattle.rc_resource.specs.Lists.{IsAsk, IsTree, AreDistinct};
-ghost use Rattle.rc_resource.specs.Paths.{half_path};
+ghost use Rattle.rc_request.specs.Asks.{IsAsk};
+ghost use Rattle.rc_resource.specs.Lists.{IsTree, AreDistinct};
+ghost use Rattle.rc_request.specs.Paths.{half_path};
 ghost use Rattle.rc_resource.specs.Replies.{reply_of, plain_refusal, made_reply};
 ghost use Rattle.ikeless_tree.specs.declared.reply.Tag.TheVariants as tags;
 ghost use Rattle.ikeless_tree.specs.declared.reply.App.TheVariants as apps;
@@ -13,7 +14,6 @@ ghost use Rattle.ikeless_tree.specs.declared.reply.App.TheVariants as apps;
 use crate::halves::{
     find_half, half_named, has_half, has_spi, is_inbound, names_of, remove_half, unused,
 };
-use crate::path::path_of_half;
 use crate::policies::{
     append_policy, find_policy, has_policy, index_for, insert_policy, policy_named, remove_policy,
     replace_policy,
@@ -22,6 +22,7 @@ use crate::reply::{Reply, done, made, refused, shows};
 use ikeless_tree::{App, Entries, Names, SadEntry, SpdEntry, Tag, Tree};
 use ikl_base::{Duplicate, Name, NoMemory};
 use json_codec::{write_sad, write_sad_row, write_spd, write_spd_entry};
+use rc_request::path_of_half;
 use reply_table::{Ask, Change, Place};
 use std::alloc::Global;
 

@@ -5,11 +5,11 @@ ghost use Rattle.std.specs.List.{insert, list_any, remove, position_or_len};
 ghost use Rattle.ikeless_tree.specs.Check.{is_named, spd_fault};
 ghost use Rattle.reply_table.specs.Reply.{replaced, without_policy};
 ghost use Rattle.rc_resource.specs.Lists.{IsFirst, IsIndexFor};
-ghost use Rattle.rc_resource.specs.Paths.{policy_path};
+ghost use Rattle.rc_request.specs.Paths.{policy_path};
 
-use crate::path::path_of_policy;
 use ikeless_tree::{Entries, SpdEntry};
 use ikl_base::{Duplicate, Name, NoMemory, Octets};
+use rc_request::path_of_policy;
 use reply_table::Place;
 use std::alloc::Global;
 use std::mem;

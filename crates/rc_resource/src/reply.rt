@@ -3,9 +3,10 @@ ghost use Rattle.std.specs.Prelude.{◌≡◌, IfOk, IfSome, IsUtf8};
 ghost use Rattle.std.specs.Option.{option_copied};
 ghost use Rattle.rc_resource.specs.Replies.{refusal, plain_refusal, shows_reply, made_reply, done_reply};
 
-use crate::error::{RcError, error_body};
+use crate::error::error_body;
 use ikeless_tree::{App, Names, Tag};
 use ikl_base::{NoMemory, Octets};
+use rc_request::RcError;
 use reply_table::Change;
 use std::alloc::Global;
 

@@ -1,5 +1,5 @@
 use Rattle.std.proofs.Common.{subst}
-use Rattle.rc_resource.specs.Lists.{IsAsk}
+use Rattle.rc_request.specs.Asks.{IsAsk}
 use Rattle.rc_resource.proofs.RuleLemmas.{delete_keeps, done_keeps, install_keeps, post_keeps, put_keeps, remove_keeps}
 use Rattle.rc_resource.proofs.perform.apply.Goals as goal
 

@@ -1,0 +1,9 @@
+//! The answers to orders, read from responses of RESTCONF (RFC 8040), and the tags of their errors.
+#![tactic(auto)]
+
+mod answer;
+mod laws;
+mod words;
+
+pub use answer::{BadAnswer, ErrorTags, read_answer, read_error};
+pub use laws::answers_have_statuses;

@@ -1,0 +1,5 @@
+pub mod Asks
+pub mod Paths
+pub mod Queries
+pub mod Operations
+pub mod Requests

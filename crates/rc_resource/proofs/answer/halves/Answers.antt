@@ -1,4 +1,0 @@
-use Rattle.rc_resource.proofs.answer.halves.Goals as goal
-
-pub returns : goal.returns
-returns c = rw (c.in_ok-database.ensures, c.in_ok-list.ensures, c.in_ok-items.ensures) c.names.ensures

@@ -1,5 +1,0 @@
-use Rattle.rc_resource.proofs.StatusLemmas.{answer_has}
-use Rattle.rc_resource.proofs.laws.answers_have_statuses.Goals as goal
-
-pub returns : goal.returns
-returns c = answer_has

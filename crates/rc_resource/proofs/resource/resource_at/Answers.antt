@@ -1,6 +1,0 @@
-use Rattle.rc_resource.specs.Paths.{resource_of}
-use Rattle.rc_resource.proofs.resource.resource_at.Goals as goal
-
-pub returns-in-Some : goal.returns-in-Some
-unfolding resource_of
-returns-in-Some c = rw (← c.behind.ensures, c.in-Some.is) c.inside.ensures

@@ -1,5 +1,0 @@
-use Rattle.rc_resource.proofs.RuleLemmas.{empty_keeps}
-use Rattle.rc_resource.proofs.tests.empty.Goals as goal
-
-pub returns : goal.returns
-returns c = empty_keeps _ c.new.ensures c.new-2.ensures

@@ -1,0 +1,5 @@
+use Rattle.rc_resource.proofs.RuleLemmas.{empty_keeps}
+use Rattle.rc_resource_tests.proofs.exchanges.empty.Goals as goal
+
+pub returns : goal.returns
+returns c = empty_keeps _ c.new.ensures c.new-2.ensures
