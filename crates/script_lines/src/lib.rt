@@ -10,8 +10,6 @@ mod laws;
 mod limits;
 mod parts;
 mod session;
-#[cfg(test)]
-mod tests;
 mod tunnel;
 mod words;
 mod write;
