@@ -10,7 +10,7 @@ use Rattle.hist_acts.specs.declared.event.Event.{Event}
 use Rattle.hist_acts.specs.declared.event.Header.{Header}
 use Rattle.hist_acts.specs.Past.{after}
 use Rattle.hist_gateway.specs.Safe.{Safe}
-use Rattle.script_lines.specs.Header.{header_of}
+use Rattle.event_lines.specs.Header.{header_of}
 use Rattle.script_lines.specs.Text.{text_of}
 use Rattle.ikeless_cli.specs.Script.{HasNoLf, IsLine, AreLines, joined, line_event, IsScript, acts_of}
 

@@ -8,9 +8,9 @@ use Rattle.hist_acts.specs.declared.event.Event.{Event}
 use Rattle.hist_acts.specs.declared.event.Header.{Header}
 use Rattle.ikeless_tree.specs.declared.command.Peer.{Peer}
 use Rattle.hist_gateway.specs.History.{history}
-use Rattle.script_lines.specs.Header.{header_of}
-use Rattle.script_lines.specs.Words.{is_printable}
-use Rattle.script_lines.specs.Event.{event_of}
+use Rattle.event_lines.specs.Header.{header_of}
+use Rattle.line_words.specs.Words.{is_printable}
+use Rattle.event_lines.specs.Event.{event_of}
 
 abbrev pub is_inside : ℕ → Bool
 is_inside c = not (c == 10)

@@ -1,18 +1,15 @@
--- A line whose words are read as an act is read as that act; and the names of halves are words.
-use Rattle.std.proofs.Common.{◌≡◌, ℕ, zero, suc, ◌≤◌, ◌&&◌, ◌||◌, nat_le, Bool, true, false, List, [], ◌∷◌, length, take, drop, Result, Ok, inl, inr, refl, ap, ◌∙◌, arith}
-use Rattle.std.specs.Prelude.{codes}
+-- A line whose words are read as an act is read as that act.
+use Rattle.std.proofs.Common.{◌≡◌, ℕ, true, List, ◌∷◌, Ok, refl, ap, ◌∙◌}
 use Rattle.std.specs.List.{list_all}
 use Rattle.std.specs.Str.{bytes_eq}
-use Rattle.std.proofs.lemmas.Bool.{and_parts, and_from, or_cases, leb-true}
 use Rattle.std.proofs.lemmas.Slice.Eq.{bytes_eq-Decides}
-use Rattle.ikeless_tree.specs.Check.{is_sad_name, has_front, is_serial, is_word_octet}
 use Rattle.ikeless_tree.specs.declared.command.Peer.{Peer}
 use Rattle.hist_acts.specs.declared.act.Act.{Act}
-use Rattle.script_lines.specs.Words.{◌>>=◌, words, is_printable}
-use Rattle.script_lines.specs.Text.{line_text, act_words, act_text}
+use Rattle.line_words.specs.Words.{words, is_printable}
+use Rattle.line_words.specs.Text.{line_text}
+use Rattle.script_lines.specs.Text.{act_words, act_text}
 use Rattle.script_lines.specs.Act.{act_in, as_spelled, act_of}
-use Rattle.script_lines.proofs.PartText.{is_part, is_graph, word_part, also, as_graph}
-use Rattle.script_lines.proofs.LineText.{AreWords, line_words, line_printable}
+use Rattle.line_words.proofs.LineText.{AreWords, line_words, line_printable}
 
 pub act_line : (gateways : List Peer) (a : Act) (w : List ℕ) (ws : List (List ℕ)) → act_words a ≡ w ∷ ws → AreWords (w ∷ ws)
     → act_in gateways (w ∷ ws) ≡ Ok a → act_of gateways (act_text a) ≡ Ok a
@@ -22,33 +19,3 @@ act_line gateways a w ws e are read =
     let s : words (line_text (act_words a)) ≡ w ∷ ws = ap (λ us. words (line_text us)) e ∙ line_words w ws are in
     let same : bytes_eq (line_text (act_words a)) (line_text (act_words a)) ≡ true = (bytes_eq-Decides (line_text (act_words a)) (line_text (act_words a))).1 refl in
     rw (p, s, read, same) refl
-
--- ---- names of halves
-
-taken_all : (q : ℕ → Bool) (n : ℕ) (t : List ℕ) → list_all q (take n t) ≡ true → list_all q (drop n t) ≡ true → list_all q t ≡ true
-taken_all q zero t front back = back
-taken_all q (suc n) [] front back = refl
-taken_all q (suc n) (c ∷ cs) front back = let p = and_parts _ _ front in and_from _ _ p.0 (taken_all q n cs p.1 back)
-
-front_part : (front name : List ℕ) → list_all is_part front ≡ true → has_front front name ≡ true → list_all is_part name ≡ true
-front_part front name good has =
-    let p = and_parts _ _ (and_parts _ _ has).1 in
-    let serial : list_all is_word_octet (drop (length front) name) ≡ true = (and_parts _ _ p.1).1 in
-    let same : take (length front) name ≡ front = (bytes_eq-Decides (take (length front) name) front).0 p.0 in
-    taken_all is_part (length front) name (ap (list_all is_part) same ∙ good) (also is_word_octet is_part word_part (drop (length front) name) serial)
-
--- the name of a half has neither a space nor a comma
-pub half_name_part : (name : List ℕ) → is_sad_name name ≡ true → list_all is_part name ≡ true
-half_name_part name is = elim (or_cases (has_front (codes "in/") name) (has_front (codes "out/") name) is) [
-  | inl x ↦ front_part (codes "in/") name refl x
-  | inr y ↦ front_part (codes "out/") name refl y
-]
-
-pub half_name_word : (name : List ℕ) → is_sad_name name ≡ true → list_all is_graph name ≡ true
-half_name_word name is = as_graph name (half_name_part name is)
-
-pub half_name_long : (name : List ℕ) → is_sad_name name ≡ true → 3 ≤ length name
-half_name_long name is = elim (or_cases (has_front (codes "in/") name) (has_front (codes "out/") name) is) [
-  | inl x ↦ leb-true 3 (length name) (and_parts _ _ x).0
-  | inr y ↦ let four = leb-true 4 (length name) (and_parts _ _ y).0 in omega (arith, four)
-]

@@ -25,15 +25,20 @@ use Rattle.hist_acts.specs.Gateways.{is_named as is_gateway_of}
 use Rattle.script_lines.specs.declared.act.Packet.{Packet}
 use Rattle.script_lines.specs.declared.act.Sealed.{Sealed}
 use Rattle.script_lines.specs.declared.act.Opening.{Opening}
-use Rattle.script_lines.specs.Words.{◌>>=◌, words, is_printable, known_of, octets_of, number_in}
-use Rattle.script_lines.specs.Event.{unless_fault, time_in, reqid_in, gateway_in}
-use Rattle.script_lines.specs.Text.{hex_text, why_text, lane_text, gone_text, entry_text, line_text, act_words, act_text}
+use Rattle.line_words.specs.Words.{◌>>=◌, words, is_printable, known_of, octets_of, number_in}
+use Rattle.line_words.specs.Entry.{unless_fault}
+use Rattle.event_lines.specs.Event.{time_in, reqid_in, gateway_in}
+use Rattle.line_words.specs.Text.{hex_text, lane_text, entry_text, line_text}
+use Rattle.script_lines.specs.Text.{why_text, gone_text, act_words, act_text}
 use Rattle.script_lines.specs.Act.{why_of, gone_of, refusal_of, force_in, packet_in, sealed_of, sealed_in, drop_in, gone_at, gone_in, opening_in, shown_of, under_way_at, under_way_in, refused_in, base_act_in, packet_act_in, act_in, as_spelled, act_of}
-use Rattle.script_lines.specs.Spelling.{are_spelled, IsListed, IsActUnder, AreOctets, IsEntry, IsAct}
-use Rattle.script_lines.proofs.PartText.{is_graph}
-use Rattle.script_lines.proofs.ActLine.{act_line, half_name_word}
+use Rattle.line_words.specs.Spelling.{are_spelled, IsListed, AreOctets, IsEntry}
+use Rattle.script_lines.specs.Spelling.{IsActUnder, IsAct}
+use Rattle.line_words.proofs.PartText.{is_graph}
+use Rattle.line_words.proofs.HalfNames.{half_name_word}
+use Rattle.script_lines.proofs.ActLine.{act_line}
 use Rattle.script_lines.proofs.SessionActs.{put_line, order_line, handled_line, answered_line, notice_line, heard_line}
-use Rattle.script_lines.proofs.LineText.{AreWords, ReadsDigits, line_words, line_printable, number_word, number_again, lane_read, lane_word, named_spelled, name_word, hex_word, hex_read, list_read, list_words, few_words}
+use Rattle.line_words.proofs.EntryText.{number_again}
+use Rattle.line_words.proofs.LineText.{AreWords, ReadsDigits, line_words, line_printable, number_word, lane_read, lane_word, named_spelled, name_word, hex_word, hex_read, list_read, list_words, few_words}
 
 -- ---- why a packet is dropped
 

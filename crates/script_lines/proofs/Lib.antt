@@ -1,16 +1,7 @@
-pub mod EachLemmas
-pub mod PartText
-pub mod EntryText
-pub mod LineText
-pub mod LimitsText
 pub mod ActLine
-pub mod HalfText
 pub mod SessionActs
 pub mod ActText
-pub mod EventText
 pub mod SpelledAct
-pub mod TakenSteps
 pub mod SpelledSession
 pub mod SpelledText
-pub mod SpelledEvent
 pub mod TextLines

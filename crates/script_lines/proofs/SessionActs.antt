@@ -33,21 +33,23 @@ use Rattle.yang_values.specs.Prefixes.{prefix_text}
 use Rattle.script_lines.specs.declared.session.Place.{Place}
 use Rattle.script_lines.specs.declared.session.Replied.{Replied}
 use Rattle.script_lines.specs.declared.session.Noticed.{Noticed}
-use Rattle.script_lines.specs.Words.{◌>>=◌, known_of, half_name_of, number_in, each}
-use Rattle.script_lines.specs.Entry.{is_comma, selector_in}
-use Rattle.script_lines.specs.Event.{unless_fault}
-use Rattle.script_lines.specs.Half.{half_of}
-use Rattle.script_lines.specs.Limits.{limits_of}
+use Rattle.line_words.specs.Words.{◌>>=◌, known_of, half_name_of, number_in, each}
+use Rattle.line_words.specs.Entry.{is_comma, selector_in, unless_fault}
+use Rattle.line_words.specs.Half.{half_of}
+use Rattle.line_words.specs.Limits.{limits_of}
 use Rattle.script_lines.specs.Session.{place_of, listed_in, read_in, put_in, remove_of, remove_in, order_of, tag_of, names_of, answer_of, replied_of, replied_in, is_whole, has_proto, is_one_port, is_packet, policy_name_of, packet_of, acquire_of, acquire_in, soft_of, expire_of, expire_in, overflow_of, overflow_in, bad_spi_in, notice_of, noticed_of, noticed_in}
-use Rattle.script_lines.specs.Text.{hex_text, entry_text, limits_text, proto_text, ports_text, selector_text, half_text, names_text, tag_word, soft_text, order_words, answer_words, notice_words, act_text}
+use Rattle.line_words.specs.Text.{hex_text, entry_text, limits_text, proto_text, ports_text, selector_text, half_text}
+use Rattle.script_lines.specs.Text.{names_text, tag_word, soft_text, order_words, answer_words, notice_words, act_text}
 use Rattle.script_lines.specs.Act.{put_at, put_in as install_in, order_at, order_in, session_act_in, base_act_in, packet_act_in, act_in, act_of}
-use Rattle.script_lines.specs.Spelling.{ArePorts, IsListed, IsHalfName, AreHalfNames, IsInstallable, IsOrderSpelled, IsNoticeSpelled, IsSelector, IsEntry, IsHalf, AreLimits, IsOrder, IsNotice}
-use Rattle.script_lines.proofs.PartText.{is_part, is_graph, path_part, also, as_graph, all_behind, each_holds, split_behind}
-use Rattle.script_lines.proofs.EntryText.{prefix_is_part, proto_is_part, ports_are_part, selector_parts, selector_read, no_comma}
-use Rattle.script_lines.proofs.LineText.{AreWords, ReadsDigits, number_word, number_again, name_word, list_read, list_words, few_words}
-use Rattle.script_lines.proofs.LimitsText.{limits_read, limits_part}
-use Rattle.script_lines.proofs.ActLine.{act_line, half_name_part, half_name_word, half_name_long}
-use Rattle.script_lines.proofs.HalfText.{half_read, half_graph}
+use Rattle.line_words.specs.Spelling.{ArePorts, IsListed, IsHalfName, IsInstallable, IsSelector, IsEntry, IsHalf, AreLimits}
+use Rattle.script_lines.specs.Spelling.{AreHalfNames, IsOrderSpelled, IsNoticeSpelled, IsOrder, IsNotice}
+use Rattle.line_words.proofs.PartText.{is_part, is_graph, path_part, also, as_graph, all_behind, each_holds, split_behind}
+use Rattle.line_words.proofs.EntryText.{prefix_is_part, proto_is_part, ports_are_part, selector_parts, selector_read, no_comma, number_again}
+use Rattle.line_words.proofs.LineText.{AreWords, ReadsDigits, number_word, name_word, list_read, list_words, few_words}
+use Rattle.line_words.proofs.LimitsText.{limits_read, limits_part}
+use Rattle.line_words.proofs.HalfNames.{half_name_part, half_name_word, half_name_long}
+use Rattle.script_lines.proofs.ActLine.{act_line}
+use Rattle.line_words.proofs.HalfText.{half_read, half_graph}
 
 -- ---- halves
 

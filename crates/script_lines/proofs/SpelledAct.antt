@@ -7,7 +7,7 @@ use Rattle.ikl_base.specs.declared.status.LineFault.{LineFault}
 use Rattle.ikl_base.specs.declared.status.LineFault.TheVariants as faults
 use Rattle.ikeless_tree.specs.declared.command.Peer.{Peer}
 use Rattle.hist_acts.specs.declared.act.Act.{Act}
-use Rattle.script_lines.specs.Words.{◌>>=◌, words, is_printable}
+use Rattle.line_words.specs.Words.{◌>>=◌, words, is_printable}
 use Rattle.script_lines.specs.Text.{act_text}
 use Rattle.script_lines.specs.Act.{act_in, spelling_fault, as_spelled, act_of}
 

@@ -23,15 +23,15 @@ use Rattle.hist_acts.specs.Gateways.{is_named}
 use Rattle.script_lines.specs.declared.session.Place.{Place}
 use Rattle.script_lines.specs.declared.session.Replied.{Replied}
 use Rattle.script_lines.specs.declared.session.Noticed.{Noticed}
-use Rattle.script_lines.specs.Words.{◌>>=◌, each, known_of, half_name_of, number_in}
-use Rattle.script_lines.specs.Entry.{is_comma, selector_in, entries_of}
-use Rattle.script_lines.specs.Event.{unless_fault}
-use Rattle.script_lines.specs.Half.{half_in, unless_sad_fault, half_of}
-use Rattle.script_lines.specs.Limits.{limits_of}
+use Rattle.line_words.specs.Words.{◌>>=◌, each, known_of, half_name_of, number_in}
+use Rattle.line_words.specs.Entry.{is_comma, selector_in, entries_of, unless_fault}
+use Rattle.line_words.specs.Half.{half_in, unless_sad_fault, half_of}
+use Rattle.line_words.specs.Limits.{limits_of}
 use Rattle.script_lines.specs.Session.{place_of, listed_in, read_in, put_in, remove_of, remove_in, order_of, tag_of, names_of, answer_of, replied_of, replied_in, is_packet, policy_name_of, packet_of, acquire_of, acquire_in, soft_of, expire_of, expire_in, overflow_of, overflow_in, bad_spi_in, notice_of, noticed_of, noticed_in}
 use Rattle.script_lines.specs.Act.{put_at, put_in as install_in, order_at, order_in, session_act_in}
-use Rattle.script_lines.specs.Spelling.{IsListed, IsHalfName, AreHalfNames, IsInstallable, IsOrderSpelled, IsNoticeSpelled, IsActUnder}
-use Rattle.script_lines.proofs.TakenSteps.{after, passed, either, inside, each_has, listed, known_named}
+use Rattle.line_words.specs.Spelling.{IsListed, IsHalfName, IsInstallable}
+use Rattle.script_lines.specs.Spelling.{AreHalfNames, IsOrderSpelled, IsNoticeSpelled, IsActUnder}
+use Rattle.line_words.proofs.TakenSteps.{after, passed, either, inside, each_has, listed, known_named}
 
 pub half_named : (w n : List ℕ) → half_name_of w ≡ Ok n → is_sad_name n ≡ true
 half_named w n is =

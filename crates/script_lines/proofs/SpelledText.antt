@@ -13,13 +13,15 @@ use Rattle.hist_acts.specs.Gateways.{is_named}
 use Rattle.script_lines.specs.declared.act.Packet.{Packet}
 use Rattle.script_lines.specs.declared.act.Sealed.{Sealed}
 use Rattle.script_lines.specs.declared.act.Opening.{Opening}
-use Rattle.script_lines.specs.Words.{◌>>=◌, words, is_printable, known_of, half_name_of, octets_of, lane_of, number_in}
-use Rattle.script_lines.specs.Entry.{entries_of}
-use Rattle.script_lines.specs.Event.{unless_fault, time_in, reqid_in, gateway_in}
+use Rattle.line_words.specs.Words.{◌>>=◌, words, is_printable, known_of, half_name_of, octets_of, lane_of, number_in}
+use Rattle.line_words.specs.Entry.{entries_of, unless_fault}
+use Rattle.event_lines.specs.Event.{time_in, reqid_in, gateway_in}
 use Rattle.script_lines.specs.Act.{why_of, gone_of, refusal_of, force_in, packet_in, sealed_of, sealed_in, drop_in, gone_at, gone_in, opening_in, shown_of, under_way_at, under_way_in, refused_in, base_act_in, packet_act_in, act_in, act_of, as_spelled, spelling_fault}
-use Rattle.script_lines.specs.Spelling.{IsListed, IsActUnder}
+use Rattle.line_words.specs.Spelling.{IsListed}
+use Rattle.script_lines.specs.Spelling.{IsActUnder}
 use Rattle.script_lines.specs.Text.{act_text}
-use Rattle.script_lines.proofs.TakenSteps.{after, passed, either, inside, listed, known_named}
+use Rattle.event_lines.proofs.SpelledEvent.{gateway_named}
+use Rattle.line_words.proofs.TakenSteps.{after, passed, either, inside, listed, known_named}
 use Rattle.script_lines.proofs.SpelledSession.{half_named, put_under, session_act_under}
 
 force_under : (gateways : List Peer) (ws : List (List ℕ)) (a : Act) → force_in gateways ws ≡ Ok a → IsActUnder gateways a
@@ -124,12 +126,6 @@ refused_under gateways [] a is = cc
 refused_under gateways (w ∷ []) a is =
     after (IsActUnder gateways a) (refusal_of w) _ a is (λ why _ same. let e : acts.Refused why ≡ a = cc in subst (IsActUnder gateways) e tt)
 refused_under gateways (w ∷ x ∷ ws) a is = cc
-
-pub gateway_named : (gateways : List Peer) (ws : List (List ℕ)) (g : List ℕ) → gateway_in gateways ws ≡ Ok g → is_named gateways g ≡ true
-unfolding gateway_in
-gateway_named gateways [] g is = cc
-gateway_named gateways (w ∷ []) g is = known_named gateways w g is
-gateway_named gateways (w ∷ x ∷ ws) g is = cc
 
 base_under : (gateways : List Peer) (w : List ℕ) (ws : List (List ℕ)) (a : Act) → base_act_in gateways w ws ≡ Ok a → IsActUnder gateways a
 unfolding base_act_in

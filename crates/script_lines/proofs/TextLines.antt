@@ -9,12 +9,13 @@ use Rattle.ikeless_tree.specs.declared.command.Peer.{Peer}
 use Rattle.hist_acts.specs.declared.act.Act.{Act}
 use Rattle.yang_values.proofs.JoinedText.{lacks_mark}
 use Rattle.yang_values.proofs.ValueText.{apart}
-use Rattle.script_lines.specs.Words.{◌>>=◌, words, is_printable}
+use Rattle.line_words.specs.Words.{◌>>=◌, words, is_printable}
 use Rattle.script_lines.specs.Act.{act_in, as_spelled, act_of}
-use Rattle.script_lines.specs.Spelling.{are_spelled, IsActUnder, IsAct}
+use Rattle.line_words.specs.Spelling.{are_spelled}
+use Rattle.script_lines.specs.Spelling.{IsActUnder, IsAct}
 use Rattle.script_lines.specs.Text.{act_text, line_of, text_of}
-use Rattle.script_lines.proofs.PartText.{each_holds}
-use Rattle.script_lines.proofs.LineText.{ReadsDigits}
+use Rattle.line_words.proofs.PartText.{each_holds}
+use Rattle.line_words.proofs.LineText.{ReadsDigits}
 use Rattle.script_lines.proofs.ActText.{act_again}
 
 abbrev is_line_end : ℕ → Bool

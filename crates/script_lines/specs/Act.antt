@@ -18,10 +18,10 @@ use Rattle.hist_acts.specs.declared.act.Act.TheVariants as acts
 use Rattle.script_lines.specs.declared.act.Packet.{Packet}
 use Rattle.script_lines.specs.declared.act.Sealed.{Sealed}
 use Rattle.script_lines.specs.declared.act.Opening.{Opening}
-use Rattle.script_lines.specs.Words.{◌>>=◌, words, is_printable, known_of, half_name_of, octets_of, lane_of, number_in}
-use Rattle.script_lines.specs.Entry.{entries_of}
-use Rattle.script_lines.specs.Event.{unless_fault, time_in, reqid_in, gateway_in}
-use Rattle.script_lines.specs.Half.{half_of}
+use Rattle.line_words.specs.Words.{◌>>=◌, words, is_printable, known_of, half_name_of, octets_of, lane_of, number_in}
+use Rattle.line_words.specs.Entry.{entries_of, unless_fault}
+use Rattle.event_lines.specs.Event.{time_in, reqid_in, gateway_in}
+use Rattle.line_words.specs.Half.{half_of}
 use Rattle.script_lines.specs.Session.{place_of, order_of, replied_in, noticed_in}
 use Rattle.script_lines.specs.Text.{act_text}
 

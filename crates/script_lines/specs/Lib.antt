@@ -1,10 +1,3 @@
-pub mod Parts
-pub mod Words
-pub mod Entry
-pub mod Header
-pub mod Limits
-pub mod Event
-pub mod Half
 pub mod Session
 pub mod Text
 pub mod Act

@@ -21,11 +21,10 @@ use Rattle.ikeless_tree.specs.declared.reply.Tag.TheVariants as tags
 use Rattle.script_lines.specs.declared.session.Place.{Place}
 use Rattle.script_lines.specs.declared.session.Replied.{Replied}
 use Rattle.script_lines.specs.declared.session.Noticed.{Noticed}
-use Rattle.script_lines.specs.Words.{◌>>=◌, known_of, number_in, each, half_name_of}
-use Rattle.script_lines.specs.Entry.{is_comma, selector_in, entries_of}
-use Rattle.script_lines.specs.Event.{unless_fault}
-use Rattle.script_lines.specs.Half.{half_of}
-use Rattle.script_lines.specs.Limits.{limits_of}
+use Rattle.line_words.specs.Words.{◌>>=◌, known_of, number_in, each, half_name_of}
+use Rattle.line_words.specs.Entry.{is_comma, selector_in, entries_of, unless_fault}
+use Rattle.line_words.specs.Half.{half_of}
+use Rattle.line_words.specs.Limits.{limits_of}
 
 -- a gateway, the number of its session, and that of a request in it
 unfoldable pub place_of : List Peer → List ℕ → List ℕ → List ℕ → Result Place LineFault

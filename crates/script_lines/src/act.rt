@@ -4,20 +4,19 @@ ghost use Rattle.std.specs.Str.{bytes_eq};
 ghost use Rattle.ikl_base.specs.Answers.{Gives};
 ghost use Rattle.ikeless_tree.specs.Words.{refusal_text};
 ghost use Rattle.hist_acts.specs.declared.act.Act.TheVariants as acts;
-ghost use Rattle.script_lines.specs.Parts.{texts};
+ghost use Rattle.line_words.specs.Parts.{texts};
 ghost use Rattle.script_lines.specs.Act.{why_of, gone_of, refusal_of, force_in, put_at, put_in, packet_in, sealed_of, sealed_in, drop_in, gone_at, gone_in, opening_in, shown_of, under_way_at, under_way_in, refused_in, order_at, order_in, session_act_in, base_act_in, packet_act_in, act_in, spelling_fault, as_spelled, act_of};
 
-use crate::entry::entries;
-use crate::event::{MOST_ENTRIES, known_alone, reqid, time};
-use crate::half::half;
-use crate::header::are_text;
-use crate::parts::{is_word, parts};
 use crate::session::{Replied, noticed_from, order_from, place_from, replied_from};
-use crate::words::{half_name, known, lane, octets, u32_from, u64_from};
 use crate::write::put_act;
+use event_lines::{known_alone, reqid, time};
 use hist_acts::{Act, Header};
 use ikeless_tree::{DropWhy, GoneWhy, Peers, Refusal, check_spd};
 use ikl_base::{LineFault, Name, Octets, OrMemory};
+use line_words::{
+    MOST_ENTRIES, are_text, entries, half, half_name, is_word, known, lane, octets, parts,
+    u32_from, u64_from,
+};
 use std::alloc::Global;
 
 /// The most octets of a lane that are shown.

@@ -2,18 +2,10 @@
 ghost use Rattle.std.specs.Prelude.{◌≡◌, ℕ, List, Ok, All, IsTrue};
 ghost use Rattle.ikeless_tree.specs.declared.command.Peer.{Peer};
 ghost use Rattle.hist_acts.specs.declared.act.Act.{Act};
-ghost use Rattle.hist_acts.specs.declared.event.Event.{Event};
-ghost use Rattle.hist_acts.specs.declared.event.Header.{Header};
+ghost use Rattle.line_words.specs.Spelling.{are_spelled};
 ghost use Rattle.script_lines.specs.Act.{act_of};
-ghost use Rattle.script_lines.specs.Event.{event_of};
-ghost use Rattle.script_lines.specs.Header.{header_of};
-ghost use Rattle.script_lines.specs.Spelling.{are_spelled, IsActUnder, IsEventUnder, IsAct, IsEvent};
-ghost use Rattle.script_lines.specs.Text.{act_text, event_text, text_of};
-
-/// The gateways of a header have names that a line can spell.
-pub fn headers_name_gateways()
-    ensures { (line : List ℕ) (h : Header) → header_of line ≡ Ok h → IsTrue (are_spelled h.gateways) }
-{}
+ghost use Rattle.script_lines.specs.Spelling.{IsActUnder, IsAct};
+ghost use Rattle.script_lines.specs.Text.{act_text, text_of};
 
 /// A line that is read as an act is the text of that act, and the act is one that a line can spell.
 pub fn read_acts_are_spelled()
@@ -21,23 +13,10 @@ pub fn read_acts_are_spelled()
     ensures act { (gateways : List Peer) (line : List ℕ) (a : Act) → act_of gateways line ≡ Ok a → IsActUnder gateways a }
 {}
 
-/// A line that is read as an event is one of an event that a line can spell.
-pub fn read_events_are_spelled()
-    ensures { (gateways : List Peer) (line : List ℕ) (e : Event) → event_of gateways line ≡ Ok e → IsEventUnder gateways e }
-{}
-
 /// The text of an act is read as that act.
 pub fn act_read_again()
     ensures { (gateways : List Peer) (a : Act) → IsTrue (are_spelled gateways) → IsActUnder gateways a → IsAct a
         → act_of gateways (act_text a) ≡ Ok a }
-{
-    yang_values::digits_read_again();
-}
-
-/// The line of an event in its canonical spelling is read as that event.
-pub fn event_read_again()
-    ensures { (gateways : List Peer) (e : Event) → IsTrue (are_spelled gateways) → IsEventUnder gateways e → IsEvent e
-        → event_of gateways (event_text e) ≡ Ok e }
 {
     yang_values::digits_read_again();
 }

@@ -3,20 +3,18 @@ ghost use Rattle.std.specs.Prelude.{◌≡◌};
 ghost use Rattle.std.specs.Str.{bytes_eq};
 ghost use Rattle.ikl_base.specs.Answers.{Gives};
 ghost use Rattle.ikeless_tree.specs.Words.{tag_text};
-ghost use Rattle.script_lines.specs.Parts.{texts};
-ghost use Rattle.script_lines.specs.Words.{each, half_name_of};
+ghost use Rattle.line_words.specs.Parts.{texts};
+ghost use Rattle.line_words.specs.Words.{each, half_name_of};
 ghost use Rattle.script_lines.specs.Session.{place_of, listed_in, read_in, put_in, remove_of, remove_in, order_of, tag_of, names_of, answer_of, replied_of, replied_in, is_whole, has_proto, is_one_port, is_packet, policy_name_of, packet_of, acquire_of, acquire_in, soft_of, expire_of, expire_in, overflow_of, overflow_in, bad_spi_in, notice_of, noticed_of, noticed_in};
 
-use crate::entry::{entries, selector_from};
-use crate::event::MOST_ENTRIES;
-use crate::half::half;
-use crate::limits::limits;
-use crate::parts::{is_word, parts};
-use crate::words::{half_name, known, u16_from, u32_from, u64_from};
 use ikeless_tree::{
     Answer, Names, Notice, Order, Peers, Range, Selector, Tag, check_spd, names_policy,
 };
 use ikl_base::{Addr, LineFault, ListOf, Name, OrMemory, Prefix};
+use line_words::{
+    MOST_ENTRIES, entries, half, half_name, is_word, known, limits, parts, selector_from, u16_from,
+    u32_from, u64_from,
+};
 use std::alloc::Global;
 
 /// A request in a session of a gateway.

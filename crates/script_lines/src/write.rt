@@ -3,40 +3,17 @@ ghost use Rattle.std.specs.Prelude.{◌≡◌, ◌++◌, ◌∷◌, [], IfOk, On
 ghost use Rattle.std.specs.List.{flat_map};
 ghost use Rattle.std.specs.Fmt.{decimal};
 ghost use Rattle.ikeless_tree.specs.Words.{refusal_text};
-ghost use Rattle.script_lines.specs.Text.{hex_text, why_text, lane_text, gone_text, half_text, spaced, line_text, direction_text, action_text, proto_text, range_text, more_ranges_text, ports_text, prefixes_text, both_ports_text, selector_text, name_text, use_text, entry_text, entries_text, act_text, line_of, text_of};
+ghost use Rattle.line_words.specs.Text.{hex_text, lane_text, half_text, spaced, line_text, entry_text};
+ghost use Rattle.script_lines.specs.Text.{why_text, gone_text, act_text, line_of, text_of};
 
 use crate::write_session::{put_answer, put_half_word, put_notice, put_order};
 use hist_acts::{Act, Acts, Header};
-use ikeless_tree::{
-    Action, Direction, DropWhy, Entries, GoneWhy, Lane, Ports, Range, Refusal, SadEntry, Selector,
-    SpdEntry,
-};
+use ikeless_tree::{DropWhy, Entries, GoneWhy, Lane, Refusal, SadEntry};
 use ikl_base::{Name, NoMemory, Octets};
+use line_words::{
+    put, put_entry_words, put_hex_word, put_lane_word, put_number_word, put_octet, put_word,
+};
 use std::alloc::Global;
-use yang_values::{put_digits, put_number, put_prefix};
-
-/// Adds a text.
-pub fn put(out: &mut Vec<u8>, text: &[u8]) -> Result<(), NoMemory>
-    ensures { OnOk result (out.new.items ≡ out.old.items ++ text.now) }
-{
-    Ok(out.extend_from_slice(text)?)
-}
-
-/// Adds an octet.
-pub fn put_octet(out: &mut Vec<u8>, octet: u8) -> Result<(), NoMemory>
-    ensures { OnOk result (out.new.items ≡ out.old.items ++ octet ∷ []) }
-{
-    Ok(out.push(octet)?)
-}
-
-fn put_hex(out: &mut Vec<u8>, octets: &[u8]) -> Result<(), NoMemory>
-    ensures { OnOk result (out.new.items ≡ out.old.items ++ hex_text octets.now) }
-{
-    match octets {
-        [] => put(out, b"-"),
-        [_, ..] => put_digits(out, octets),
-    }
-}
 
 fn put_why(out: &mut Vec<u8>, why: DropWhy) -> Result<(), NoMemory>
     ensures { OnOk result (out.new.items ≡ out.old.items ++ why_text why) }
@@ -63,152 +40,6 @@ fn put_why(out: &mut Vec<u8>, why: DropWhy) -> Result<(), NoMemory>
     }
 }
 
-fn put_direction(out: &mut Vec<u8>, direction: Direction) -> Result<(), NoMemory>
-    ensures { OnOk result (out.new.items ≡ out.old.items ++ direction_text direction) }
-{
-    match direction {
-        Direction::In => put(out, b"in"),
-        Direction::Out => put(out, b"out"),
-    }
-}
-
-fn put_action(out: &mut Vec<u8>, action: Action) -> Result<(), NoMemory>
-    ensures { OnOk result (out.new.items ≡ out.old.items ++ action_text action) }
-{
-    match action {
-        Action::Protect => put(out, b"protect"),
-        Action::Bypass => put(out, b"bypass"),
-        Action::Discard => put(out, b"discard"),
-    }
-}
-
-fn put_proto(out: &mut Vec<u8>, proto: Option<u8>) -> Result<(), NoMemory>
-    ensures { OnOk result (out.new.items ≡ out.old.items ++ proto_text proto) }
-{
-    match proto {
-        None => put(out, b"any"),
-        Some(n) => put_number(out, u64::from(n)),
-    }
-}
-
-fn put_range(out: &mut Vec<u8>, range: &Range) -> Result<(), NoMemory>
-    ensures { OnOk result (out.new.items ≡ out.old.items ++ range_text range.now) }
-{
-    put_number(out, u64::from(range.start))?;
-    put_octet(out, b'-')?;
-    put_number(out, u64::from(range.end))
-}
-
-fn put_more_ranges(out: &mut Vec<u8>, ranges: &[Range]) -> Result<(), NoMemory>
-    ensures { OnOk result (out.new.items ≡ out.old.items ++ more_ranges_text ranges.now) }
-{
-    for range in ranges {
-        put_octet(out, b'+')?;
-        put_range(out, range)?;
-    }
-    Ok(())
-}
-
-fn put_ports(out: &mut Vec<u8>, ports: &Ports) -> Result<(), NoMemory>
-    ensures { OnOk result (out.new.items ≡ out.old.items ++ ports_text ports.now) }
-{
-    match ports.as_slice() {
-        [] => put(out, b"any"),
-        [first, more @ ..] => {
-            put_range(out, first)?;
-            put_more_ranges(out, more)
-        }
-    }
-}
-
-fn put_prefixes(out: &mut Vec<u8>, selector: &Selector) -> Result<(), NoMemory>
-    ensures { OnOk result (out.new.items ≡ out.old.items ++ prefixes_text selector.now) }
-{
-    put_prefix(out, &selector.local)?;
-    put_octet(out, b',')?;
-    put_prefix(out, &selector.remote)
-}
-
-fn put_both_ports(out: &mut Vec<u8>, selector: &Selector) -> Result<(), NoMemory>
-    ensures { OnOk result (out.new.items ≡ out.old.items ++ both_ports_text selector.now) }
-{
-    put_ports(out, &selector.local_ports)?;
-    put_octet(out, b',')?;
-    put_ports(out, &selector.remote_ports)
-}
-
-/// A selector, with commas between its parts.
-#[tactic(auto, unfolding(crate::specs::Text::selector_text))]
-pub fn put_selector(out: &mut Vec<u8>, selector: &Selector) -> Result<(), NoMemory>
-    ensures { OnOk result (out.new.items ≡ out.old.items ++ selector_text selector.now) }
-{
-    put_prefixes(out, selector)?;
-    put_octet(out, b',')?;
-    put_proto(out, selector.proto)?;
-    put_octet(out, b',')?;
-    put_both_ports(out, selector)
-}
-
-fn put_name(out: &mut Vec<u8>, entry: &SpdEntry) -> Result<(), NoMemory>
-    ensures { OnOk result (out.new.items ≡ out.old.items ++ name_text entry.now) }
-{
-    put(out, entry.name.as_slice())?;
-    put_octet(out, b',')?;
-    put_direction(out, entry.direction)
-}
-
-fn put_use(out: &mut Vec<u8>, entry: &SpdEntry) -> Result<(), NoMemory>
-    ensures { OnOk result (out.new.items ≡ out.old.items ++ use_text entry.now) }
-{
-    put_number(out, entry.reqid)?;
-    put_octet(out, b',')?;
-    put_action(out, entry.action)
-}
-
-#[tactic(auto, unfolding(crate::specs::Text::entry_text))]
-fn put_entry(out: &mut Vec<u8>, entry: &SpdEntry) -> Result<(), NoMemory>
-    ensures { OnOk result (out.new.items ≡ out.old.items ++ entry_text entry.now) }
-{
-    put_name(out, entry)?;
-    put_octet(out, b',')?;
-    put_use(out, entry)?;
-    put_octet(out, b',')?;
-    put_selector(out, &entry.selector)
-}
-
-fn put_entries(out: &mut Vec<u8>, list: &[SpdEntry]) -> Result<(), NoMemory>
-    ensures { OnOk result (out.new.items ≡ out.old.items ++ entries_text list.now) }
-{
-    for entry in list {
-        put_octet(out, b' ')?;
-        put_entry(out, entry)?;
-    }
-    Ok(())
-}
-
-/// A word after a space.
-pub fn put_word(out: &mut Vec<u8>, word: &[u8]) -> Result<(), NoMemory>
-    ensures { OnOk result (out.new.items ≡ out.old.items ++ 32 ∷ word.now) }
-{
-    put_octet(out, b' ')?;
-    put(out, word)
-}
-
-/// A number after a space.
-pub fn put_number_word(out: &mut Vec<u8>, n: u64) -> Result<(), NoMemory>
-    ensures { OnOk result (out.new.items ≡ out.old.items ++ 32 ∷ decimal n) }
-{
-    put_octet(out, b' ')?;
-    put_number(out, n)
-}
-
-fn put_hex_word(out: &mut Vec<u8>, octets: &Octets) -> Result<(), NoMemory>
-    ensures { OnOk result (out.new.items ≡ out.old.items ++ 32 ∷ hex_text octets.now) }
-{
-    put_octet(out, b' ')?;
-    put_hex(out, octets.as_slice())
-}
-
 fn put_why_word(out: &mut Vec<u8>, why: DropWhy) -> Result<(), NoMemory>
     ensures { OnOk result (out.new.items ≡ out.old.items ++ 32 ∷ why_text why) }
 {
@@ -222,16 +53,6 @@ fn put_end_word(out: &mut Vec<u8>, why: GoneWhy) -> Result<(), NoMemory>
     match why {
         GoneWhy::Removed => put_word(out, b"removed"),
         GoneWhy::Hard => put_word(out, b"hard"),
-    }
-}
-
-fn put_lane_word(out: &mut Vec<u8>, lane: Lane) -> Result<(), NoMemory>
-    ensures { OnOk result (out.new.items ≡ out.old.items ++ 32 ∷ lane_text lane) }
-{
-    match lane {
-        Lane::Down => put_word(out, b"down"),
-        Lane::Up => put_word(out, b"up"),
-        Lane::Note => put_word(out, b"note"),
     }
 }
 
@@ -261,14 +82,6 @@ fn put_counted(out: &mut Vec<u8>, what: &[u8], n: u64) -> Result<(), NoMemory>
 {
     put(out, what)?;
     put_number_word(out, n)
-}
-
-/// Entries, each after a space.
-pub fn put_entry_words(out: &mut Vec<u8>, list: &[SpdEntry]) -> Result<(), NoMemory>
-    ensures { OnOk result (out.new.items ≡ out.old.items ++ spaced (map entry_text list.now)) }
-{
-    put_entries(out, list)?;
-    Ok(())
 }
 
 fn put_policy(out: &mut Vec<u8>, g: &Name, list: &Entries) -> Result<(), NoMemory>

@@ -2,14 +2,15 @@
 ghost use Rattle.std.specs.Prelude.{◌≡◌, ◌++◌, ◌∷◌, [], OnOk, codes};
 ghost use Rattle.std.specs.List.{flat_map};
 ghost use Rattle.std.specs.Fmt.{decimal};
-ghost use Rattle.script_lines.specs.Text.{spaced, limits_text, selector_text, half_text, names_text, tag_word, soft_text, order_words, answer_words, notice_words, line_text};
+ghost use Rattle.line_words.specs.Text.{spaced, limits_text, selector_text, half_text, line_text};
+ghost use Rattle.script_lines.specs.Text.{names_text, tag_word, soft_text, order_words, answer_words, notice_words};
 
-use crate::write::{
-    put, put_entry_words, put_number_word, put_octet, put_opening, put_selector, put_word,
-};
-use crate::write_half::{put_half, put_limits};
+use crate::write::put_opening;
 use ikeless_tree::{Answer, Limits, Notice, Order, SadEntry, Selector, Tag};
 use ikl_base::{Name, NoMemory};
+use line_words::{
+    put, put_entry_words, put_half, put_limits, put_number_word, put_octet, put_selector, put_word,
+};
 
 /// A half after a space.
 pub fn put_half_word(out: &mut Vec<u8>, entry: &SadEntry) -> Result<(), NoMemory>

@@ -226,38 +226,42 @@ fn events_have_at_most_256_entries(rt: HostRuntime) -> Result<(), Fail> {
     Ok(())
 }
 
-// What is said of `let a 0f` with this octet at this place.
-fn said_with(place: usize, octet: u8) -> &'static str {
+// The octets that may stand at each place of `let a 0f`, and what is said of a space and of other ones there.
+const PLACES: [(&str, &str, &str); 8] = [
+    ("l", "word", "word"),
+    ("e", "word", "word"),
+    ("t", "word", "word"),
+    ("", "ok", "word"),
+    ("ab", "count", "gateway"),
+    ("", "ok", "count"),
+    ("0123456789abcdefABCDEF", "count", "hex"),
+    ("0123456789abcdefABCDEF", "count", "hex"),
+];
+
+fn said_with(good: &str, space: &'static str, other: &'static str, octet: u8) -> &'static str {
     if octet < 32 || octet > 126 {
-        return "octet";
-    }
-    match place {
-        0 => if octet == b'l' { "ok" } else { "word" },
-        1 => if octet == b'e' { "ok" } else { "word" },
-        2 => if octet == b't' { "ok" } else { "word" },
-        3 => if octet == b' ' { "ok" } else { "word" },
-        5 => if octet == b' ' { "ok" } else { "count" },
-        4 => match octet {
-            b'a' | b'b' => "ok",
-            b' ' => "count",
-            _ => "gateway",
-        },
-        _ => match octet {
-            b'0'..=b'9' | b'a'..=b'f' | b'A'..=b'F' => "ok",
-            b' ' => "count",
-            _ => "hex",
-        },
+        "octet"
+    } else if octet == b' ' {
+        space
+    } else if good.as_bytes().contains(&octet) {
+        "ok"
+    } else {
+        other
     }
 }
 
 #[test]
 fn every_octet_at_every_place(rt: HostRuntime) {
     for place in 0..8usize {
+        let (good, space, other) = PLACES[place];
         for octet in 0..=255u8 {
             let mut line = *b"let a 0f";
             line[place] = octet;
             let got = said(rt.alloc(), line.as_slice());
-            assert!(rt; got == said_with(place, octet), "{octet} at {place}");
+            assert!(rt;
+                got == said_with(good, space, other, octet),
+                "{octet} at {place}"
+            );
         }
     }
 }

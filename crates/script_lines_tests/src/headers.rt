@@ -1,16 +1,16 @@
 // First lines of scripts.
 use crate::said::{row, why};
-use ikl_base::NoMemory;
 use script_lines::read_header;
 use std::alloc::Global;
 use std::process::Abort;
-use std::test::Fail;
 
 const HEADERS: &str = "\
 world seq-last 1 a=192.0.2.1\n\
 world seq-last 4294967295 a=192.0.2.1 b2=192.0.2.2\n\
 world seq-last 70 a=2001:db8::1 b=2001:DB8::2\n\
 world seq-last 70 abcdefghijklmnopqrstuvwxyz012345=192.0.2.1\n\
+world seq-last 70 g0=10.0.0.0 g1=10.0.0.1 g2=10.0.0.2 g3=10.0.0.3 g4=10.0.0.4 g5=10.0.0.5 g6=10.0.0.6 g7=10.0.0.7 g8=10.0.0.8 g9=10.0.0.9 g10=10.0.0.10 g11=10.0.0.11 g12=10.0.0.12 g13=10.0.0.13 g14=10.0.0.14 g15=10.0.0.15\n\
+world seq-last 70 g0=10.0.0.0 g1=10.0.0.1 g2=10.0.0.2 g3=10.0.0.3 g4=10.0.0.4 g5=10.0.0.5 g6=10.0.0.6 g7=10.0.0.7 g8=10.0.0.8 g9=10.0.0.9 g10=10.0.0.10 g11=10.0.0.11 g12=10.0.0.12 g13=10.0.0.13 g14=10.0.0.14 g15=10.0.0.15 g16=10.0.0.16|header\n\
 world seq-last 0 a=192.0.2.1|header\n\
 world seq-last 4294967296 a=192.0.2.1|header\n\
 world seq-last 01 a=192.0.2.1|header\n\
@@ -51,23 +51,4 @@ fn headers(rt: HostRuntime) {
         let (text, want) = row(line);
         assert!(rt; said(rt.alloc(), text) == want, "{text}");
     }
-}
-
-// A header of so many gateways.
-fn of_gateways(alloc: Global, count: u64) -> Result<String, NoMemory> {
-    let mut line = String::from_str(alloc, "world seq-last 70")?;
-    for k in 0..count {
-        let gateway = format!(in alloc; " g{k}=10.0.0.{k}")?;
-        line.push_str(gateway.as_str())?;
-    }
-    Ok(line)
-}
-
-#[test]
-fn headers_have_at_most_16_gateways(rt: HostRuntime) -> Result<(), Fail> {
-    for (count, want) in [(0, "header"), (1, "ok"), (16, "ok"), (17, "header")] {
-        let line = of_gateways(rt.alloc(), count)?;
-        assert!(rt; said(rt.alloc(), line.as_str()) == want, "{count}");
-    }
-    Ok(())
 }

@@ -1,6 +1,6 @@
 use Rattle.std.proofs.Common.{◌≡◌, ◌∙◌, sym}
-use Rattle.script_lines.specs.Words.{half_name_of}
-use Rattle.script_lines.proofs.EachLemmas.{each-end}
+use Rattle.line_words.specs.Words.{half_name_of}
+use Rattle.line_words.proofs.EachLemmas.{each-end}
 use Rattle.script_lines.proofs.session.half_names.Goals as goal
 
 pub returns : goal.returns

@@ -1,6 +1,6 @@
 use Rattle.std.proofs.Common.{◌≡◌, drop}
-use Rattle.script_lines.specs.Parts.{texts}
-use Rattle.script_lines.specs.Words.{onto, each, half_name_of}
+use Rattle.line_words.specs.Parts.{texts}
+use Rattle.line_words.specs.Words.{onto, each, half_name_of}
 use Rattle.script_lines.proofs.session.half_names.Given as goal
 
 abbrev pub invariant-loop-word : goal.invariant-loop-word

@@ -1,0 +1,4 @@
+pub mod Header
+pub mod Event
+pub mod Text
+pub mod Spelling

@@ -1,0 +1,110 @@
+-- How the words of a line are spelled, each in one way.
+use Rattle.std.specs.Prelude.{ℕ, ◌+◌, List, [], ◌∷◌, ◌++◌, Option, Some, None, codes}
+use Rattle.std.specs.List.{flat_map}
+use Rattle.std.specs.Fmt.{decimal}
+use Rattle.yang_values.specs.Addresses.{address_text}
+use Rattle.yang_values.specs.HexText.{digits_text}
+use Rattle.yang_values.specs.Prefixes.{prefix_text}
+use Rattle.ikeless_tree.specs.declared.entry.Range.{Range}
+use Rattle.ikeless_tree.specs.declared.entry.Selector.{Selector}
+use Rattle.ikeless_tree.specs.declared.entry.SpdEntry.{SpdEntry}
+use Rattle.ikeless_tree.specs.declared.entry.Action.{Action}
+use Rattle.ikeless_tree.specs.declared.entry.Action.TheVariants as actions
+use Rattle.ikeless_tree.specs.declared.entry.Direction.{Direction}
+use Rattle.ikeless_tree.specs.declared.entry.Direction.TheVariants as directions
+use Rattle.ikeless_tree.specs.declared.association.Limits.{Limits}
+use Rattle.ikeless_tree.specs.declared.order.Lane.{Lane}
+use Rattle.ikeless_tree.specs.declared.order.Lane.TheVariants as lanes
+use Rattle.ikeless_tree.specs.declared.association.Df.{Df}
+use Rattle.ikeless_tree.specs.declared.association.Df.TheVariants as dfs
+use Rattle.ikeless_tree.specs.declared.association.SadEntry.{SadEntry}
+
+-- octets as digits, or a dash for none
+abbrev pub hex_text : List ℕ → List ℕ
+hex_text [] = codes "-"
+hex_text (b ∷ bs) = digits_text (b ∷ bs)
+
+abbrev pub direction_text : Direction → List ℕ
+direction_text directions.In = codes "in"
+direction_text directions.Out = codes "out"
+
+abbrev pub action_text : Action → List ℕ
+action_text actions.Protect = codes "protect"
+action_text actions.Bypass = codes "bypass"
+action_text actions.Discard = codes "discard"
+
+abbrev pub proto_text : Option ℕ → List ℕ
+proto_text None = codes "any"
+proto_text (Some n) = decimal n
+
+abbrev pub range_text : Range → List ℕ
+range_text r = decimal r.start ++ 45 ∷ decimal r.end
+
+abbrev pub more_ranges_text : List Range → List ℕ
+more_ranges_text rs = flat_map (λ r. 43 ∷ range_text r) rs
+
+-- any port, or the ranges joined by a plus
+abbrev pub ports_text : List Range → List ℕ
+ports_text [] = codes "any"
+ports_text (r ∷ rs) = range_text r ++ more_ranges_text rs
+
+abbrev pub prefixes_text : Selector → List ℕ
+prefixes_text s = prefix_text s.local ++ 44 ∷ prefix_text s.remote
+
+abbrev pub both_ports_text : Selector → List ℕ
+both_ports_text s = ports_text s.local_ports ++ 44 ∷ ports_text s.remote_ports
+
+unfoldable pub selector_text : Selector → List ℕ
+selector_text s = prefixes_text s ++ 44 ∷ (proto_text s.proto ++ 44 ∷ both_ports_text s)
+
+abbrev pub name_text : SpdEntry → List ℕ
+name_text e = e.name ++ 44 ∷ direction_text e.direction
+
+abbrev pub use_text : SpdEntry → List ℕ
+use_text e = decimal e.reqid ++ 44 ∷ action_text e.action
+
+unfoldable pub entry_text : SpdEntry → List ℕ
+entry_text e = name_text e ++ 44 ∷ (use_text e ++ 44 ∷ selector_text e.selector)
+
+-- each entry after a space
+abbrev pub entries_text : List SpdEntry → List ℕ
+entries_text es = flat_map (λ e. 32 ∷ entry_text e) es
+
+abbrev pub lane_text : Lane → List ℕ
+lane_text lanes.Down = codes "down"
+lane_text lanes.Up = codes "up"
+lane_text lanes.Note = codes "note"
+
+-- seconds, octets, packets and idle seconds
+abbrev pub limits_text : Limits → List ℕ
+limits_text l = decimal l.time ++ 47 ∷ (decimal l.bytes ++ 47 ∷ (decimal l.packets ++ 47 ∷ decimal l.idle))
+
+abbrev pub df_text : Df → List ℕ
+df_text dfs.Clear = codes "clear"
+df_text dfs.Set = codes "set"
+df_text dfs.Copy = codes "copy"
+
+abbrev pub half_numbers_text : SadEntry → List ℕ
+half_numbers_text e = decimal e.reqid ++ 44 ∷ (decimal e.spi ++ 44 ∷ decimal e.window)
+
+abbrev pub half_tunnel_text : SadEntry → List ℕ
+half_tunnel_text e = address_text e.local ++ 44 ∷ (address_text e.remote ++ 44 ∷ df_text e.df)
+
+abbrev pub half_lifetimes_text : SadEntry → List ℕ
+half_lifetimes_text e = limits_text e.hard ++ 44 ∷ limits_text e.soft
+
+abbrev pub half_keys_text : SadEntry → List ℕ
+half_keys_text e = digits_text e.key ++ 44 ∷ (half_tunnel_text e ++ 44 ∷ half_lifetimes_text e)
+
+-- fifteen parts with commas between them
+unfoldable pub half_text : SadEntry → List ℕ
+half_text e = e.name ++ 44 ∷ (half_numbers_text e ++ 44 ∷ (selector_text e.selector ++ 44 ∷ half_keys_text e))
+
+-- words, each after a space
+abbrev pub spaced : List (List ℕ) → List ℕ
+spaced ws = flat_map (λ w. 32 ∷ w) ws
+
+-- a line of a first word and more words
+abbrev pub line_text : List (List ℕ) → List ℕ
+line_text [] = []
+line_text (w ∷ ws) = w ++ spaced ws

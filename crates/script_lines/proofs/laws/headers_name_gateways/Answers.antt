@@ -1,5 +1,0 @@
-use Rattle.script_lines.proofs.SpelledEvent.{header_spelled}
-use Rattle.script_lines.proofs.laws.headers_name_gateways.Goals as goal
-
-pub returns : goal.returns
-returns c = header_spelled
