@@ -4,13 +4,11 @@ use Rattle.std.specs.List.{list_all, list_any, slice_split}
 use Rattle.std.specs.Str.{bytes_eq}
 use Rattle.ikl_base.specs.declared.status.LineFault.{LineFault}
 use Rattle.ikl_base.specs.declared.status.LineFault.TheVariants as faults
-use Rattle.ikl_base.specs.declared.address.Addr.{Addr}
-use Rattle.ikl_base.specs.declared.address.Addr.TheVariants.{V4, V6}
 use Rattle.ikl_base.specs.Address.{is_one_family}
 use Rattle.ikeless_tree.specs.Check.{is_gateway}
 use Rattle.ikeless_tree.specs.declared.command.Peer.{Peer}
 use Rattle.hist_acts.specs.declared.event.Header.{Header}
-use Rattle.hist_acts.specs.Gateways.{is_named}
+use Rattle.hist_acts.specs.Gateways.{is_same_address}
 use Rattle.yang_values.specs.Numbers.{number_of}
 use Rattle.yang_values.specs.Addresses.{address_of}
 use Rattle.line_words.specs.Words.{◌>>=◌, or_fault, each, words, is_printable}
@@ -33,12 +31,6 @@ peer_of w = gateway_in (slice_split is_equals w)
 
 abbrev pub peers_of : List (List ℕ) → Result (List Peer) LineFault
 peers_of words = each peer_of words
-
-abbrev pub is_same_address : Addr → Addr → Bool
-is_same_address (V4 a) (V4 b) = bytes_eq a b
-is_same_address (V4 a) (V6 b) = false
-is_same_address (V6 a) (V4 b) = false
-is_same_address (V6 a) (V6 b) = bytes_eq a b
 
 -- two gateways that one header may name: other names, other addresses, one family
 abbrev pub go_together : Peer → Peer → Bool

@@ -1,6 +1,7 @@
 -- The names of halves, of this project, and the ESP octets of datagrams (RFC 4303).
 use Rattle.std.specs.Prelude.{ℕ, ◌==◌, ◌&&◌, Bool, true, false, List, [], ◌++◌, codes, drop, find, Option, Result, Ok, Err, if◌then◌else◌}
 use Rattle.ip_packet.specs.declared.packet.NotPacket.{NotPacket}
+use Rattle.ip_packet.specs.Field.{version}
 use Rattle.ip_packet.specs.View.{Packet, view_of}
 pub use Rattle.ikeless_tree.specs.Half.{is_inbound}
 use Rattle.ikeless_tree.specs.declared.association.SadEntry.{SadEntry}
@@ -19,6 +20,10 @@ payload_of (Err fault) = []
 -- the ESP octets of a datagram: what follows its outer header
 abbrev pub esp_of : List ℕ → List ℕ
 esp_of datagram = payload_of (view_of datagram)
+
+-- the next header of a packet in a tunnel, by its version: 4 for IPv4, 41 for IPv6 (RFC 4303 section 2.6)
+abbrev pub next_header : List ℕ → ℕ
+next_header o = if version o == 4 then 4 else 41
 
 -- the inbound half that an SPI names (RFC 4301 section 4.1)
 abbrev pub by_spi : ℕ → List SadEntry → Option SadEntry

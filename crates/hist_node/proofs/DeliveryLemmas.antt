@@ -8,9 +8,9 @@ use Rattle.esp_frame.specs.Esp.{esp, keying, spi_of}
 use Rattle.esp_frame.specs.Open as open_esp
 use Rattle.hist_acts.specs.declared.act.Act.{Act}
 use Rattle.hist_acts.specs.declared.act.Act.TheVariants as acts
-use Rattle.hist_halves.specs.Sealed.{by_spi, esp_of, number_of, payload_of}
+use Rattle.hist_halves.specs.Sealed.{by_spi, esp_of, number_of, payload_of, next_header}
 use Rattle.hist_halves.specs.Halves.{live, taken}
-use Rattle.hist_node.specs.Datagram.{datagram, next_header, outer_of}
+use Rattle.hist_node.specs.Datagram.{datagram, outer_of}
 use Rattle.hist_node.specs.Arrive as arrive
 use Rattle.hist_node.specs.Block.{Gateway, Arrive, gw_block}
 use Rattle.hist_node.specs.May.{IsDelivery}

@@ -21,11 +21,12 @@ use Rattle.replay_win.specs.Marks.{verdict_over}
 use Rattle.spd_match.specs.Match.{first_entry, holds_packet}
 use Rattle.hist_acts.specs.declared.act.Act.{Act}
 use Rattle.hist_acts.specs.declared.act.Act.TheVariants as acts
+use Rattle.hist_acts.specs.Gateways.{is_same_address}
 use Rattle.hist_acts.specs.Past.{force}
 use Rattle.hist_halves.specs.Sealed.{by_spi, number_of}
 use Rattle.hist_halves.specs.Halves.{live, taken}
 use Rattle.hist_node.specs.Stands.{bad_spi_stands}
-use Rattle.hist_node.specs.Datagram.{fault_why, is_address}
+use Rattle.hist_node.specs.Datagram.{fault_why}
 use Rattle.hist_node.specs.Look.{look, tells}
 use Rattle.hist_node.specs.Let.{unless}
 
@@ -90,7 +91,7 @@ by_entry g o (Some p) = by_action g o p.action
 
 -- the datagram is ESP for the gateway's own address
 abbrev pub is_sealed_for : Addr → Packet → Bool
-is_sealed_for own v = (v.proto == 50) && is_address v.dst own
+is_sealed_for own v = (v.proto == 50) && is_same_address v.dst own
 
 abbrev pub by_view : List ℕ → Addr → List Act → List ℕ → Result Packet NotPacket → List Act
 by_view g own h o (Err fault) = drops g (fault_why fault)

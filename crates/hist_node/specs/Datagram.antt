@@ -1,9 +1,7 @@
 -- What a gateway writes around a packet that it seals (RFC 4301 section 5.1.2, RFC 4303 section 2), and what it says of a packet
 -- that it can't seal.
-use Rattle.std.specs.Prelude.{ℕ, ◌%◌, ◌==◌, ◌≤◌, Bool, true, false, List, [], ◌∷◌, ◌++◌, length, Option, Some, None, if◌then◌else◌}
-use Rattle.std.specs.Str.{bytes_eq}
+use Rattle.std.specs.Prelude.{ℕ, ◌%◌, ◌≤◌, Bool, true, false, List, [], ◌∷◌, ◌++◌, length, Option, Some, None}
 use Rattle.ikl_base.specs.declared.address.Addr.{Addr}
-use Rattle.ikl_base.specs.declared.address.Addr.TheVariants.{V4, V6}
 use Rattle.ikl_base.specs.declared.address.Prefix.{Prefix}
 use Rattle.ikl_base.specs.Address.{bits_of, address_cleared}
 use Rattle.ikl_base.proofs.AddressLemmas.{bits_of-cleared, is_clear_from-cleared}
@@ -12,7 +10,6 @@ use Rattle.std.proofs.Math.Nat.{le_refl}
 use Rattle.ip_packet.specs.declared.packet.NotPacket.{NotPacket}
 use Rattle.ip_packet.specs.declared.packet.NotPacket.TheVariants as faults
 use Rattle.ip_packet.specs.declared.outer.Outer.{Outer}
-use Rattle.ip_packet.specs.Field.{version}
 use Rattle.ip_packet.specs.View.{Packet}
 use Rattle.ip_packet.specs.Outer.{outer_header}
 use Rattle.ikeless_tree.specs.declared.association.Df.{Df}
@@ -24,6 +21,7 @@ use Rattle.ikeless_tree.specs.declared.entry.Selector.{Selector}
 use Rattle.ikeless_tree.specs.declared.reply.DropWhy.{DropWhy}
 use Rattle.ikeless_tree.specs.declared.reply.DropWhy.TheVariants as why
 use Rattle.esp_frame.specs.Esp.{esp, keying}
+use Rattle.hist_halves.specs.Sealed.{next_header}
 use Rattle.spd_match.specs.Match.{local_port, remote_port}
 
 -- why octets that are no packet are dropped
@@ -31,21 +29,11 @@ abbrev pub fault_why : NotPacket → DropWhy
 fault_why faults.Fragment = why.Fragment
 fault_why _ = why.Malformed
 
-abbrev pub is_address : Addr → Addr → Bool
-is_address (V4 a) (V4 b) = bytes_eq a b
-is_address (V4 a) (V6 b) = false
-is_address (V6 a) (V4 b) = false
-is_address (V6 a) (V6 b) = bytes_eq a b
-
 -- the DF bit of the outer header (RFC 4301 section 8.1)
 abbrev pub outer_df : Df → Packet → Bool
 outer_df dfs.Clear v = false
 outer_df dfs.Set v = true
 outer_df dfs.Copy v = v.df
-
--- the next header of a packet in a tunnel: 4 for IPv4, 41 for IPv6
-abbrev pub next_header : List ℕ → ℕ
-next_header o = if version o == 4 then 4 else 41
 
 abbrev pub outer_of : SadEntry → ℕ → Packet → ℕ → Outer
 outer_of e n v size = record { src = e.local; dst = e.remote; df = outer_df e.df v; id = n % 65536; payload = size }

@@ -24,18 +24,19 @@ use Rattle.replay_win.specs.Marks.{verdict_over}
 use Rattle.spd_match.specs.Match.{first_entry, holds_packet}
 use Rattle.hist_acts.specs.declared.act.Act.{Act}
 use Rattle.hist_acts.specs.declared.act.Act.TheVariants as acts
+use Rattle.hist_acts.specs.Gateways.{is_same_address}
 use Rattle.hist_acts.specs.Past.{after, force}
-use Rattle.hist_halves.specs.Sealed.{by_spi, esp_of, is_opened, number_of, other_half, payload_of}
+use Rattle.hist_halves.specs.Sealed.{by_spi, esp_of, is_opened, number_of, other_half, payload_of, next_header}
 use Rattle.hist_halves.specs.Halves.{is_sealed, live, taken}
 use Rattle.hist_node.specs.Stands.{bad_spi_stands}
-use Rattle.hist_node.specs.Datagram.{fault_why, is_address}
+use Rattle.hist_node.specs.Datagram.{fault_why}
 use Rattle.hist_node.specs.Look.{look, tells}
 use Rattle.hist_node.specs.Let.{unless}
 use Rattle.hist_node.specs.Arrive.{arrive_acts, by_action, by_entry, by_half, by_inner, by_packet, by_text, by_verdict, by_view, drops, esp_acts, is_sealed_for, is_told_version, uses}
 use Rattle.hist_node.specs.Block.{Gateway}
 use Rattle.hist_node.specs.May.{AllMay, IsDelivery, IsOpenedArrival, MayDrop, MayFollow, OpensArrival}
 use Rattle.hist_node.proofs.DeliveryLemmas.{delivers-is}
-use Rattle.hist_world.specs.Carried.{ComesTo, Delivers, IsGenuine, IsOpened, IsUndelivered, address_of, keying_of, next_of}
+use Rattle.hist_world.specs.Carried.{ComesTo, Delivers, IsGenuine, IsOpened, IsUndelivered, address_of, keying_of}
 use Rattle.hist_world.specs.Law.{MayAll, MayHappen, is_ready}
 use Rattle.hist_world.proofs.Basics.{no, both, both-left, both-right, eq-nat, name-is, name-self}
 use Rattle.hist_run.specs.Arrivals.{does_open, is_esp_forged, is_forged, is_fresh, is_half_forged, is_view_forged}
@@ -44,13 +45,13 @@ use Rattle.hist_run.proofs.Lets.{Shaped, shaped, shaped-if}
 
 -- ---- addresses and versions
 
-same-address : (a b : Addr) → is_address a b ≡ true → a ≡ b
+same-address : (a b : Addr) → is_same_address a b ≡ true → a ≡ b
 same-address (V4 a) (V4 b) e = ap V4 (name-is a b e)
 same-address (V4 a) (V6 b) e = absurd (no e)
 same-address (V6 a) (V4 b) e = absurd (no e)
 same-address (V6 a) (V6 b) e = ap V6 (name-is a b e)
 
-own-address : (a : Addr) → is_address a a ≡ true
+own-address : (a : Addr) → is_same_address a a ≡ true
 own-address (V4 a) = name-self a
 own-address (V6 a) = name-self a
 
@@ -124,7 +125,7 @@ pub genuine : (gs : List Peer) (g o : List ℕ) (own : Addr) (h : List Act) → 
 genuine gs g o own h at no-forgery = λ half text c opens.
     let b = esp-is o c.packet c.view in
     let same : own ≡ c.packet.dst = let s : Some own ≡ Some c.packet.dst = sym at ∙ c.own in grind (arith, s) in
-    let ours : is_sealed_for own c.packet ≡ true = both (c.packet.proto == 50) (is_address c.packet.dst own) (grind (arith, c.proto)) (subst (λ (z : Addr). is_address z own ≡ true) same (own-address own)) in
+    let ours : is_sealed_for own c.packet ≡ true = both (c.packet.proto == 50) (is_same_address c.packet.dst own) (grind (arith, c.proto)) (subst (λ (z : Addr). is_same_address z own ≡ true) same (own-address own)) in
     let v1 : is_view_forged g own h (Ok c.packet) ≡ false = subst (λ (r : Result Packet NotPacket). is_view_forged g own h r ≡ false) c.view no-forgery in
     let v2 : is_esp_forged g h c.packet.payload ≡ false = subst (λ (t : Bool). (t && is_esp_forged g h c.packet.payload) ≡ false) ours v1 in
     let v3 : is_esp_forged g h (esp_of o) ≡ false = subst (λ (z : List ℕ). is_esp_forged g h z ≡ false) (sym b) v2 in
@@ -139,7 +140,7 @@ genuine gs g o own h at no-forgery = λ half text c opens.
 -- ---- what is given
 
 to-delivery : (gs : List Peer) (c : Gateway) (o x : List ℕ) (n : ℕ) (p : List ℕ) (h : List Act) → address_of gs c.name ≡ Some c.address
-    → (d : Delivers gs c.name o x n p h) → IsDelivery c h o d.comes.packet d.packet d.half d.text (next_of p) p
+    → (d : Delivers gs c.name o x n p h) → IsDelivery c h o d.comes.packet d.packet d.half d.text (next_header p) p
 to-delivery gs c o x n p h at d =
     let v : Packet = d.comes.packet in
     let b = esp-is o v d.comes.view in
@@ -147,12 +148,12 @@ to-delivery gs c o x n p h at d =
     let e : SadEntry = d.half in
     record {
       view = d.comes.view;
-      own = both (v.proto == 50) (is_address v.dst c.address) (grind (arith, d.comes.proto)) (subst (λ (z : Addr). is_address z c.address ≡ true) same (own-address c.address));
+      own = both (v.proto == 50) (is_same_address v.dst c.address) (grind (arith, d.comes.proto)) (subst (λ (z : Addr). is_same_address z c.address ≡ true) same (own-address c.address));
       whole = subst (λ (z : List ℕ). nat_lt (length z) 34 ≡ false) b (long (esp_of o) d.opens.0);
       spi = ap (λ (z : List ℕ). by_spi (spi_of z) (live c.name h)) (sym b) ∙ d.comes.found;
       fresh = ap (λ (z : List ℕ). verdict_over e.window (taken c.name e.name h) (number_of e (taken c.name e.name h) z)) (sym b) ∙ d.comes.fresh;
       opened = ap (λ (z : List ℕ). esp.opened (keying e.spi e.key) z) (sym b) ∙ opened_finds (keying e.spi e.key) (esp_of o) d.text d.opens;
-      packet = packet_finds d.text p (next_of p) d.inner;
+      packet = packet_finds d.text p (next_header p) d.inner;
       inner_view = d.view;
       version = told (version p) (view-version p d.packet d.view);
       held = d.holds;
@@ -163,10 +164,10 @@ same-arrival : (f g o p : List ℕ) (h older : List Act) → acts.Arrived f o �
 same-arrival f g o p h older e = grind (arith, e)
 
 proto-is : (v : Packet) (own : Addr) → is_sealed_for own v ≡ true → v.proto ≡ 50
-proto-is v own e = eq-nat v.proto 50 (both-left (v.proto == 50) (is_address v.dst own) e)
+proto-is v own e = eq-nat v.proto 50 (both-left (v.proto == 50) (is_same_address v.dst own) e)
 
 dst-is : (v : Packet) (own : Addr) → is_sealed_for own v ≡ true → own ≡ v.dst
-dst-is v own e = sym (same-address v.dst own (both-right (v.proto == 50) (is_address v.dst own) e))
+dst-is v own e = sym (same-address v.dst own (both-right (v.proto == 50) (is_same_address v.dst own) e))
 
 -- an arrival that opens comes to a half
 opens-comes : (gs : List Peer) (c : Gateway) (o : List ℕ) (h : List Act) → address_of gs c.name ≡ Some c.address → (a : OpensArrival c (acts.Arrived c.name o ∷ h) c.name)
@@ -187,7 +188,7 @@ gives gs c o x n p h at a =
     let q = opens-comes gs c o h at a.opens in
     let s = same-arrival c.name c.name o a.opens.octets h a.opens.older a.opens.before in
     let view : view_of o ≡ Ok a.opens.outer = ap view_of s.1 ∙ a.opens.view in
-    let m : a.next ≡ next_of p = next-is a.next (version p) a.version in
+    let m : a.next ≡ next_header p = next-is a.next (version p) a.version in
     let i : Inner a.opens.text a.next p = inner-of a.opens.text (record { next = a.next; octets = p }) a.packet in
     record {
       half = a.opens.half;
@@ -284,7 +285,7 @@ given-first gs c o x n p h a rest at parts d =
     let e : SadEntry = d.half in
     let m : ℕ = number_of e (taken c.name e.name h) d.comes.packet.payload in
     let g : Act = acts.Gave c.name e.name m p in
-    let w = delivers-is c h o d.comes.packet d.packet e d.text p (next_of p) (to-delivery gs c o x n p h at d) in
+    let w = delivers-is c h o d.comes.packet d.packet e d.text p (next_header p) (to-delivery gs c o x n p h at d) in
     let after_it = rest-is (acts.Arrived c.name o) (acts.Arrived c.name o) (arrive_acts c.name c.address (acts.Arrived c.name o ∷ h) o) (uses c.name (acts.Arrived c.name o ∷ h) e g) w in
     (m, e.name, first-is a g rest (look c.name (g ∷ acts.Arrived c.name o ∷ h) (e ∷ [])) (sym parts ∙ after_it))
 

@@ -1,5 +1,5 @@
 -- The answer of a gateway to a request of its session may happen in the world.
-use Rattle.std.proofs.Common.{◌≡◌, ℕ, ◌+◌, ◌<◌, ◌≤◌, Bool, true, false, ◌==◌, ◌&&◌, ◌||◌, List, [], ◌∷◌, map, Option, Some, None, Ok, refl, sym, ◌∙◌, ap, inl, inr, ◌⊎◌, arith, if◌then◌else◌}
+use Rattle.std.proofs.Common.{◌≡◌, ℕ, ◌+◌, ◌≤◌, Bool, true, false, ◌==◌, ◌&&◌, ◌||◌, List, [], ◌∷◌, map, Option, Some, None, Ok, refl, sym, ◌∙◌, ap, arith, if◌then◌else◌}
 use Rattle.std.specs.List.{list_any}
 use Rattle.std.specs.Str.{bytes_eq}
 use Rattle.ikeless_tree.specs.declared.association.SadEntry.{SadEntry}
@@ -13,74 +13,46 @@ use Rattle.reply_table.specs.Reply.{Outcome, absent, delete_sad, exists, full, h
 use Rattle.hist_acts.specs.declared.act.Act.{Act}
 use Rattle.hist_acts.specs.declared.act.Act.TheVariants as acts
 use Rattle.hist_acts.specs.Past.{after}
-use Rattle.hist_acts.specs.Sessions.{handled, is_session, next_request, openings, order_at, taken}
+use Rattle.hist_acts.specs.Sessions.{handled, is_session, next_request, order_at, taken}
 use Rattle.hist_halves.specs.Halves.{is_live, live}
 use Rattle.hist_node.specs.Rows.{row_of, tree_of}
-use Rattle.hist_node.specs.May.{has_half}
+use Rattle.hist_node.specs.May.{AreNumbered, has_half}
 use Rattle.hist_node.specs.Handle.{answer_of, handle_acts, reply_acts, requests}
 use Rattle.hist_node.proofs.ReadingsLemmas.{live-is}
+use Rattle.hist_node.proofs.SessionsLemmas.{requests-are}
 use Rattle.hist_world.specs.Law.{IsLawful, MayAll, is_ready}
 use Rattle.hist_world.proofs.Basics.{no, eq-nat, name-is}
-use Rattle.hist_world.proofs.Sessions.{openings-at, taken-last}
+use Rattle.hist_world.proofs.Sessions.{openings-at}
 
 -- ---- the number of a request
 
 no-request : (t : ℕ) (o : Option Order) (q : Order) → t ≡ 0 → (if t == 0 then None else o) ≡ Some q → ⊥
 no-request t o q z e = grind (arith, z, e)
 
--- a session that isn't there has nothing handled
-Idle : List ℕ → ℕ → List Act → Type 0
-Idle g s h = (s ≡ 0) ⊎ (openings g h < s)
-
-idle-not : (b c : Bool) (t s m : ℕ) → (b ≡ true → (t ≡ 0) ⊎ (t ≡ m)) → (t ≡ 0 → ⊥) → (c ≡ true → t ≡ s) → (s ≡ 0) ⊎ (m < s) → (b && c) ≡ false
-idle-not true true t s m last some same (inl z) = absurd (some (same refl ∙ z))
-idle-not true true t s m last some same (inr l) = idle-last (last refl) where
-  idle-last : (t ≡ 0) ⊎ (t ≡ m) → (true && true) ≡ false
-  idle-last (inl z) = absurd (some z)
-  idle-last (inr q) = let e = same refl in grind (arith, q, e, l)
-idle-not true false t s m last some same i = refl
-idle-not false c t s m last some same i = refl
+idle-not : (b c : Bool) → (c ≡ true → ⊥) → (b && c) ≡ false
+idle-not true true none = absurd (none refl)
+idle-not true false none = refl
+idle-not false c none = refl
 
 plus-if : (b : Bool) (n : ℕ) → b ≡ false → n ≡ 0 → (if b then n + 1 else n) ≡ 0
 plus-if true n p q = absurd (no (sym p))
 plus-if false n p q = q
 
-idle-older : (b : Bool) (n s : ℕ) → (s ≡ 0) ⊎ ((if b then n + 1 else n) < s) → (s ≡ 0) ⊎ (n < s)
-idle-older b n s (inl z) = inl z
-idle-older true n s (inr l) = inr (grind (arith, l))
-idle-older false n s (inr l) = inr l
-
-pub idle : (gs : List Peer) (g : List ℕ) (s : ℕ) (h : List Act) → IsLawful gs h → (s ≡ 0) ⊎ (openings g h < s) → handled g s h ≡ 0
-idle gs g s [] l i = refl
-idle gs g s (acts.Handled f t k a ∷ h) l i =
-    let last : (bytes_eq f g ≡ true) → (t ≡ 0) ⊎ (t ≡ openings g h) = λ e.
-    elim (taken-last gs f h l.1) as (λ z. (t ≡ 0) ⊎ (t ≡ openings g h)) [ inl z ↦ inl (l.0.0 ∙ z) | inr z ↦ inr (l.0.0 ∙ z ∙ openings-at f g h e) ] in
+-- nothing is handled without a session
+idle : (gs : List Peer) (g : List ℕ) (h : List Act) → IsLawful gs h → handled g 0 h ≡ 0
+idle gs g [] l = refl
+idle gs g (acts.Handled f t k a ∷ h) l =
     let some : t ≡ 0 → ⊥ = λ z. no-request (taken f h) (order_at f (taken f h) (handled f (taken f h) h + 1) h) l.0.2.0 (sym l.0.0 ∙ z) l.0.2.1 in
-    let b = idle-not (bytes_eq f g) (t == s) t s (openings g h) last some (eq-nat t s) i in
-    plus-if (is_session f t g s) (handled g s h) b (idle gs g s h l.1 i)
-idle gs g s (acts.Opened f t ∷ h) l i = idle gs g s h l.1 (idle-older (bytes_eq f g) (openings g h) s i)
-idle gs g s (a ∷ h) l i = idle gs g s h l.1 i
+    plus-if (is_session f t g 0) (handled g 0 h) (idle-not (bytes_eq f g) (t == 0) (λ e. some (eq-nat t 0 e))) (idle gs g h l.1)
+idle gs g (a ∷ h) l = idle gs g h l.1
 
-count-handled : (b c : Bool) (r n : ℕ) → r ≡ n → (b ≡ true → c ≡ true) → (if b then r + 1 else r) ≡ (if b && c then n + 1 else n)
-count-handled true true r n e p = let q = e in omega (arith, q)
-count-handled true false r n e p = absurd (no (p refl))
-count-handled false c r n e p = e
-
-count-opened : (b : Bool) (s r t : ℕ) (h : List Act) (g : List ℕ) → (b ≡ true → handled g s h ≡ 0) → r ≡ handled g t h → (if b then 0 else r) ≡ handled g (if b then s else t) h
-count-opened true s r t h g p e = sym (p refl)
-count-opened false s r t h g p e = e
-
--- the requests answered in a session are those handled in it
-pub requests-are : (gs : List Peer) (g : List ℕ) (h : List Act) → IsLawful gs h → requests g h ≡ handled g (taken g h) h
-requests-are gs g [] l = refl
-requests-are gs g (acts.Handled f t k a ∷ h) l =
-    let same : (bytes_eq f g ≡ true) → (t == taken g h) ≡ true = λ e. let p = name-is f g e in let q : t ≡ taken g h = l.0.0 ∙ ap (λ (z : List ℕ). taken z h) p in grind (arith, q) in
-    count-handled (bytes_eq f g) (t == taken g h) (requests g h) (handled g (taken g h) h) (requests-are gs g h l.1) same
-requests-are gs g (acts.Opened f s ∷ h) l =
-    let none : (bytes_eq f g ≡ true) → handled g s h ≡ 0 = λ e. let p = l.0.1 in let q = openings-at f g h e in idle gs g s h l.1 (inr (omega (arith, p, q))) in
-    count-opened (bytes_eq f g) s (requests g h) (taken g h) h g none (requests-are gs g h l.1)
-requests-are gs g (acts.Boot f ∷ h) l = count-opened (bytes_eq f g) 0 (requests g h) (taken g h) h g (λ e. idle gs g 0 h l.1 (inl refl)) (requests-are gs g h l.1)
-requests-are gs g (a ∷ h) l = requests-are gs g h l.1
+-- a gateway numbers sessions as they are opened, and a request by the session that it has taken
+pub numbered : (gs : List Peer) (g : List ℕ) (h : List Act) → IsLawful gs h → AreNumbered g h
+numbered gs g [] l = tt
+numbered gs g (acts.Handled f t k a ∷ h) l = ((λ e. l.0.0 ∙ ap (λ (z : List ℕ). taken z h) (name-is f g e)), numbered gs g h l.1)
+numbered gs g (acts.Opened f s ∷ h) l = ((λ e. let p = l.0.1 in let q = openings-at f g h e in omega (arith, p, q)), numbered gs g h l.1)
+numbered gs g (acts.Boot f ∷ h) l = ((λ e. idle gs g h l.1), numbered gs g h l.1)
+numbered gs g (a ∷ h) l = (tt, numbered gs g h l.1)
 
 -- ---- the answer
 
@@ -143,5 +115,5 @@ pub handle-may : (gs : List Peer) (g : List ℕ) (n : ℕ) (o : Order) (h : List
     → Goes gs (acts.Took n ∷ h) (handle_acts g (taken g (acts.Took n ∷ h)) (requests g (acts.Took n ∷ h) + 1) (acts.Took n ∷ h) (Ok (ask_of o)))
 handle-may gs g n o h l next =
     let w : List Act = acts.Took n ∷ h in
-    let m : requests g w + 1 ≡ handled g (taken g w) w + 1 = ap (λ (z : ℕ). z + 1) (requests-are gs g w l) in
+    let m : requests g w + 1 ≡ handled g (taken g w) w + 1 = ap (λ (z : ℕ). z + 1) (requests-are g w (numbered gs g w l)) in
     handle-goes gs g (taken g w) (requests g w + 1) n o h (record { session = refl; number = m; request = next })

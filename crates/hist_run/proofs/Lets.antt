@@ -17,10 +17,10 @@ use Rattle.spd_match.specs.Match.{first_entry, holds_packet}
 use Rattle.hist_acts.specs.declared.act.Act.{Act}
 use Rattle.hist_acts.specs.declared.act.Act.TheVariants as acts
 use Rattle.hist_acts.specs.Past.{after, force}
-use Rattle.hist_halves.specs.Sealed.{esp_of, is_inbound}
+use Rattle.hist_halves.specs.Sealed.{esp_of, is_inbound, next_header}
 use Rattle.hist_halves.specs.Halves.{is_live, live, put_of, sent}
 use Rattle.hist_node.specs.Stands.{acquire_stands, overflow_given}
-use Rattle.hist_node.specs.Datagram.{datagram, fault_why, flow_of, next_header, outer_of}
+use Rattle.hist_node.specs.Datagram.{datagram, fault_why, flow_of, outer_of}
 use Rattle.hist_node.specs.Look.{look, tells}
 use Rattle.hist_node.specs.Let.{by_action, by_entry, by_half, by_view, let_acts, newer, newest, seals, sends, unless}
 use Rattle.hist_node.specs.Block.{Gateway}

@@ -32,7 +32,8 @@ use Rattle.hist_run.specs.Parts.{controllers_part}
 use Rattle.hist_run.specs.Puts.{IsCreated, NoneRefused}
 use Rattle.hist_run.specs.Stands.{Meet}
 use Rattle.hist_run.proofs.Fresh.{name-free, spi-free}
-use Rattle.hist_run.proofs.Handles.{requests-are, row-is-live}
+use Rattle.hist_node.proofs.SessionsLemmas.{requests-are}
+use Rattle.hist_run.proofs.Handles.{numbered, row-is-live}
 use Rattle.hist_run.proofs.Parts.{order-at-part}
 use Rattle.hist_run.proofs.Room.{room}
 use Rattle.hist_run.proofs.Told.{told-at}
@@ -121,7 +122,7 @@ put-made ps w c g e l m names all r next =
 pub next-made : (ps : List Peer) (w : List happened.Act.Act) (c : List Act) (g : List ℕ) (o : tree.Order.Order) → IsLawful ps w → Meet ps w c → Named ps → AllCreated w → is_ready w ≡ true
     → next_request g w ≡ Some o → IsCreated g (taken g w) (requests g w + 1) (answer_of (reply (tree_of g w) (ask_of o))) w
 next-made ps w c g o l m names all r next = λ e q.
-    let k : requests g w + 1 ≡ handled g (taken g w) w + 1 = ap (λ (z : ℕ). z + 1) (requests-are ps g w l) in
+    let k : requests g w + 1 ≡ handled g (taken g w) w + 1 = ap (λ (z : ℕ). z + 1) (requests-are g w (numbered ps g w l)) in
     let same : o ≡ asks.Put e = some-is o (asks.Put e) (sym (next-at g (taken g w) (requests g w + 1) o w refl k next) ∙ q) in
     subst (λ (z : tree.Order.Order). (reply (tree_of g w) (ask_of z)).status ≡ 201) (sym same)
     (put-made ps w c g e l m names all r (next ∙ ap (λ (z : tree.Order.Order). Some z) same))

@@ -7,10 +7,10 @@ use Rattle.ikeless_tree.specs.declared.command.Peer.{Peer}
 use Rattle.hist_acts.specs.declared.act.Act.{Act}
 use Rattle.hist_acts.specs.declared.act.Act.TheVariants as acts
 use Rattle.esp_frame.specs.Esp.{iv_of}
-use Rattle.hist_halves.specs.Sealed.{esp_of, is_inbound}
+use Rattle.hist_halves.specs.Sealed.{esp_of, is_inbound, next_header}
 use Rattle.hist_halves.specs.Halves.{is_half, put_of, sent, was_put}
 use Rattle.hist_world.specs.Orders.{aes_part, in_half, order_of, ordered, out_half, site}
-use Rattle.hist_world.specs.Carried.{Sends, aes_in, keying_of, next_of, was_sealed}
+use Rattle.hist_world.specs.Carried.{Sends, aes_in, keying_of, was_sealed}
 use Rattle.hist_world.specs.Law.{IsLawful, MaySend}
 use Rattle.hist_world.specs.Kept.{Under}
 use Rattle.hist_world.proofs.Basics.{no, both-left, both-right, half-is, half-true, if-old, more, name-is, not-true, or-split, some-is}
@@ -35,7 +35,7 @@ under-more c iv f y n o h u = (u.0, u.1, u.2, u.3, u.4, u.5, u.6, u.7, more (is_
 
 under-now : (f y : List ℕ) (n : ℕ) (p o : List ℕ) (h : List Act) (s : Sends f y n p o h) → Under (aes_part s.half.key) (iv_of (esp_of o)) (acts.Sent f y n o ∷ acts.Let f p ∷ h)
 under-now f y n p o h s =
-    let e : iv_of (esp_of o) ≡ to_be_bytes w64 n = ap (λ (z : List ℕ). iv_of z) s.sealed ∙ esp-iv (keying_of s.half) n (next_of p) p in
+    let e : iv_of (esp_of o) ≡ to_be_bytes w64 n = ap (λ (z : List ℕ). iv_of z) s.sealed ∙ esp-iv (keying_of s.half) n (next_header p) p in
     let q = half-true f y f y refl refl in
     let k : n ≤ (if is_half f y f y then sent f y h + 1 else sent f y h) = rw q (let r = s.number in omega (arith, r)) in
     (f, y, s.half, n, s.put, refl, e, s.small, k, s.outbound)
@@ -84,7 +84,7 @@ key-clash : (gs : List Peer) (g x : List ℕ) (n : ℕ) (p o : List ℕ) (h : Li
 key-clash gs g x n p o h l s u =
     let w = one-half gs u.0 g u.1 x u.2 s.half h l u.4 s.put u.9 s.outbound u.5 in
     let k : u.3 ≤ sent g x h = subst (λ z. u.3 ≤ sent z x h) w.0 (subst (λ z. u.3 ≤ sent u.0 z h) w.1 u.8) in
-    let e : to_be_bytes w64 n ≡ to_be_bytes w64 u.3 = sym (ap (λ (z : List ℕ). iv_of z) s.sealed ∙ esp-iv (keying_of s.half) n (next_of p) p) ∙ u.6 in
+    let e : to_be_bytes w64 n ≡ to_be_bytes w64 u.3 = sym (ap (λ (z : List ℕ). iv_of z) s.sealed ∙ esp-iv (keying_of s.half) n (next_header p) p) ∙ u.6 in
     let a = s.small in
     let b = u.7 in
     let r = iv-once n u.3 (omega (arith, a)) (omega (arith, b)) e in

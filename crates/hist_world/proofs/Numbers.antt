@@ -8,10 +8,10 @@ use Rattle.esp_frame.specs.Esp.{seq_of, spi_of}
 use Rattle.replay_win.specs.Marks.{is_among}
 use Rattle.hist_acts.specs.declared.act.Act.{Act}
 use Rattle.hist_acts.specs.declared.act.Act.TheVariants as acts
-use Rattle.hist_halves.specs.Sealed.{by_spi, esp_of, is_opened, number_of, other_half}
+use Rattle.hist_halves.specs.Sealed.{by_spi, esp_of, is_opened, number_of, other_half, next_header}
 use Rattle.hist_halves.specs.Halves.{arrival_number, is_half, is_sealed, live, number_if, put_of, sent, taken, was_put, with_number}
 use Rattle.hist_world.specs.Orders.{site}
-use Rattle.hist_world.specs.Carried.{ComesTo, is_let, keying_of, next_of, was_sent}
+use Rattle.hist_world.specs.Carried.{ComesTo, is_let, keying_of, was_sent}
 use Rattle.hist_world.specs.Kept.{NumberSent}
 use Rattle.hist_world.specs.Law.{IsLawful, MayDrop, MayGive, MaySend}
 use Rattle.hist_world.proofs.Basics.{both-left, both-right, eq-nat, half-is, if-old, more, name-is, no, or-left, or-split, or-true, some-is}
@@ -141,7 +141,7 @@ number-of-sent : (gs : List Peer) (x b : List ℕ) (n : ℕ) (h : List Act) → 
 number-of-sent gs x b n h l s e =
     let w = sealed-sent gs x b h l s in
     let c = carried gs w.0 x w.1 b w.2 h l w.3 in
-    let k : w.1 ≡ n = sym (ap (λ (z : List ℕ). seq_of z) c.6 ∙ esp-seq (keying_of c.0) w.1 (next_of w.2) w.2 c.5) ∙ e in
+    let k : w.1 ≡ n = sym (ap (λ (z : List ℕ). seq_of z) c.6 ∙ esp-seq (keying_of c.0) w.1 (next_header w.2) w.2 c.5) ∙ e in
     (w.0, b, w.2, subst (λ z. was_sent w.0 x z b w.2 h ≡ true) k w.3)
 
 drop-sent : (gs : List Peer) (f : List ℕ) (why : DropWhy) (g x : List ℕ) (n : ℕ) (h : List Act) → IsLawful gs h → MayDrop gs f why h → f ≡ g → is_opened why ≡ true → arrival_number g x (taken g x h) h ≡ Some n → NumberSent (other_half x) n h

@@ -17,11 +17,11 @@ use Rattle.replay_win.specs.Marks.{is_among, verdict_over}
 use Rattle.replay_win.specs.declared.verdict.Verdict.TheVariants.{Fresh, Old, Seen, Zero}
 use Rattle.hist_acts.specs.declared.act.Act.{Act}
 use Rattle.hist_acts.specs.declared.act.Act.TheVariants as acts
-use Rattle.hist_halves.specs.Sealed.{by_spi, esp_of, is_inbound, number_of, other_half}
+use Rattle.hist_halves.specs.Sealed.{by_spi, esp_of, is_inbound, number_of, other_half, next_header}
 use Rattle.hist_halves.specs.Halves.{is_lapsed, is_live, is_sealed, live, put_of, taken}
 use Rattle.hist_gateway.specs.Safe.{ClearIsLet}
 use Rattle.hist_world.specs.Orders.{in_half, is_doomed, mirrored, order_of, out_half, site}
-use Rattle.hist_world.specs.Carried.{ComesTo, Delivers, IsGenuine, keying_of, next_of, was_given, was_sent}
+use Rattle.hist_world.specs.Carried.{ComesTo, Delivers, IsGenuine, keying_of, was_given, was_sent}
 use Rattle.hist_world.specs.Law.{IsAnswer, IsLawful, MayGive, MayHappen}
 use Rattle.hist_world.specs.Safe.{GaveWasSent, MustGive}
 use Rattle.hist_world.proofs.Basics.{no, name-not, name-true, not-true, some-is}
@@ -76,9 +76,9 @@ gave-by gs g o x n p h l genuine d t e order here =
     let c = carried gs s.0 (out_half t) s.1 (esp_of o) s.2 h l s.3 in
     let i : order_of (in_half t) h ≡ Some d.half = subst (λ y. order_of y h ≡ Some d.half) e order in
     let w = paired gs t c.0 d.half h l c.2 i in
-    let sealed : esp_of o ≡ esp (keying_of d.half) s.1 (next_of s.2) s.2 = c.6 ∙ ap (λ k. esp k s.1 (next_of s.2) s.2) w.0 in
-    let number : n ≡ s.1 = d.number ∙ ap (λ (y : List ℕ). seq_of y) sealed ∙ esp-seq (keying_of d.half) s.1 (next_of s.2) s.2 c.5 in
-    let packet : p ≡ s.2 = one-packet (keying_of d.half) s.1 (next_of s.2) (next_of p) s.2 p (esp_of o) d.text sealed d.opens d.inner in
+    let sealed : esp_of o ≡ esp (keying_of d.half) s.1 (next_header s.2) s.2 = c.6 ∙ ap (λ k. esp k s.1 (next_header s.2) s.2) w.0 in
+    let number : n ≡ s.1 = d.number ∙ ap (λ (y : List ℕ). seq_of y) sealed ∙ esp-seq (keying_of d.half) s.1 (next_header s.2) s.2 c.5 in
+    let packet : p ≡ s.2 = one-packet (keying_of d.half) s.1 (next_header s.2) (next_header p) s.2 p (esp_of o) d.text sealed d.opens d.inner in
     let site_in : site (in_half t) h ≡ g = subst (λ y. site y h ≡ g) e here in
     let apart : bytes_eq (site (out_half t) h) g ≡ false = name-not (site (out_half t) h) g (λ r. no (sym w.3 ∙ name-true (site (in_half t) h) (site (out_half t) h) (site_in ∙ sym r))) in
     let was : was_sent (site (out_half t) h) (out_half t) s.1 (esp_of o) s.2 h ≡ true = subst (λ y. was_sent y (out_half t) s.1 (esp_of o) s.2 h ≡ true) (sym c.3) s.3 in
@@ -167,18 +167,18 @@ delivered gs g o t p half h l m =
     let c = carried gs m.sender (out_half t) m.number (esp_of o) p h l m.unchanged in
     let i = put-order gs g (in_half t) half h l m.put in
     let w = paired gs t c.0 half h l c.2 i.3 in
-    let sealed : esp_of o ≡ esp (keying_of half) m.number (next_of p) p = c.6 ∙ ap (λ k. esp k m.number (next_of p) p) w.0 in
+    let sealed : esp_of o ≡ esp (keying_of half) m.number (next_header p) p = c.6 ∙ ap (λ k. esp k m.number (next_header p) p) w.0 in
     let n = numbered gs t half h l i.3 in
     let low : (keying_of half).spi < 2 ^ 32 = subst (λ (z : ℕ). z < 2 ^ 32) (sym (keying-spi half)) (small-spi t half n) in
-    let spi : spi_of (esp_of o) ≡ half.spi = ap (λ (z : List ℕ). spi_of z) sealed ∙ esp-spi (keying_of half) m.number (next_of p) p low ∙ keying-spi half in
+    let spi : spi_of (esp_of o) ≡ half.spi = ap (λ (z : List ℕ). spi_of z) sealed ∙ esp-spi (keying_of half) m.number (next_header p) p low ∙ keying-spi half in
     let fits : holds_packet half.selector In c.1 ≡ true = subst (λ z. holds_packet z In c.1 ≡ true) (sym w.2) (holds-in c.0.selector c.1 c.8) in
     record {
       half = half;
       comes = comes gs g o t p half h l m i.0 spi;
       name = i.0;
       number = refl;
-      text = padded (pad_len (length p)) (next_of p) p;
-      opens = seals-open (keying_of half) m.number (next_of p) p (esp_of o) sealed;
+      text = padded (pad_len (length p)) (next_header p) p;
+      opens = seals-open (keying_of half) m.number (next_header p) p (esp_of o) sealed;
       inner = (pad_len (length p), refl);
       packet = c.1;
       view = c.7;
@@ -200,7 +200,7 @@ delivers-once gs g o x y m n p q h a b =
     let s = same-found gs g o a.half b.half h a.comes b.comes in
     let e : x ≡ y = sym a.name ∙ ap (λ (z : SadEntry). z.name) s ∙ b.name in
     let k : m ≡ n = a.number ∙ ap (λ (z : List ℕ). number_of a.half (taken g z h) (esp_of o)) e ∙ ap (λ (z : SadEntry). number_of z (taken g y h) (esp_of o)) s ∙ sym b.number in
-    let r : p ≡ q = same-packet a.half b.half (esp_of o) a.text b.text p q (next_of p) (next_of q) s a.opens b.opens a.inner b.inner in
+    let r : p ≡ q = same-packet a.half b.half (esp_of o) a.text b.text p q (next_header p) (next_header q) s a.opens b.opens a.inner b.inner in
     rw (e, k, r) refl
 
 answer-not : (g f o : List ℕ) (q : Order) (a : Answer) (h : List Act) → IsAnswer g q a (acts.Arrived f o ∷ h) → ⊥

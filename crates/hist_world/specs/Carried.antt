@@ -1,9 +1,8 @@
 -- What a datagram carries from gateway to gateway: ESP octets sealed under an outbound half (RFC 4303), and the conditions
 -- under which they are sent and given. A past has its newest act first.
-use Rattle.std.specs.Prelude.{◌≡◌, ℕ, ◌+◌, ◌^◌, ◌<◌, ◌==◌, ◌&&◌, ◌||◌, Bool, true, false, List, [], ◌∷◌, find, Option, Some, None, Ok, if◌then◌else◌}
+use Rattle.std.specs.Prelude.{◌≡◌, ℕ, ◌+◌, ◌^◌, ◌<◌, ◌==◌, ◌&&◌, ◌||◌, Bool, true, false, List, [], ◌∷◌, find, Option, Some, None, Ok}
 use Rattle.std.specs.Str.{bytes_eq}
 use Rattle.ikl_base.specs.declared.address.Addr.{Addr}
-use Rattle.ip_packet.specs.Field.{version}
 use Rattle.ip_packet.specs.View.{Packet, view_of}
 use Rattle.ikeless_tree.specs.declared.association.SadEntry.{SadEntry}
 use Rattle.ikeless_tree.specs.declared.command.Peer.{Peer}
@@ -14,13 +13,9 @@ use Rattle.replay_win.specs.Marks.{verdict_over}
 use Rattle.replay_win.specs.declared.verdict.Verdict.TheVariants.{Fresh}
 use Rattle.hist_acts.specs.declared.act.Act.{Act}
 use Rattle.hist_acts.specs.declared.act.Act.TheVariants as acts
-use Rattle.hist_halves.specs.Sealed.{by_spi, esp_of, is_inbound, number_of, other_half}
+use Rattle.hist_halves.specs.Sealed.{by_spi, esp_of, is_inbound, number_of, other_half, next_header}
 use Rattle.hist_halves.specs.Halves.{is_half, is_live, is_sealed, live, put_of, sent, taken}
 use Rattle.hist_world.specs.Orders.{aes_part}
-
--- the next header of a packet in a tunnel: that of its version (RFC 4303 section 2.6)
-abbrev pub next_of : List ℕ → ℕ
-next_of p = if version p == 4 then 4 else 41
 
 -- how the octets of a half are sealed
 abbrev pub keying_of : SadEntry → Keying
@@ -29,7 +24,7 @@ keying_of e = keying e.spi e.key
 -- The half seals the packet p with the number n to the octets b, and opens octets to a text. Halves with numbers of 64 bits
 -- will differ here and in `number_of`.
 abbrev pub HalfSeals : SadEntry → ℕ → List ℕ → List ℕ → Type 0
-HalfSeals half n p b = b ≡ esp (keying_of half) n (next_of p) p
+HalfSeals half n p b = b ≡ esp (keying_of half) n (next_header p) p
 
 abbrev pub HalfOpens : SadEntry → List ℕ → List ℕ → Type 0
 HalfOpens half b text = EspOpens (keying_of half) b text
@@ -89,7 +84,7 @@ pub record Delivers (gateways : List Peer) (g o x : List ℕ) (n : ℕ) (p : Lis
   pub number : n ≡ number_of half (taken g x h) (esp_of o)
   pub text : List ℕ
   pub opens : HalfOpens half (esp_of o) text
-  pub inner : Inner text (next_of p) p
+  pub inner : Inner text (next_header p) p
   pub packet : Packet
   pub view : view_of p ≡ Ok packet
   pub holds : holds_packet half.selector In packet ≡ true
