@@ -8,7 +8,7 @@ cp "$here/passing.antt.txt" "$proofs/Passing.antt"
 cp "$here/invariants.antt.txt" "$proofs/rows/Invariants.antt"
 cp "$here/answers.antt.txt" "$proofs/rows/Answers.antt"
 echo 'mod Passing' > "$proofs/Lib.antt"
-build json_bench ikl_base yang_values ikeless_tree json_codec
+build json_bench ikl_base yang_values ikeless_tree json_values json_tree json_codec
 for turn in 1 2 3 4 5; do
     reading=$(seconds ./out/json_bench)
     writing=$(seconds ./out/json_bench write)

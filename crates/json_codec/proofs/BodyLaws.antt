@@ -4,12 +4,12 @@ use Rattle.std.specs.Str.{is_utf8}
 use Rattle.std.proofs.lemmas.Str.{IsUtf8-from_is_utf8}
 use Rattle.serde_json.specs.Data.{Data}
 use Rattle.serde_json.specs.Read.{read}
-use Rattle.json_codec.specs.declared.fault.Fault.{Fault}
-use Rattle.json_codec.specs.Faults.{told}
+use Rattle.json_values.specs.declared.fault.Fault.{Fault}
+use Rattle.json_values.specs.Faults.{told}
 use Rattle.json_codec.specs.Bodies.{json_of, body_read}
-use Rattle.json_codec.specs.Json.{StandsFor}
+use Rattle.json_values.specs.Json.{StandsFor}
 use Rattle.json_codec.proofs.JsonText.{json_is_read}
-use Rattle.json_codec.proofs.LeafLaws.{ok_is}
+use Rattle.json_values.proofs.LeafLaws.{ok_is}
 
 told_ok : {A : Type 0} → (r : Result A Fault) (x : A) → told r ≡ Ok x → r ≡ Ok x
 told_ok (Ok y) x h = ap Ok (ok_is y x h)

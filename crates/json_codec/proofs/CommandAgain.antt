@@ -8,14 +8,15 @@ use Rattle.ikeless_tree.specs.declared.entry.SpdEntry.{SpdEntry}
 use Rattle.ikeless_tree.specs.Check.{is_window, spd_fault, is_gateway}
 use Rattle.yang_values.specs.HexText.{hex_colons}
 use Rattle.yang_values.specs.Prefixes.{prefix_text}
-use Rattle.json_codec.specs.Written.{count, wide, word}
-use Rattle.json_codec.specs.Associations.{limits_members, has_no_limits}
-use Rattle.json_codec.specs.Commands.{mode_word, policy_input, with_first, with_second, tunnel_input, input_of, command_data, IsLawful}
+use Rattle.json_values.specs.Written.{count, wide, word}
+use Rattle.json_tree.specs.Associations.{limits_members, has_no_limits}
+use Rattle.json_values.specs.Words.{mode_word}
+use Rattle.json_codec.specs.Commands.{policy_input, with_first, with_second, tunnel_input, input_of, command_data, IsLawful}
 use Rattle.json_codec.specs.Operations.{operation_of, HasWindow, command_fault}
-use Rattle.json_codec.specs.Json.{IsListInput, IsTunnelInput, IsInput, IsCommand}
-use Rattle.json_codec.specs.Typed.{AreTypedPolicies, IsTypedTunnel, IsTypedCommand}
-use Rattle.json_codec.proofs.PolicyAgain.{wide_again, prefix_text_again, window_again, entries_again}
-use Rattle.json_codec.proofs.HalfAgain.{CanHex, limits_again, none_is}
+use Rattle.json_values.specs.Json.{IsListInput, IsTunnelInput, IsInput, IsCommand}
+use Rattle.json_tree.specs.Typed.{AreTypedPolicies, IsTypedTunnel, IsTypedCommand}
+use Rattle.json_tree.proofs.PolicyAgain.{wide_again, prefix_text_again, window_again, entries_again}
+use Rattle.json_tree.proofs.HalfAgain.{CanHex, limits_again, none_is}
 
 list_again : (gateway : List ℕ) (es : List SpdEntry) → is_gateway gateway ≡ true → AreTypedPolicies es → spd_fault es ≡ None → IsListInput gateway es (policy_input gateway es)
 unfolding policy_input

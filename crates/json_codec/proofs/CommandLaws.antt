@@ -8,23 +8,23 @@ use Rattle.ikeless_tree.specs.declared.command.Command.{Command}
 use Rattle.ikeless_tree.specs.declared.command.Command.TheVariants as commands
 use Rattle.ikeless_tree.specs.declared.command.TunnelSpec.{TunnelSpec}
 use Rattle.ikeless_tree.specs.declared.entry.SpdEntry.{SpdEntry}
-use Rattle.json_codec.specs.declared.fault.Kind.{Kind}
-use Rattle.json_codec.specs.declared.fault.Kind.TheVariants as kinds
+use Rattle.json_values.specs.declared.fault.Kind.{Kind}
+use Rattle.json_values.specs.declared.fault.Kind.TheVariants as kinds
 use Rattle.json_codec.specs.declared.operations.FirstEnd.{FirstEnd}
 use Rattle.json_codec.specs.declared.operations.SecondEnd.{SecondEnd}
-use Rattle.json_codec.specs.Shapes.{lacks}
-use Rattle.json_codec.specs.Commands.{mode_word}
+use Rattle.json_values.specs.Shapes.{lacks}
+use Rattle.json_values.specs.Words.{mode_word}
 use Rattle.ikeless_tree.specs.Check.{is_gateway}
-use Rattle.json_codec.specs.Leaves.{text_in, mode_from, mode_leaf, needed_wide, octets_leaf}
-use Rattle.json_codec.specs.Members.{list_input_shape, tunnel_needs, tunnel_input_shape}
-use Rattle.json_codec.specs.Policies.{name_in, spd_entry_in, entries_in, entries_of}
-use Rattle.json_codec.specs.Halves.{limits_of}
+use Rattle.json_values.specs.Leaves.{text_in, mode_from, mode_leaf, needed_wide, octets_leaf, name_in}
+use Rattle.json_values.specs.Members.{list_input_shape, tunnel_needs, tunnel_input_shape}
+use Rattle.json_tree.specs.Policies.{spd_entry_in, entries_in, entries_of}
+use Rattle.json_tree.specs.Halves.{limits_of}
 use Rattle.json_codec.specs.Operations.{is_operation, prefix_in, needed_window, needed_reqid, mode_in, list_command, first_in, second_in, tunnel_command, only_reqid, only_key, end_command, rekey_command, keys_command, input_in, inputs_in, command_fault, command_in}
-use Rattle.json_codec.specs.Json.{Needed, Optional, IsNumber, IsWord, IsWide, IsPrefix, IsHex, IsName, IsListOf, IsOnly, IsSpdEntry, IsLimits, no_limits, IsListInput, IsTunnelInput, IsInput, IsCommand}
-use Rattle.json_codec.proofs.LeafLaws.{ok_is, bind_ok, within_ok, within_of, member_ok, text_ok, same, wide_ok, wide_of, needed_number_ok, needed_number_of, needed_prefix_ok, needed_prefix_of, name_ok, name_of}
-use Rattle.json_codec.proofs.ShapeLaws.{shape_ok, shape_of, there, only_ok, only_of, only_kept_ok, only_kept_of, list_ok, list_of}
-use Rattle.json_codec.proofs.PolicyLaws.{spd_entry_ok, spd_entry_back, checked_ok}
-use Rattle.json_codec.proofs.HalfLaws.{octets_ok, octets_back, limits_of_ok, limits_of_back}
+use Rattle.json_values.specs.Json.{Needed, Optional, IsNumber, IsWord, IsWide, IsPrefix, IsHex, IsName, IsListOf, IsOnly, IsSpdEntry, IsLimits, no_limits, IsListInput, IsTunnelInput, IsInput, IsCommand}
+use Rattle.json_values.proofs.LeafLaws.{ok_is, bind_ok, within_ok, within_of, member_ok, text_ok, same, wide_ok, wide_of, needed_number_ok, needed_number_of, needed_prefix_ok, needed_prefix_of, name_ok, name_of}
+use Rattle.json_values.proofs.ShapeLaws.{shape_ok, shape_of, there, only_ok, only_of, only_kept_ok, only_kept_of, list_ok, list_of}
+use Rattle.json_tree.proofs.PolicyLaws.{spd_entry_ok, spd_entry_back, checked_ok}
+use Rattle.json_tree.proofs.HalfLaws.{octets_ok, octets_back, limits_of_ok, limits_of_back}
 
 mode_by : (t : List ℕ) (p q : Bool) (x : Bool) → bytes_eq t (mode_word true) ≡ p → bytes_eq t (mode_word false) ≡ q →
     (let r : Result Bool Kind = if p then Ok true else if q then Ok false else Err kinds.Unsupported in r) ≡ Ok x → t ≡ mode_word x

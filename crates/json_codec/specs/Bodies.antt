@@ -8,11 +8,11 @@ use Rattle.ikl_base.specs.declared.fault.OrMemory.TheVariants as failures
 use Rattle.ikeless_tree.specs.declared.entry.SpdEntry.{SpdEntry}
 use Rattle.ikeless_tree.specs.declared.association.SadEntry.{SadEntry}
 use Rattle.ikeless_tree.specs.declared.command.Command.{Command}
-use Rattle.json_codec.specs.declared.fault.Fault.{Fault}
-use Rattle.json_codec.specs.declared.fault.CodecFault.{CodecFault}
-use Rattle.json_codec.specs.Faults.{no_json, told}
-use Rattle.json_codec.specs.Policies.{spd_in, one_spd_entry_in}
-use Rattle.json_codec.specs.Halves.{one_sad_entry_in}
+use Rattle.json_values.specs.declared.fault.Fault.{Fault}
+use Rattle.json_values.specs.declared.fault.CodecFault.{CodecFault}
+use Rattle.json_values.specs.Faults.{no_json, told}
+use Rattle.json_tree.specs.Policies.{spd_in, one_spd_entry_in}
+use Rattle.json_tree.specs.Halves.{one_sad_entry_in}
 use Rattle.json_codec.specs.Operations.{command_in}
 
 -- the value of octets that are JSON in UTF-8

@@ -8,12 +8,9 @@ use Rattle.ikeless_tree.specs.declared.command.TunnelSpec.{TunnelSpec}
 use Rattle.ikeless_tree.specs.declared.entry.SpdEntry.{SpdEntry}
 use Rattle.yang_values.specs.Prefixes.{prefix_text}
 use Rattle.yang_values.specs.HexText.{hex_colons}
-use Rattle.json_codec.specs.Written.{count, wide, word, only, spd_entries_data}
-use Rattle.json_codec.specs.Associations.{with_lifetime}
-
-abbrev pub mode_word : Bool → List ℕ
-mode_word true = codes "now"
-mode_word false = codes "acquire"
+use Rattle.json_values.specs.Words.{mode_word}
+use Rattle.json_values.specs.Written.{count, wide, word, only, spd_entries_data}
+use Rattle.json_tree.specs.Associations.{with_lifetime}
 
 unfoldable pub policy_input : List ℕ → List SpdEntry → Data
 policy_input gateway list = object (put (codes "gateway") (string gateway) (put (codes "spd-entry") (spd_entries_data list) no_members))

@@ -1,17 +1,3 @@
-pub mod Words
-pub mod Faults
-pub mod Shapes
-pub mod Members
-pub mod Leaves
-pub mod Selectors
-pub mod Json
-pub mod Written
-pub mod Associations
 pub mod Commands
-pub mod Policies
-pub mod Halves
 pub mod Operations
 pub mod Bodies
-pub mod Typed
-pub mod OneRow
-pub mod ReadAgain

@@ -9,15 +9,15 @@ use Rattle.ikeless_tree.specs.declared.command.Command.TheVariants as commands
 use Rattle.ikeless_tree.specs.declared.command.TunnelSpec.{TunnelSpec}
 use Rattle.ikeless_tree.specs.declared.reply.TreeFault.{TreeFault}
 use Rattle.ikeless_tree.specs.Check.{is_window, spd_fault, is_gateway}
-use Rattle.json_codec.specs.declared.fault.Fault.{Fault}
+use Rattle.json_values.specs.declared.fault.Fault.{Fault}
 use Rattle.json_codec.specs.declared.operations.FirstEnd.{FirstEnd}
 use Rattle.json_codec.specs.declared.operations.SecondEnd.{SecondEnd}
-use Rattle.json_codec.specs.Faults.{within, at_member, checked, ◌>>=◌}
-use Rattle.json_codec.specs.Shapes.{only_in}
-use Rattle.json_codec.specs.Leaves.{needed_number, needed_wide, prefix_leaf, mode_leaf, octets_leaf}
-use Rattle.json_codec.specs.Members.{list_input_shape, tunnel_input_shape}
-use Rattle.json_codec.specs.Policies.{name_in, entries_of}
-use Rattle.json_codec.specs.Halves.{limits_of}
+use Rattle.json_values.specs.Faults.{within, at_member, checked, ◌>>=◌}
+use Rattle.json_values.specs.Shapes.{only_in}
+use Rattle.json_values.specs.Leaves.{needed_number, needed_wide, prefix_leaf, mode_leaf, octets_leaf, name_in}
+use Rattle.json_values.specs.Members.{list_input_shape, tunnel_input_shape}
+use Rattle.json_tree.specs.Policies.{entries_of}
+use Rattle.json_tree.specs.Halves.{limits_of}
 
 abbrev pub is_operation : List ℕ → Bool
 is_operation op = bytes_eq op (codes "policy") || bytes_eq op (codes "tunnel") || bytes_eq op (codes "end") || bytes_eq op (codes "rekey") || bytes_eq op (codes "keys")

@@ -3,16 +3,15 @@ ghost use Rattle.std.specs.Prelude.{◌≡◌, None, Some, IsTrue, MatchResult};
 ghost use Rattle.serde_json.specs.View.{view};
 ghost use Rattle.ikl_base.specs.Answers.{Gives};
 ghost use Rattle.ikl_base.specs.declared.fault.OrMemory.TheVariants as failures;
-ghost use Rattle.json_codec.specs.Faults.{no_json};
+ghost use Rattle.json_values.specs.Faults.{no_json};
 ghost use Rattle.json_codec.specs.Operations.{is_operation};
 ghost use Rattle.json_codec.specs.Bodies.{json_of, IsNoJson, spd_of, spd_entry_of, sad_entry_of, command_of};
 
-use crate::entries::{spd, spd_entry};
-use crate::fault::{CodecFault, answer, not_json};
-use crate::halves::sad_entry;
 use crate::operations::command;
 use ikeless_tree::{Command, Entries, SadEntry, SpdEntry};
 use ikl_base::{Name, OrMemory};
+use json_tree::{sad_entry, spd, spd_entry};
+use json_values::{CodecFault, answer, not_json};
 use serde_json::Value;
 use std::alloc::Global;
 

@@ -6,14 +6,15 @@ ghost use Rattle.serde_json.specs.Written.{compact_text};
 ghost use Rattle.serde_json.specs.Data.{string, put as with_member};
 ghost use Rattle.ikeless_tree.specs.Check.{spd_fault, is_gateway};
 ghost use Rattle.yang_values.specs.HexText.{hex_colons};
-ghost use Rattle.json_codec.specs.Written.{only, wide};
-ghost use Rattle.json_codec.specs.Commands.{mode_word, policy_input, with_first, with_second, tunnel_input, input_of, command_data, IsLawful};
+ghost use Rattle.json_values.specs.Written.{only, wide};
+ghost use Rattle.json_values.specs.Words.{mode_word};
+ghost use Rattle.json_codec.specs.Commands.{policy_input, with_first, with_second, tunnel_input, input_of, command_data, IsLawful};
 
-use crate::associations::{put_hex, put_lifetime};
-use crate::build::{Members, put, put_count, put_text, put_wide, put_word, single, written};
-use crate::policies::{list_value, put_prefix};
 use ikeless_tree::{Command, Entries, TunnelSpec};
 use ikl_base::{Name, NoMemory, Octets};
+use json_tree::{list_value, put_hex, put_lifetime, put_prefix};
+use json_values::words::mode_text;
+use json_values::{Members, put, put_count, put_text, put_wide, put_word, single, written};
 use serde_json::{Map, Value};
 use std::alloc::Global;
 
@@ -28,13 +29,6 @@ fn put_gateway(
         ≡ with_member name.now (string gateway.now) (members_view members.old.entries)) }
 {
     put_text(members, alloc, name, gateway.as_slice())
-}
-
-/// The word of whether keys are asked for at once.
-pub(crate) fn mode_text(now: bool) -> &'static str
-    ensures { result.now ≡ mode_word now }
-{
-    if now { "now" } else { "acquire" }
 }
 
 #[tactic(auto, unfolding(crate::specs::Commands::policy_input))]

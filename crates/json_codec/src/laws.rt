@@ -7,11 +7,11 @@ ghost use Rattle.ikeless_tree.specs.Check.{spd_fault, sad_fault};
 ghost use Rattle.json_codec.specs.Operations.{is_operation, operation_of, HasWindow, command_fault};
 ghost use Rattle.json_codec.specs.Bodies.{spd_of, spd_entry_of, sad_entry_of, command_of};
 ghost use Rattle.serde_json.specs.Read.{read};
-ghost use Rattle.json_codec.specs.Written.{one_policy, all_policies};
-ghost use Rattle.json_codec.specs.Associations.{one_association};
+ghost use Rattle.json_values.specs.Written.{one_policy, all_policies};
+ghost use Rattle.json_tree.specs.Associations.{one_association};
 ghost use Rattle.json_codec.specs.Commands.{command_data, IsLawful};
-ghost use Rattle.json_codec.specs.Typed.{IsTypedPolicy, AreTypedPolicies, IsTypedAssociation, IsTypedCommand};
-ghost use Rattle.json_codec.specs.Json.{StandsFor, IsSpd, IsOneSpdEntry, IsOneSadEntry, IsCommand};
+ghost use Rattle.json_tree.specs.Typed.{IsTypedPolicy, AreTypedPolicies, IsTypedAssociation, IsTypedCommand};
+ghost use Rattle.json_values.specs.Json.{StandsFor, IsSpd, IsOneSpdEntry, IsOneSadEntry, IsCommand};
 
 /// A body is read as a list of policies exactly where it stands for that list, and the list has no fault.
 pub fn policies_are_accepted()

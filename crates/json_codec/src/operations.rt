@@ -3,18 +3,16 @@ ghost use Rattle.std.specs.Prelude.{◌≡◌, codes, Some, IsTrue};
 ghost use Rattle.std.specs.Str.{bytes_eq};
 ghost use Rattle.serde_json.specs.View.{view};
 ghost use Rattle.ikl_base.specs.Answers.{Gives};
-ghost use Rattle.json_codec.specs.Faults.{checked};
+ghost use Rattle.json_values.specs.Faults.{checked};
 ghost use Rattle.json_codec.specs.Operations.{is_operation, prefix_in, needed_window, needed_reqid, mode_in, list_command, first_in, second_in, tunnel_between, tunnel_command, only_reqid, only_key, end_command, rekey_command, keys_command, input_in, inputs_in, command_fault, command_in};
 
-use crate::entries::entries_member;
-use crate::fault::{Fault, at_made, at_member, kind_of_tree, within};
-use crate::halves::limits_member;
-use crate::leaves::{mode, number_of, prefix, wide_of};
-use crate::members::{is_list_input, is_tunnel_input};
-use crate::names::{gateway, octets};
-use crate::shapes::{only, refused};
 use ikeless_tree::{Command, Limits, TreeFault, TunnelSpec, check_spd};
 use ikl_base::{Name, Octets, OrMemory, Prefix};
+use json_tree::{entries_member, limits_member};
+use json_values::leaves::{mode, number_of, prefix, wide_of};
+use json_values::members::{is_list_input, is_tunnel_input};
+use json_values::names::{gateway, octets};
+use json_values::{Fault, at_made, at_member, kind_of_tree, only, refused, within};
 use serde_json::Value;
 use std::alloc::Global;
 

@@ -13,13 +13,13 @@ use Rattle.ikeless_tree.specs.Check.{is_spd_name, is_sad_name, has_empty_range, 
 use Rattle.yang_values.specs.Addresses.{IsAddress}
 use Rattle.yang_values.specs.Numbers.{u64_of}
 use Rattle.yang_values.specs.Prefixes.{prefix_of, prefix_text}
-use Rattle.json_codec.specs.declared.fault.Kind.{Kind}
-use Rattle.json_codec.specs.Written.{count, wide, only, with_ports, range_data, range_items, proto_data, selector_data}
-use Rattle.json_codec.specs.Associations.{counts_data}
-use Rattle.json_codec.specs.Shapes.{shape, each_item, only_in}
-use Rattle.json_codec.specs.Members.{range_shape, selector_shape, counts_shape}
-use Rattle.json_codec.specs.Leaves.{number_in, needed_number, protocol_leaf, prefix_leaf, wide_or, count_or, name_leaf}
-use Rattle.json_codec.specs.Selectors.{range_in, ports_in, side_in, selector_in, limits_from, counts_in}
+use Rattle.json_values.specs.declared.fault.Kind.{Kind}
+use Rattle.json_values.specs.Written.{count, wide, only, with_ports, range_data, range_items, proto_data, selector_data}
+use Rattle.json_tree.specs.Associations.{counts_data}
+use Rattle.json_values.specs.Shapes.{shape, each_item, only_in}
+use Rattle.json_values.specs.Members.{range_shape, selector_shape, counts_shape}
+use Rattle.json_values.specs.Leaves.{number_in, needed_number, protocol_leaf, prefix_leaf, wide_or, count_or, name_leaf}
+use Rattle.json_tree.specs.Selectors.{range_in, ports_in, side_in, selector_in, limits_from, counts_in}
 use Rattle.notice_lines.specs.Envelope.{acquire_name, expire_name, overflow_name, bad_spi_name, acquire_data, expire_data, overflow_data, bad_spi_data, envelope_data, notice_data, IsNotice, whole, acquire_shape, acquire_in, expire_shape, expire_in, overflow_shape, overflow_in, bad_spi_shape, bad_spi_in, event_shape, envelope_in, notice_in}
 use Rattle.notice_lines.specs.Held.{HoldsRanges, HoldsProtocol, HoldsSelector, HoldsCounts, HoldsNotice}
 

@@ -5,8 +5,8 @@ use Rattle.ikeless_tree.specs.declared.association.Limits.{Limits}
 use Rattle.ikeless_tree.specs.declared.entry.Selector.{Selector}
 use Rattle.ikeless_tree.specs.declared.order.Notice.{Notice}
 use Rattle.ikeless_tree.specs.declared.order.Notice.TheVariants as notices
-use Rattle.json_codec.specs.Associations.{counts_data}
-use Rattle.json_codec.proofs.Flat.{IsFlat, flat_put, flat_none, flat_object, flat_string, flat_count, flat_selector, flat_only}
+use Rattle.json_tree.specs.Associations.{counts_data}
+use Rattle.json_tree.proofs.Flat.{IsFlat, flat_put, flat_none, flat_object, flat_string, flat_count, flat_selector, flat_only}
 use Rattle.notice_lines.specs.Envelope.{acquire_data, expire_data, event_name, event_data, envelope_data, notice_data}
 
 flat_boolean : (n : ℕ) (b : Bool) → IsFlat n (boolean b)

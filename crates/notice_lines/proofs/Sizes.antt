@@ -18,8 +18,8 @@ use Rattle.ikeless_tree.specs.declared.order.Notice.TheVariants as notices
 use Rattle.ikeless_tree.specs.Check.{is_spd_name, is_sad_name, is_serial, has_front, is_path_octet, is_word_octet, has_many_ranges}
 use Rattle.yang_values.specs.Addresses.{IsAddress}
 use Rattle.yang_values.specs.Prefixes.{prefix_text}
-use Rattle.json_codec.specs.Written.{count, wide, with_ports, range_data, range_items, proto_data, selector_data}
-use Rattle.json_codec.specs.Associations.{counts_data}
+use Rattle.json_values.specs.Written.{count, wide, with_ports, range_data, range_items, proto_data, selector_data}
+use Rattle.json_tree.specs.Associations.{counts_data}
 use Rattle.notice_lines.specs.Held.{HoldsRanges, HoldsProtocol, HoldsSelector, HoldsCounts, HoldsNotice}
 use Rattle.notice_lines.specs.Envelope.{acquire_data, expire_data, overflow_data, bad_spi_data, event_name, event_data, envelope_data, notice_data, IsNotice}
 use Rattle.notice_lines.proofs.Text.{ItemsNarrow, IsPlain, ArePlain, plain_put, plain_none, plain_object, plain_string, plain_boolean, plain_number, IsSized, AreSized, AreSizedItems, sized_put, sized_none, sized_object, sized_array, sized_item, sized_no_items, sized_string, sized_number, sized_boolean, sized_more}

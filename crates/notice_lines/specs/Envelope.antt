@@ -8,15 +8,15 @@ use Rattle.ikeless_tree.specs.declared.association.Limits.{Limits}
 use Rattle.ikeless_tree.specs.declared.order.Notice.{Notice}
 use Rattle.ikeless_tree.specs.declared.order.Notice.TheVariants as notices
 use Rattle.ikeless_tree.specs.Check.{is_spd_name, is_sad_name, has_empty_range, has_many_ranges}
-use Rattle.json_codec.specs.declared.fault.Kind.{Kind}
-use Rattle.json_codec.specs.declared.fault.Kind.TheVariants as kinds
-use Rattle.json_codec.specs.declared.fault.Fault.{Fault}
-use Rattle.json_codec.specs.Written.{count, only, selector_data}
-use Rattle.json_codec.specs.Associations.{counts_data}
-use Rattle.json_codec.specs.Faults.{◌>>=◌, here, within, at_member}
-use Rattle.json_codec.specs.Shapes.{shape, only_in}
-use Rattle.json_codec.specs.Leaves.{or_form, or_missing, needed_text, needed_number, name_leaf}
-use Rattle.json_codec.specs.Selectors.{selector_of, counts_in}
+use Rattle.json_values.specs.declared.fault.Kind.{Kind}
+use Rattle.json_values.specs.declared.fault.Kind.TheVariants as kinds
+use Rattle.json_values.specs.declared.fault.Fault.{Fault}
+use Rattle.json_values.specs.Written.{count, only, selector_data}
+use Rattle.json_tree.specs.Associations.{counts_data}
+use Rattle.json_values.specs.Faults.{◌>>=◌, here, within, at_member}
+use Rattle.json_values.specs.Shapes.{shape, only_in}
+use Rattle.json_values.specs.Leaves.{or_form, or_missing, needed_text, needed_number, name_leaf}
+use Rattle.json_tree.specs.Selectors.{selector_of, counts_in}
 
 -- ---- events
 

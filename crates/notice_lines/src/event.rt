@@ -5,9 +5,9 @@ ghost use Rattle.serde_json.specs.Find.{get};
 ghost use Rattle.serde_json.specs.View.{view};
 ghost use Rattle.ikl_base.specs.Answers.{Gives};
 ghost use Rattle.ikeless_tree.specs.Check.{is_spd_name, is_sad_name, is_empty_range, has_empty_range, has_many_ranges};
-ghost use Rattle.json_codec.specs.Faults.{at_member};
-ghost use Rattle.json_codec.specs.Shapes.{seen};
-ghost use Rattle.json_codec.specs.Leaves.{name_leaf};
+ghost use Rattle.json_values.specs.Faults.{at_member};
+ghost use Rattle.json_values.specs.Shapes.{seen};
+ghost use Rattle.json_values.specs.Leaves.{name_leaf};
 ghost use Rattle.notice_lines.specs.Envelope.{name_at, needed_truth, whole, acquire_shape, acquire_in, expire_shape, counts_of, expire_in, overflow_shape, overflow_in, bad_spi_shape, bad_spi_in};
 
 use ikeless_tree::{Limits, Notice, Range, Selector, names_half, names_policy};

@@ -5,7 +5,7 @@ use Rattle.ikeless_tree.specs.declared.entry.SpdEntry.{SpdEntry}
 use Rattle.ikeless_tree.specs.declared.order.Answer.{Answer}
 use Rattle.ikeless_tree.specs.declared.order.Order.{Order}
 use Rattle.ikeless_tree.specs.declared.order.Order.TheVariants as orders
-use Rattle.json_codec.specs.Faults.{◌>>=◌}
+use Rattle.json_values.specs.Faults.{◌>>=◌}
 use Rattle.rc_http.specs.declared.message.HttpMessage.{HttpMessage}
 use Rattle.rc_answer.specs.declared.answer.BadAnswer.{BadAnswer}
 use Rattle.rc_answer.specs.Answers.{answer_of, bad, change_of, done, error_of, is_status_of, names_of, policies_of, reading_of, refusal_of, refused, shown}

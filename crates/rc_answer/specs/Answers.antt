@@ -15,9 +15,9 @@ use Rattle.ikeless_tree.specs.declared.reply.App.TheVariants as apps
 use Rattle.ikeless_tree.specs.Check.{is_sad_name}
 use Rattle.ikeless_tree.specs.Words.{tag_text, app_text}
 use Rattle.json_codec.specs.Bodies.{json_of}
-use Rattle.json_codec.specs.Faults.{◌>>=◌}
-use Rattle.json_codec.specs.Leaves.{needed_text}
-use Rattle.json_codec.specs.Shapes.{only_in}
+use Rattle.json_values.specs.Faults.{◌>>=◌}
+use Rattle.json_values.specs.Leaves.{needed_text}
+use Rattle.json_values.specs.Shapes.{only_in}
 use Rattle.rc_http.specs.declared.message.HttpMessage.{HttpMessage}
 use Rattle.rc_answer.specs.declared.answer.BadAnswer.{BadAnswer}
 use Rattle.rc_answer.specs.declared.answer.ErrorTags.{ErrorTags}

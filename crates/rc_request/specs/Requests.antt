@@ -7,7 +7,7 @@ use Rattle.ikeless_tree.specs.declared.reply.Tag.{Tag}
 use Rattle.ikeless_tree.specs.declared.reply.Tag.TheVariants as tags
 use Rattle.ikeless_tree.specs.declared.reply.App.{App}
 use Rattle.ikeless_tree.specs.declared.reply.App.TheVariants as apps
-use Rattle.json_codec.specs.declared.fault.CodecFault.{CodecFault}
+use Rattle.json_values.specs.declared.fault.CodecFault.{CodecFault}
 use Rattle.json_codec.specs.Bodies.{spd_of, spd_entry_of, sad_entry_of}
 use Rattle.rc_http.specs.declared.message.HttpFault.{HttpFault}
 use Rattle.rc_http.specs.declared.message.HttpFault.TheVariants as faults

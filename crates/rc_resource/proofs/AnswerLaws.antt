@@ -18,10 +18,10 @@ use Rattle.ikeless_tree.specs.declared.reply.App.TheVariants as apps
 use Rattle.ikeless_tree.specs.Check.{sad_fault}
 use Rattle.ikeless_tree.specs.Half.{is_inbound}
 use Rattle.ikeless_tree.specs.Words.{tag_text, app_text, refusal_text}
-use Rattle.json_codec.specs.Associations.{ArePassed, row_data, row_items, with_state, all_rows}
-use Rattle.json_codec.specs.Shapes.{shape, only_in}
-use Rattle.json_codec.proofs.FlatRows.{flat_all_rows}
-use Rattle.json_codec.proofs.Passed.{passed_half}
+use Rattle.json_tree.specs.Associations.{ArePassed, row_data, row_items, with_state, all_rows}
+use Rattle.json_values.specs.Shapes.{shape, only_in}
+use Rattle.json_tree.proofs.FlatRows.{flat_all_rows}
+use Rattle.json_tree.proofs.Passed.{passed_half}
 use Rattle.reply_table.specs.declared.ask.Change.TheVariants as changes
 use Rattle.reply_table.specs.Order.{ask_of}
 use Rattle.reply_table.specs.Reply.{Outcome, At_half, reply, get_sad, refused, made, done, exists, spi_taken, full, absent, row_names, is_row, has_spi, is_sad_full, with_sad, without_row, new_row}

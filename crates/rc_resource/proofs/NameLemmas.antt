@@ -5,8 +5,8 @@ use Rattle.ikeless_tree.specs.declared.entry.SpdEntry.{SpdEntry}
 use Rattle.ikeless_tree.specs.declared.association.SadRow.{SadRow}
 use Rattle.ikeless_tree.specs.declared.reply.TreeFault.{TreeFault}
 use Rattle.ikeless_tree.specs.Check.{is_named, entry_fault, entries_fault, first_of, spd_fault, sad_fault}
-use Rattle.json_codec.specs.Associations.{ArePassed}
-use Rattle.json_codec.proofs.Passed.{no_fault}
+use Rattle.json_tree.specs.Associations.{ArePassed}
+use Rattle.json_tree.proofs.Passed.{no_fault}
 use Rattle.std.proofs.lemmas.Slice.Eq.{bytes_eq-Decides}
 use Rattle.reply_table.specs.Reply.{put_before, put_after, is_row}
 use Rattle.rc_resource.specs.Lists.{at_most_once, AreDistinct}

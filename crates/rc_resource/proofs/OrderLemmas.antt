@@ -17,13 +17,13 @@ use Rattle.ikeless_tree.specs.declared.entry.SpdEntry.{SpdEntry}
 use Rattle.ikeless_tree.specs.Check.{is_sad_name, is_path_octet, spd_fault, sad_fault}
 use Rattle.ikeless_tree.specs.declared.order.Order.{Order}
 use Rattle.ikeless_tree.specs.declared.order.Order.TheVariants as orders
-use Rattle.json_codec.specs.Associations.{one_association}
+use Rattle.json_tree.specs.Associations.{one_association}
 use Rattle.json_codec.specs.Bodies.{sad_entry_of, spd_of}
-use Rattle.json_codec.specs.Typed.{AreTypedPolicies, IsTypedAssociation}
-use Rattle.json_codec.specs.Written.{all_policies}
-use Rattle.json_codec.proofs.Flat.{flat_all_policies}
-use Rattle.json_codec.proofs.FlatRows.{flat_one_association}
-use Rattle.json_codec.proofs.Passed.{half_octets}
+use Rattle.json_tree.specs.Typed.{AreTypedPolicies, IsTypedAssociation}
+use Rattle.json_values.specs.Written.{all_policies}
+use Rattle.json_tree.proofs.Flat.{flat_all_policies}
+use Rattle.json_tree.proofs.FlatRows.{flat_one_association}
+use Rattle.json_tree.proofs.Passed.{half_octets}
 use Rattle.reply_table.specs.Order.{ask_of}
 use Rattle.rc_request.specs.declared.resource.Resource.TheVariants as resources
 use Rattle.rc_request.specs.Paths.{escape_octet, escaped, key_of, half_path, resource_of}

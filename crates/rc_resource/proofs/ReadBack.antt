@@ -20,7 +20,7 @@ use Rattle.serde_json.proofs.Numbers.{number_of-decimal}
 use Rattle.serde_json.proofs.Texts.{print-outline}
 use Rattle.json_codec.specs.Bodies.{json_of}
 use Rattle.json_codec.proofs.JsonText.{json_is_read}
-use Rattle.json_codec.proofs.Plain.{utf8_number}
+use Rattle.json_values.proofs.Plain.{utf8_number}
 
 -- ---- plain values
 

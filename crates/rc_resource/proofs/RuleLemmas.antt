@@ -8,8 +8,8 @@ use Rattle.ikeless_tree.specs.declared.association.SadEntry.{SadEntry}
 use Rattle.ikeless_tree.specs.declared.association.SadRow.{SadRow}
 use Rattle.ikeless_tree.specs.declared.association.Tree.{Tree}
 use Rattle.ikeless_tree.specs.Check.{is_named, entry_fault, entries_fault, spd_fault, sad_fault}
-use Rattle.json_codec.specs.Associations.{ArePassed}
-use Rattle.json_codec.proofs.Passed.{no_fault}
+use Rattle.json_tree.specs.Associations.{ArePassed}
+use Rattle.json_tree.proofs.Passed.{no_fault}
 use Rattle.rc_resource.proofs.NameLemmas.{at_end, both_none, entries_of, entry_alone, no_more}
 use Rattle.reply_table.specs.declared.ask.Ask.{Ask}
 use Rattle.reply_table.specs.declared.ask.Ask.TheVariants as asks

@@ -35,12 +35,12 @@ use Rattle.yang_values.specs.Addresses.{IsAddress, address_text}
 use Rattle.yang_values.specs.HexText.{hex_colons}
 use Rattle.yang_values.specs.Prefixes.{prefix_text}
 use Rattle.yang_values.proofs.PrefixText.{address_plain, prefix_plain}
-use Rattle.json_codec.specs.Words.{direction_word, action_word, df_word}
-use Rattle.json_codec.specs.Written.{only, range_data, range_items, with_ports, proto_data, selector_data, policy_data, spd_entry_data, spd_entry_items, all_policies}
-use Rattle.json_codec.specs.Associations.{with_count, with_wide, limits_members, has_no_limits, with_lifetime, with_soft, tunnel_data, with_key, encryption_data, with_ends, with_fixed, with_sealing, config_data, sad_entry_data, counts_data, state_data, with_state, row_data, row_items, one_association, all_rows, ArePassed}
-use Rattle.json_codec.specs.Typed.{IsTypedRange, IsTypedProtocol, IsTypedSelector, IsTypedPolicy, AreTypedPolicies, IsTypedLimits, IsTypedAssociation}
-use Rattle.json_codec.proofs.Passed.{no_fault, first_none, holds, path_octets, half_octets}
-use Rattle.json_codec.proofs.Plain.{utf8_number, utf8_value, utf8_name, utf8_hex}
+use Rattle.json_values.specs.Words.{direction_word, action_word, df_word}
+use Rattle.json_values.specs.Written.{only, range_data, range_items, with_ports, proto_data, selector_data, policy_data, spd_entry_data, spd_entry_items, all_policies}
+use Rattle.json_tree.specs.Associations.{with_count, with_wide, limits_members, has_no_limits, with_lifetime, with_soft, tunnel_data, with_key, encryption_data, with_ends, with_fixed, with_sealing, config_data, sad_entry_data, counts_data, state_data, with_state, row_data, row_items, one_association, all_rows, ArePassed}
+use Rattle.json_tree.specs.Typed.{IsTypedRange, IsTypedProtocol, IsTypedSelector, IsTypedPolicy, AreTypedPolicies, IsTypedLimits, IsTypedAssociation}
+use Rattle.json_tree.proofs.Passed.{no_fault, first_none, holds, path_octets, half_octets}
+use Rattle.json_values.proofs.Plain.{utf8_number, utf8_value, utf8_name, utf8_hex}
 use Rattle.rc_resource.specs.Errors.{type_text, with_message, error_data, is_of_protocol}
 use Rattle.rc_resource.specs.Laws.{IsTypedRow, AreTypedRows}
 use Rattle.rc_resource.proofs.ReadBack.{IsWritable, AreWritable, HaveWritable, write_number, write_boolean, write_text, write_word, write_array, write_object, write_item, write_no_items, write_none, write_member}

@@ -5,7 +5,7 @@ use Rattle.ikeless_tree.specs.declared.reply.Tag.{Tag}
 use Rattle.ikeless_tree.specs.declared.reply.App.{App}
 use Rattle.ikeless_tree.specs.declared.reply.App.TheVariants as apps
 use Rattle.ikeless_tree.specs.Words.{tag_text, app_text}
-use Rattle.json_codec.specs.Written.{only}
+use Rattle.json_values.specs.Written.{only}
 
 -- a fault of the message, its path, its method or its query
 abbrev pub is_of_protocol : App → Bool

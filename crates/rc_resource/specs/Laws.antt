@@ -5,7 +5,7 @@ use Rattle.ikeless_tree.specs.declared.association.SadRow.{SadRow}
 use Rattle.ikeless_tree.specs.declared.order.Answer.{Answer}
 use Rattle.ikeless_tree.specs.declared.order.Order.{Order}
 use Rattle.ikeless_tree.specs.declared.order.Order.TheVariants as orders
-use Rattle.json_codec.specs.Typed.{AreTypedPolicies, IsTypedAssociation, IsTypedLimits}
+use Rattle.json_tree.specs.Typed.{AreTypedPolicies, IsTypedAssociation, IsTypedLimits}
 use Rattle.reply_table.specs.Reply.{Outcome}
 
 pub record IsTypedRow (r : SadRow) : Type 0 where

@@ -8,8 +8,8 @@ use Rattle.ikeless_tree.specs.declared.order.Order.{Order}
 use Rattle.ikeless_tree.specs.declared.order.Order.TheVariants as orders
 use Rattle.ikeless_tree.specs.Check.{spd_fault, sad_fault, is_sad_name}
 use Rattle.yang_values.specs.Addresses.{address_text}
-use Rattle.json_codec.specs.Written.{all_policies}
-use Rattle.json_codec.specs.Associations.{one_association}
+use Rattle.json_values.specs.Written.{all_policies}
+use Rattle.json_tree.specs.Associations.{one_association}
 use Rattle.rc_http.specs.declared.message.HttpMessage.{HttpMessage}
 use Rattle.rc_http.specs.Heads.{fields_map}
 use Rattle.rc_resource.specs.declared.reply.Reply.{Reply}

@@ -5,7 +5,7 @@ ghost use Rattle.serde_json.specs.Read.{read};
 ghost use Rattle.serde_json.specs.Data.{string, put as with_member};
 ghost use Rattle.serde_json.specs.View.{view, members_view};
 ghost use Rattle.serde_json.specs.Written.{compact_text};
-ghost use Rattle.json_codec.specs.Written.{only};
+ghost use Rattle.json_values.specs.Written.{only};
 ghost use Rattle.rc_resource.specs.Errors.{is_of_protocol, type_text, with_message, error_item, error_data};
 
 use ikeless_tree::{App, Tag};

@@ -1,7 +1,7 @@
 // What is asked, done.
 ghost use Rattle.std.specs.Prelude.{◌≡◌, ◌≤◌, ◌++◌, ◌∷◌, [], find, IfOk, OnOk, OnErr, None};
 ghost use Rattle.ikeless_tree.specs.Check.{is_named, spd_fault};
-ghost use Rattle.json_codec.specs.Associations.{ArePassed};
+ghost use Rattle.json_tree.specs.Associations.{ArePassed};
 ghost use Rattle.reply_table.specs.Reply as table;
 ghost use Rattle.reply_table.specs.declared.ask.Change.TheVariants as changes;
 ghost use Rattle.rc_request.specs.Asks.{IsAsk};

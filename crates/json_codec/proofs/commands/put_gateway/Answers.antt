@@ -1,5 +1,5 @@
 use Rattle.std.proofs.Common.{◌≡◌}
-use Rattle.json_codec.proofs.Plain.{utf8_gateway}
+use Rattle.json_values.proofs.Plain.{utf8_gateway}
 use Rattle.json_codec.proofs.commands.put_gateway.Goals as goal
 
 pub put_text-requires : goal.put_text-requires

@@ -1,7 +1,7 @@
 use Rattle.std.proofs.Common.{◌≤◌, arith}
 use Rattle.serde_json.specs.Data.{depth}
 use Rattle.json_codec.specs.Commands.{command_data}
-use Rattle.json_codec.proofs.FlatRows.{flat_command}
+use Rattle.json_codec.proofs.FlatCommand.{flat_command}
 use Rattle.json_codec.proofs.commands.write_command.Goals as goal
 
 pub written-requires-clause-plain : goal.written-requires-clause-plain

@@ -1,6 +1,6 @@
 use Rattle.std.proofs.Common.{◌≡◌, None}
 use Rattle.json_codec.specs.Commands.{command_data}
-use Rattle.json_codec.specs.Json.{IsCommand}
+use Rattle.json_values.specs.Json.{IsCommand}
 use Rattle.json_codec.specs.Operations.{operation_of, command_in, command_fault}
 use Rattle.json_codec.proofs.CommandLaws.{command_back}
 use Rattle.json_codec.proofs.BodyLaws.{body_of}

@@ -1,8 +1,8 @@
 use Rattle.std.proofs.Common.{◌≡◌, None}
 use Rattle.ikeless_tree.specs.Check.{sad_fault}
-use Rattle.json_codec.specs.Json.{IsOneSadEntry}
-use Rattle.json_codec.specs.Halves.{one_sad_entry_in}
-use Rattle.json_codec.proofs.HalfLaws.{one_sad_ok, one_sad_back}
+use Rattle.json_values.specs.Json.{IsOneSadEntry}
+use Rattle.json_tree.specs.Halves.{one_sad_entry_in}
+use Rattle.json_tree.proofs.HalfLaws.{one_sad_ok, one_sad_back}
 use Rattle.json_codec.proofs.BodyLaws.{body_ok, body_of}
 use Rattle.json_codec.proofs.laws.one_association_is_accepted.Goals as goal
 

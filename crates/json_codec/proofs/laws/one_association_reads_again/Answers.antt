@@ -1,11 +1,11 @@
 use Rattle.std.proofs.Common.{◌≡◌, None}
 use Rattle.ikeless_tree.specs.Check.{sad_fault}
-use Rattle.json_codec.specs.Associations.{one_association}
-use Rattle.json_codec.specs.Json.{IsOneSadEntry}
-use Rattle.json_codec.specs.Halves.{one_sad_entry_in}
-use Rattle.json_codec.proofs.HalfLaws.{one_sad_back}
+use Rattle.json_tree.specs.Associations.{one_association}
+use Rattle.json_values.specs.Json.{IsOneSadEntry}
+use Rattle.json_tree.specs.Halves.{one_sad_entry_in}
+use Rattle.json_tree.proofs.HalfLaws.{one_sad_back}
 use Rattle.json_codec.proofs.BodyLaws.{body_of}
-use Rattle.json_codec.proofs.HalfAgain.{one_half_again}
+use Rattle.json_tree.proofs.HalfAgain.{one_half_again}
 use Rattle.json_codec.proofs.laws.one_association_reads_again.Goals as goal
 
 pub returns : goal.returns

@@ -1,11 +1,11 @@
 use Rattle.std.proofs.Common.{◌≡◌, None}
 use Rattle.ikeless_tree.specs.Check.{spd_fault}
-use Rattle.json_codec.specs.Written.{all_policies}
-use Rattle.json_codec.specs.Json.{IsSpd}
-use Rattle.json_codec.specs.Policies.{spd_in}
-use Rattle.json_codec.proofs.PolicyLaws.{spd_back}
+use Rattle.json_values.specs.Written.{all_policies}
+use Rattle.json_values.specs.Json.{IsSpd}
+use Rattle.json_tree.specs.Policies.{spd_in}
+use Rattle.json_tree.proofs.PolicyLaws.{spd_back}
 use Rattle.json_codec.proofs.BodyLaws.{body_of}
-use Rattle.json_codec.proofs.PolicyAgain.{all_again}
+use Rattle.json_tree.proofs.PolicyAgain.{all_again}
 use Rattle.json_codec.proofs.laws.policies_read_again.Goals as goal
 
 pub returns : goal.returns

@@ -1,6 +1,6 @@
 use Rattle.std.proofs.Common.{◌≡◌}
-use Rattle.json_codec.proofs.Plain.{utf8_name}
-use Rattle.json_codec.proofs.Passed.{half_octets}
+use Rattle.json_values.proofs.Plain.{utf8_name}
+use Rattle.json_tree.proofs.Passed.{half_octets}
 use Rattle.notice_lines.proofs.write.expire_value.Goals as goal
 
 pub put_text-requires : goal.put_text-requires

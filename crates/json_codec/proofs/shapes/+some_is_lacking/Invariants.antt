@@ -1,5 +1,0 @@
-use Rattle.std.proofs.Common.{length}
-use Rattle.json_codec.proofs.shapes.+some_is_lacking.Given as goal
-
-abbrev pub decreases-some_is_lacking : goal.decreases-some_is_lacking
-decreases-some_is_lacking l = length l.needed.now

@@ -1,0 +1,10 @@
+pub mod Flat
+pub mod Passed
+pub mod FlatRows
+pub mod Keyless
+pub mod PolicyLaws
+pub mod HalfLaws
+pub mod PolicyAgain
+pub mod HalfAgain
+pub mod OneRow
+pub mod RowTexts

@@ -1,0 +1,5 @@
+pub mod Plain
+pub mod Lists
+pub mod ItemLemmas
+pub mod LeafLaws
+pub mod ShapeLaws

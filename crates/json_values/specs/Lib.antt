@@ -1,0 +1,7 @@
+pub mod Words
+pub mod Faults
+pub mod Shapes
+pub mod Members
+pub mod Leaves
+pub mod Json
+pub mod Written

@@ -1,0 +1,20 @@
+//! Values of JSON (RFC 7951) built and read: leaves, names, and the members that an object of the YANG module
+//! ietf-i2nsf-ikeless (RFC 9061) may have, with the fault of one that isn't right.
+#![tactic(auto)]
+
+mod build;
+mod fault;
+pub mod leaves;
+pub mod members;
+pub mod names;
+mod shapes;
+pub mod words;
+
+pub use build::{
+    Members, are_octets, has_octets, put, put_count, put_text, put_wide, put_word, single, written,
+};
+pub use fault::{
+    CodecFault, Fault, Kind, answer, at_made, at_member, kind_of_tree, not_json, within,
+};
+pub use leaves::{number_of, text_of};
+pub use shapes::{at_item, has_shape, only, refused};
