@@ -69,9 +69,6 @@ view-version p v e = versions p v (view_of_4 p) (view_of_6 p) (is_short p) (vers
 told : (n : ℕ) → ((n == 4) || (n == 6)) ≡ true → let m : ℕ = if n == 4 then 4 else 41 in (((m == 4) && (n == 4)) || ((m == 41) && (n == 6))) ≡ true
 told n e = grind (arith, e)
 
-not-dummy : (n : ℕ) → ((if n == 4 then 4 else 41) == 59) ≡ false
-not-dummy n = grind arith
-
 next-is : (m n : ℕ) → (((m == 4) && (n == 4)) || ((m == 41) && (n == 6))) ≡ true → m ≡ (if n == 4 then 4 else 41)
 next-is m n e = grind (arith, e)
 

@@ -83,9 +83,6 @@ command-lists g c x None e = going-lists g c (Accepted x) ∙ ap (λ z. lists g 
 command-lists g c x (Some w) e = refl
 
 -- a name that a gateway has is that of one of them
-minus-plus : (n : ℕ) → (n == 0) ≡ false → n - 1 + 1 ≡ n
-minus-plus n e = grind (arith, e)
-
 name-known : (f : List ℕ) (ps : List Peer) (g : ℕ) → g < length ps → bytes_eq f (name_of ps g) ≡ true → number_of f ps < length ps
 name-known f [] g i e = absurd (omega (arith, i))
 name-known f (p ∷ ps) g i e = by (bytes_eq p.name f) refl (g == 0) refl i e (name-known f ps (g - 1)) where

@@ -1,8 +1,7 @@
 -- Histories that are shown in pieces, one after another.
-use Rattle.std.proofs.Common.{◌≡◌, ℕ, ◌+◌, Bool, true, false, not, ◌&&◌, nat_lt, List, [], ◌∷◌, ◌++◌, length, Option, Some, None, Ok, Err, refl, sym, ◌∙◌, ap, subst, append-nil, append_assoc, if◌then◌else◌}
+use Rattle.std.proofs.Common.{◌≡◌, ℕ, ◌+◌, Bool, true, false, not, ◌&&◌, nat_lt, List, [], ◌∷◌, ◌++◌, length, Option, Some, None, Ok, refl, sym, ◌∙◌, ap, subst, append-nil, append_assoc, if◌then◌else◌}
 use Rattle.std.specs.List.{list_all}
 use Rattle.ikl_base.specs.declared.address.Addr.{Addr}
-use Rattle.ip_packet.specs.declared.packet.NotPacket.{NotPacket}
 use Rattle.ip_packet.specs.View.{Packet, view_of}
 use Rattle.ikeless_tree.specs.declared.association.SadEntry.{SadEntry}
 use Rattle.ikeless_tree.specs.declared.entry.Direction.TheVariants.{In}
@@ -108,9 +107,6 @@ arrives shows header p e c o xs m f w =
     }
 
 -- ---- it comes to no half that a forged one could come to
-
-pub genuine-no-view : (g : List ℕ) (own : Addr) (h : List Act) (o : List ℕ) (fault : NotPacket) → view_of o ≡ Err fault → is_forged g own h o ≡ false
-genuine-no-view g own h o fault e = ap (is_view_forged g own h) e
 
 forged-view : (g : List ℕ) (own : Addr) (h : List Act) (o : List ℕ) (v : Packet) → view_of o ≡ Ok v → is_esp_forged g h v.payload ≡ false → is_forged g own h o ≡ false
 forged-view g own h o v e f = ap (is_view_forged g own h) e ∙ and-false (is_sealed_for own v) (is_esp_forged g h v.payload) f

@@ -169,9 +169,6 @@ older-out : (x : Association) (g f s k : ℕ) (o : Order) (h : List Act) → (Pu
 older-out x g f s k o h q (inl e) = absurd (q e.0)
 older-out x g f s k o h q (inr e) = e
 
-flip-apart : (m n : ℕ) → (m == n) ≡ false → (n == m) ≡ false
-flip-apart m n e = grind (arith, e)
-
 may-put-out : (ps : List Peer) (g s k : ℕ) (x : Association) (h : List Act) → IsPast (length ps) (Ordered g s k (PutOut x) ∷ h) → Named ps → AllFit (length ps) h
     → law.MayPutOut (name_of ps g) (out_entry ps x) (past_told ps h)
 may-put-out ps g s k x h l names f =

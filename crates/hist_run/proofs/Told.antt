@@ -11,7 +11,7 @@ use Rattle.ikeless_tree.specs.Half.{is_inbound}
 use Rattle.hist_acts.specs.Sessions as sessions
 use Rattle.hist_controller.specs.Acts.{Association, in_name, out_name, Order, Read, Policy, PutIn, PutOut, RemoveIn, RemoveOut, Act, Opened, Cut, Answered, Heard, Ordered, Accepted, Refused}
 use Rattle.hist_controller.specs.Past.{serials, queue, oldest, is, answers_to, heard, spoils, ended, sends, PuttingIn, PuttingOut, RemovingIn, RemovingOut}
-use Rattle.hist_controller.specs.Clauses.{IsPast, MayInPut, MayOutPut, MayInRemove, MayOutRemove}
+use Rattle.hist_controller.specs.Clauses.{IsPast, MayInPut, MayOutPut, MayInRemove}
 use Rattle.hist_controller.specs.Orders.{given, Given}
 use Rattle.hist_controller.specs.Table.{AllFit}
 use Rattle.hist_controller.specs.Told.{Named, in_entry, name_of, order_told, past_told}
@@ -71,9 +71,6 @@ out-small p h g x l m = let a = few p h l in let b = low p h l m.way x m.left in
 
 in-gone-small : (p : ℕ) (h : List Act) (g n : ℕ) → IsPast p h → MayInRemove h g n → n < 2 ^ 64
 in-gone-small p h g n l m = let a = few p h l in let b = low p h l m.way m.association m.left in let c = m.name in omega (arith, a, b, c)
-
-out-gone-small : (p : ℕ) (h : List Act) (g n : ℕ) → IsPast p h → MayOutRemove h g n → n < 2 ^ 64
-out-gone-small p h g n l m = let a = few p h l in let b = low p h l m.way m.association m.left in let c = m.name in omega (arith, a, b, c)
 
 -- ---- which halves were ordered put and removed
 
