@@ -23,9 +23,6 @@ and-both : (a b : Bool) → (a && b) ≡ true → (a ≡ true) × (b ≡ true)
 and-both true b e = (refl, e)
 and-both false b e = cc
 
-and-make : (a b : Bool) → a ≡ true → b ≡ true → (a && b) ≡ true
-and-make a b p q = rw (p, q) refl
-
 and-false : (a b : Bool) → b ≡ false → (a && b) ≡ false
 and-false true b e = e
 and-false false b e = refl

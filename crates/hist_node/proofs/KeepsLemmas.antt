@@ -209,9 +209,6 @@ entries-kept g h (e ∷ es) = let ih = entries-kept g h es in cc
 -- ---- the state
 
 -- an act of this gateway, or of another
-pub did-here : (g : List ℕ) (s : State) (a : Act) → is_at g a ≡ true → did_at s a ≡ did g s a
-did-here g s a at = if-true (is_at g a) (did_at s a) (quiet s) at
-
 pub did-away : (g : List ℕ) (s : State) (a : Act) → is_at g a ≡ false → quiet s ≡ did g s a
 did-away g s a at = if-false (is_at g a) (did_at s a) (quiet s) at
 
