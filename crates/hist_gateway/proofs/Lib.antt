@@ -1,2 +1,13 @@
-pub mod HistoryLemmas
+pub mod KeepsLemmas
+pub mod ReadingsLemmas
+pub mod BlocksLemmas
+pub mod StepsLemmas
+pub mod MayLemmas
 pub mod SafeLemmas
+pub mod Shown
+pub mod AnswersLemmas
+pub mod HalvesLemmas
+pub mod DeliveryLemmas
+pub mod TreeLemmas
+pub mod SessionsLemmas
+pub mod OwnLemmas

@@ -1,128 +1,104 @@
--- Every history is safe.
-use Rattle.std.proofs.Common.{◌≡◌, ℕ, ◌+◌, List, [], ◌∷◌, length, refl, sym, subst, Bool, true, false, Option, Some, None, Result, Ok, Err, if◌then◌else◌, nat_lt, inl, inr, ◌⊎◌, ap, add-zero, arith}
-use Rattle.ikeless_tree.specs.declared.command.Peer.{Peer}
-use Rattle.ikeless_tree.specs.declared.reply.DropWhy.{DropWhy}
-use Rattle.ikeless_tree.specs.declared.reply.DropWhy.TheVariants as why
-use Rattle.ikeless_tree.specs.declared.entry.SpdEntry.{SpdEntry}
-use Rattle.ikeless_tree.specs.declared.entry.Action.{Action}
-use Rattle.ikeless_tree.specs.declared.entry.Action.TheVariants as actions
-use Rattle.ikeless_tree.specs.declared.entry.Direction.TheVariants.{Out}
-use Rattle.ip_packet.specs.declared.packet.NotPacket.{NotPacket}
-use Rattle.ip_packet.specs.declared.packet.NotPacket.TheVariants as faults
-use Rattle.ip_packet.specs.View.{Packet, view_of}
-use Rattle.spd_match.specs.Match.{first_entry}
+-- A past in which each act may follow those before it is safe.
+use Rattle.std.proofs.Common.{◌≡◌, ◌≤◌, ℕ, ◌+◌, ◌==◌, Bool, true, false, ◌&&◌, List, [], ◌∷◌, refl, sym, ◌∙◌, ap, subst, arith, if◌then◌else◌}
+use Rattle.std.specs.Str.{bytes_eq}
+use Rattle.replay_win.specs.declared.verdict.Verdict.TheVariants as verdicts
+use Rattle.replay_win.specs.Marks.{is_among, is_below, greatest, verdict_by, verdict_over}
 use Rattle.hist_acts.specs.declared.act.Act.{Act}
 use Rattle.hist_acts.specs.declared.act.Act.TheVariants as acts
-use Rattle.hist_acts.specs.declared.event.Event.{Event}
-use Rattle.hist_acts.specs.declared.event.Event.TheVariants as events
-use Rattle.hist_acts.specs.Past.{after, events_taken, force}
-use Rattle.hist_gateway.specs.Answer.{answer, by_view, by_fault, by_entry, by_action}
-use Rattle.hist_gateway.specs.History.{block, history}
-use Rattle.hist_acts.specs.Gateways.{is_named}
-use Rattle.hist_gateway.specs.Safe.{Safe, IsSafeAct}
-use Rattle.hist_gateway.proofs.HistoryLemmas.{after-append}
+use Rattle.hist_acts.specs.Past.{after}
+use Rattle.ikeless_tree.specs.declared.association.SadEntry.{SadEntry}
+use Rattle.hist_halves.specs.Sealed.{number_of}
+use Rattle.hist_halves.specs.Halves.{is_half, sent, taken}
+use Rattle.hist_gateway.specs.Block.{Gateway, Event, gw_block, gw_history}
+use Rattle.hist_gateway.specs.May.{MayFollow, IsLawful}
+use Rattle.hist_gateway.specs.Safe.{numbers, Safe}
+use Rattle.hist_gateway.proofs.KeepsLemmas.{same-is}
+use Rattle.hist_gateway.proofs.MayLemmas.{AllFit, may-block}
+use Rattle.hist_gateway.proofs.StepsLemmas.{after-append}
+use Rattle.hist_gateway.proofs.HalvesLemmas.{lawful-after}
 
--- the answer's own past: the Let, and before it the number of the event
-action_safe : (g o : List ℕ) (h : List Act) (v : Packet) (e : SpdEntry) (a : Action) → view_of o ≡ Ok v → first_entry (force g h) Out v ≡ Some e → e.action ≡ a →
-    IsSafeAct (acts.Let g o ∷ h) (by_action g o a)
-action_safe g o h v e actions.Protect seen first act = tt
-action_safe g o h v e actions.Bypass seen first act =
-    record { older = h; let_before = refl; bypass = record { packet = v; entry = e; view = seen; first = first; action = act } }
-action_safe g o h v e actions.Discard seen first act = tt
+-- ---- numbers are at most the count
 
-entry_safe : (g o : List ℕ) (h : List Act) (v : Packet) (found : Option SpdEntry) → view_of o ≡ Ok v → first_entry (force g h) Out v ≡ found →
-    IsSafeAct (acts.Let g o ∷ h) (by_entry g o found)
-entry_safe g o h v None seen first = tt
-entry_safe g o h v (Some e) seen first = action_safe g o h v e e.action seen first refl
+abbrev pub AllUpTo : ℕ → List ℕ → Type 0
+AllUpTo m [] = Unit {0}
+AllUpTo m (x ∷ xs) = (x ≤ m) × AllUpTo m xs
 
-long_safe : (g o : List ℕ) (h : List Act) (v : Packet) (is_long : Bool) → view_of o ≡ Ok v →
-    IsSafeAct (acts.Let g o ∷ h) (if is_long then acts.Drop g why.TooLong else by_entry g o (first_entry (force g h) Out v))
-long_safe g o h v true seen = tt
-long_safe g o h v false seen = entry_safe g o h v (first_entry (force g h) Out v) seen refl
+more : (m : ℕ) (xs : List ℕ) → AllUpTo m xs → AllUpTo (m + 1) xs
+more m [] p = tt
+more m (x ∷ xs) p = (omega (arith, p.0), more m xs p.1)
 
-fault_safe : (g : List ℕ) (h : List Act) (f : NotPacket) → IsSafeAct h (by_fault g f)
-fault_safe g h faults.Short = tt
-fault_safe g h faults.Version = tt
-fault_safe g h faults.Length = tt
-fault_safe g h faults.HeaderSum = tt
-fault_safe g h faults.Fragment = tt
+unused : (m : ℕ) (xs : List ℕ) → AllUpTo m xs → is_among (m + 1) xs ≡ false
+unused m [] p = refl
+unused m (x ∷ xs) p = let ih = unused m xs p.1 in let q : x ≤ m = p.0 in grind arith
 
-view_safe : (g o : List ℕ) (h : List Act) (r : Result Packet NotPacket) → view_of o ≡ r → IsSafeAct (acts.Let g o ∷ h) (by_view g (force g h) o r)
-view_safe g o h (Err f) seen = fault_safe g (acts.Let g o ∷ h) f
-view_safe g o h (Ok v) seen = long_safe g o h v (nat_lt 65000 (length o)) seen
+few-put : (b : Bool) (m : ℕ) (xs : List ℕ) → AllUpTo m xs → AllUpTo (if b then 0 else m) (if b then [] else xs)
+few-put true m xs p = tt
+few-put false m xs p = p
 
-answer_safe : (g o : List ℕ) (h : List Act) → IsSafeAct (acts.Let g o ∷ h) (answer g (force g h) o)
-unfolding answer
-answer_safe g o h = view_safe g o h (view_of o) refl
+few-sent : (b : Bool) (m k : ℕ) (xs : List ℕ) → AllUpTo m xs → (b ≡ true → k ≤ m + 1) → AllUpTo (if b then m + 1 else m) (if b then k ∷ xs else xs)
+few-sent true m k xs p q = (q refl, more m xs p)
+few-sent false m k xs p q = p
 
-policy_safe : (h : List Act) (g : List ℕ) (list : List SpdEntry) (is_here : Bool) → Safe h → Safe (after h (if is_here then acts.Policy g list ∷ [] else []))
-policy_safe h g list true safe = (tt, safe)
-policy_safe h g list false safe = safe
+and-both : (a b : Bool) → (a && b) ≡ true → (a ≡ true) × (b ≡ true)
+and-both true b e = (refl, e)
+and-both false b e = cc
 
-pub block_safe : (gateways : List Peer) (h : List Act) (e : Event) → Safe h → Safe (after h (block gateways h e))
-unfolding block
-block_safe gateways h (events.Policy g list) safe = policy_safe (acts.Took (events_taken h + 1) ∷ h) g list (is_named gateways g) (tt, safe)
-block_safe gateways h (events.Let g o) safe = (answer_safe g o (acts.Took (events_taken h + 1) ∷ h), (tt, (tt, safe)))
-block_safe gateways h e safe = (tt, safe)
+same-sent : (h : List Act) (f y g x : List ℕ) (n : ℕ) → n ≡ sent f y h + 1 → is_half f y g x ≡ true → n ≤ sent g x h + 1
+same-sent h f y g x n e own =
+    let both = and-both (bytes_eq f g) (bytes_eq y x) own in
+    let same : sent f y h ≡ sent g x h = ap (λ t. sent t y h) (same-is f g both.0) ∙ ap (λ t. sent g t h) (same-is y x both.1) in
+    omega (arith, e, same)
 
-pub history_safe : (gateways : List Peer) (h : List Act) (es : List Event) → Safe h → Safe (after h (history gateways h es))
-history_safe gateways h [] safe = safe
-history_safe gateways h (e ∷ es) safe =
-    let b : List Act = block gateways h e in
-    let P : List Act → Type 0 = Safe in
-    subst P (sym (after-append h b (history gateways (after h b) es))) (history_safe gateways (after h b) es (block_safe gateways h e safe))
+record Good (h : List Act) : Type 0 where
+  pub few : (g x : List ℕ) → AllUpTo (sent g x h) (numbers g x h)
+  pub safe : Safe h
 
--- a packet's answer is Clear or Drop
-action_is : (g o : List ℕ) (a : Action) → (by_action g o a ≡ acts.Clear g o) ⊎ ((w : DropWhy) × (by_action g o a ≡ acts.Drop g w))
-action_is g o actions.Protect = inr (why.NoSa, refl)
-action_is g o actions.Bypass = inl refl
-action_is g o actions.Discard = inr (why.Discard, refl)
+-- ---- a number that is fresh was not taken
 
-entry_is : (g o : List ℕ) (e : Option SpdEntry) → (by_entry g o e ≡ acts.Clear g o) ⊎ ((w : DropWhy) × (by_entry g o e ≡ acts.Drop g w))
-entry_is g o None = inr (why.NoPolicy, refl)
-entry_is g o (Some e) = action_is g o e.action
+fresh-by : (size top s : ℕ) (is_taken zero old : Bool) → (s == 0) ≡ zero → is_below size top s ≡ old → verdict_by size top is_taken s ≡ verdicts.Fresh → is_taken ≡ false
+fresh-by size top s false zero old z o e = refl
+fresh-by size top s true true old z o e = let p : verdicts.Zero ≡ verdicts.Fresh = subst (λ b. (if b then verdicts.Zero else if is_below size top s then verdicts.Old else verdicts.Seen) ≡ verdicts.Fresh) z e in cc
+fresh-by size top s true false true z o e = let p : verdicts.Old ≡ verdicts.Fresh = subst (λ b. (if b then verdicts.Old else verdicts.Seen) ≡ verdicts.Fresh) o (subst (λ b. (if b then verdicts.Zero else if is_below size top s then verdicts.Old else verdicts.Seen) ≡ verdicts.Fresh) z e) in cc
+fresh-by size top s true false false z o e = let p : verdicts.Seen ≡ verdicts.Fresh = subst (λ b. (if b then verdicts.Old else verdicts.Seen) ≡ verdicts.Fresh) o (subst (λ b. (if b then verdicts.Zero else if is_below size top s then verdicts.Old else verdicts.Seen) ≡ verdicts.Fresh) z e) in cc
 
-length_is : (g o : List ℕ) (e : Option SpdEntry) (is_long : Bool) → let a : Act = if is_long then acts.Drop g why.TooLong else by_entry g o e in (a ≡ acts.Clear g o) ⊎ ((w : DropWhy) × (a ≡ acts.Drop g w))
-length_is g o e true = inr (why.TooLong, refl)
-length_is g o e false = entry_is g o e
+pub fresh-is : (size : ℕ) (ns : List ℕ) (s : ℕ) → verdict_over size ns s ≡ verdicts.Fresh → is_among s ns ≡ false
+fresh-is size ns s e = fresh-by size (greatest ns) s (is_among s ns) (s == 0) (is_below size (greatest ns) s) refl refl e
 
-fault_is : (g o : List ℕ) (f : NotPacket) → (by_fault g f ≡ acts.Clear g o) ⊎ ((w : DropWhy) × (by_fault g f ≡ acts.Drop g w))
-fault_is g o faults.Short = inr (why.Malformed, refl)
-fault_is g o faults.Version = inr (why.Malformed, refl)
-fault_is g o faults.Length = inr (why.Malformed, refl)
-fault_is g o faults.HeaderSum = inr (why.Malformed, refl)
-fault_is g o faults.Fragment = inr (why.Fragment, refl)
+-- ---- each act
 
-view_is : (g : List ℕ) (list : List SpdEntry) (o : List ℕ) (r : Result Packet NotPacket) → (by_view g list o r ≡ acts.Clear g o) ⊎ ((w : DropWhy) × (by_view g list o r ≡ acts.Drop g w))
-view_is g list o (Err f) = fault_is g o f
-view_is g list o (Ok v) = length_is g o (first_entry list Out v) (nat_lt 65000 (length o))
+good : (q : Gateway) (h : List Act) (a : Act) → MayFollow q h a → Good h → Good (a ∷ h)
+good q h (acts.Clear f o) m k = record { few = k.few; safe = (m, k.safe) }
+good q h (acts.Pass f o) m k = record { few = k.few; safe = (m, k.safe) }
+good q h (acts.Put f e) m k = record { few = λ g x. few-put (is_half f e.name g x) (sent g x h) (numbers g x h) (k.few g x); safe = (tt, k.safe) }
+good q h (acts.Sent f y n o) m k = record {
+  few = λ g x. few-sent (is_half f y g x) (sent g x h) n (numbers g x h) (k.few g x) (same-sent h f y g x n m.number);
+  safe = (subst (λ t. is_among t (numbers f y h) ≡ false) (sym m.number) (unused (sent f y h) (numbers f y h) (k.few f y)), k.safe);
+}
+good q h (acts.Gave f y n o) m k =
+    let e : SadEntry = m.opens.half in
+    let b : List ℕ = m.opens.outer.payload in
+    let own : verdict_over e.window (taken f y h) (number_of e (taken f y h) b) ≡ verdicts.Fresh = subst (λ x. verdict_over e.window (taken f x h) (number_of e (taken f x h) b) ≡ verdicts.Fresh) (sym m.name) m.opens.fresh in
+    let fresh : verdict_over e.window (taken f y h) n ≡ verdicts.Fresh = subst (λ s. verdict_over e.window (taken f y h) s ≡ verdicts.Fresh) (sym m.number) own in
+    record { few = k.few; safe = (fresh-is e.window (taken f y h) n fresh, k.safe) }
+good q h a m k = record { few = k.few; safe = (tt, k.safe) }
 
-pub answer_is : (g : List ℕ) (list : List SpdEntry) (o : List ℕ) → (answer g list o ≡ acts.Clear g o) ⊎ ((w : DropWhy) × (answer g list o ≡ acts.Drop g w))
-unfolding answer
-answer_is g list o = view_is g list o (view_of o)
+good-lawful : (q : Gateway) (h : List Act) → IsLawful q h → Good h
+good-lawful q [] l = record { few = λ g x. tt; safe = tt }
+good-lawful q (a ∷ h) l = good q h a l.0 (good-lawful q h l.1)
 
--- an answer isn't the number of an event
-events_taken-answer : (name o : List ℕ) (a : Act) (h : List Act) → (a ≡ acts.Clear name o) ⊎ ((w : DropWhy) × (a ≡ acts.Drop name w)) → events_taken (a ∷ h) ≡ events_taken h
-events_taken-answer name o a h (inl e) = ap (λ x. events_taken (x ∷ h)) e
-events_taken-answer name o a h (inr (w, e)) = ap (λ x. events_taken (x ∷ h)) e
+pub safe-lawful : (q : Gateway) (h : List Act) → IsLawful q h → Safe h
+safe-lawful q h l = (good-lawful q h l).safe
 
-events_taken-policy : (h : List Act) (name : List ℕ) (list : List SpdEntry) (is_here : Bool) →
-    events_taken (after (acts.Took (events_taken h + 1) ∷ h) (if is_here then acts.Policy name list ∷ [] else [])) ≡ events_taken h + 1
-events_taken-policy h name list true = refl
-events_taken-policy h name list false = refl
+pub lawful-block : AllFit → (c : Gateway) (h : List Act) (e : Event) → IsLawful c h → IsLawful c (after h (gw_block c h e))
+lawful-block fits c h e l = lawful-after c h (gw_block c h e) l (may-block fits c h e)
 
-pub events_taken-block : (gateways : List Peer) (h : List Act) (e : Event) → events_taken (after h (block gateways h e)) ≡ events_taken h + 1
-unfolding block
-events_taken-block gateways h (events.Policy name list) = events_taken-policy h name list (is_named gateways name)
-events_taken-block gateways h (events.Let name o) =
-    events_taken-answer name o (answer name (force name h) o) (acts.Let name o ∷ acts.Took (events_taken h + 1) ∷ h) (answer_is name (force name h) o)
-events_taken-block gateways h e = refl
+lawful-on : AllFit → (c : Gateway) (h : List Act) (es : List Event) → IsLawful c h → IsLawful c (after h (gw_history c h es))
+lawful-on fits c h [] l = l
+lawful-on fits c h (e ∷ es) l =
+    rw (after-append h (gw_block c h e) (gw_history c (after h (gw_block c h e)) es)) (lawful-on fits c (after h (gw_block c h e)) es (lawful-block fits c h e l))
 
-pub events_taken-history : (gateways : List Peer) (h : List Act) (es : List Event) → events_taken (after h (history gateways h es)) ≡ events_taken h + length es
-events_taken-history gateways h [] = sym (add-zero (events_taken h))
-events_taken-history gateways h (e ∷ es) =
-    let b : List Act = block gateways h e in
-    let first = events_taken-block gateways h e in
-    let rest = events_taken-history gateways (after h b) es in
-    let joined = ap events_taken (after-append h b (history gateways (after h b) es)) in
-    omega (arith, first, rest, joined)
+pub lawful-history : AllFit → (c : Gateway) (es : List Event) → IsLawful c (after [] (gw_history c [] es))
+lawful-history fits c es = lawful-on fits c [] es tt
+
+pub safe-history : AllFit → (c : Gateway) (es : List Event) → Safe (after [] (gw_history c [] es))
+safe-history fits c es = safe-lawful c (after [] (gw_history c [] es)) (lawful-history fits c es)

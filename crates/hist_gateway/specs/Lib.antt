@@ -1,3 +1,14 @@
-pub mod Answer
-pub mod History
+pub mod Uses
+pub mod Stands
+pub mod Rows
+pub mod Datagram
+pub mod Look
+pub mod Let
+pub mod Arrive
+pub mod Handle
+pub mod Block
+pub mod State
+pub mod May
+pub mod Machine
 pub mod Safe
+pub mod Answers

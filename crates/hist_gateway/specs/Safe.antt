@@ -1,31 +1,25 @@
--- What holds of every history.
-use Rattle.std.specs.Prelude.{◌≡◌, List, [], ◌∷◌, ℕ, Some, Ok}
-use Rattle.ip_packet.specs.View.{Packet, view_of}
-use Rattle.ikeless_tree.specs.declared.entry.SpdEntry.{SpdEntry}
-use Rattle.ikeless_tree.specs.declared.entry.Action.TheVariants as actions
-use Rattle.ikeless_tree.specs.declared.entry.Direction.TheVariants.{Out}
-use Rattle.spd_match.specs.Match.{first_entry}
+-- What holds of every history of one gateway.
+use Rattle.std.specs.Prelude.{◌≡◌, ℕ, false, List, [], ◌∷◌, if◌then◌else◌}
+use Rattle.replay_win.specs.Marks.{is_among}
 use Rattle.hist_acts.specs.declared.act.Act.{Act}
 use Rattle.hist_acts.specs.declared.act.Act.TheVariants as acts
-use Rattle.hist_acts.specs.Past.{force}
+use Rattle.hist_halves.specs.Halves.{is_half, taken}
+use Rattle.hist_gateway.specs.May.{IsLetOut, IsArrivalIn}
 
--- the octets are a packet, and the first entry of the list that holds it says bypass
-pub record Bypasses (list : List SpdEntry) (o : List ℕ) : Type 0 where
-  pub packet : Packet
-  pub entry : SpdEntry
-  pub view : view_of o ≡ Ok packet
-  pub first : first_entry list Out packet ≡ Some entry
-  pub action : entry.action ≡ actions.Bypass
+-- the numbers sent under the half since its installation, the newest first
+abbrev pub numbers : List ℕ → List ℕ → List Act → List ℕ
+numbers g x [] = []
+numbers g x (acts.Put f e ∷ h) = if is_half f e.name g x then [] else numbers g x h
+numbers g x (acts.Sent f y n o ∷ h) = if is_half f y g x then n ∷ numbers g x h else numbers g x h
+numbers g x (_ ∷ h) = numbers g x h
 
--- a packet that leaves in clear is that of the Let just before, and a bypass entry in force lets it
-pub record ClearIsLet (h : List Act) (g o : List ℕ) : Type 0 where
-  pub older : List Act
-  pub let_before : h ≡ acts.Let g o ∷ older
-  pub bypass : Bypasses (force g h) o
-
--- an act is safe after its past
+-- An act is safe after its past: in clear only what a bypass entry in force lets goes out or comes in, no number is sent twice
+-- under one installation, and none is given that was taken before.
 abbrev pub IsSafeAct : List Act → Act → Type 0
-IsSafeAct h (acts.Clear g o) = ClearIsLet h g o
+IsSafeAct h (acts.Clear f o) = IsLetOut h f o
+IsSafeAct h (acts.Pass f o) = IsArrivalIn h f o
+IsSafeAct h (acts.Sent f x n o) = is_among n (numbers f x h) ≡ false
+IsSafeAct h (acts.Gave f x n o) = is_among n (taken f x h) ≡ false
 IsSafeAct h _ = Unit {0}
 
 -- each act is safe after those before it

@@ -1,6 +1,9 @@
-//! The law of a gateway over what happened, and that every history that keeps it is safe.
+//! The law of a gateway over what happened: for each event the one block of acts that may follow a past.
 #![tactic(auto)]
 
 mod laws;
 
-pub use laws::{answers, goes_on, is_every_history_safe};
+pub use laws::{
+    answers, blocks_follow, counts_requests, delivers, goes_on, halves, is_every_history_safe,
+    keeps, readings, requests_change, sealed, stays_elsewhere, steps,
+};

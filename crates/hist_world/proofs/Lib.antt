@@ -1,19 +1,36 @@
-pub mod Basics
-pub mod Sessions
-pub mod Orders
-pub mod Once
-pub mod Finality
-pub mod Removal
-pub mod Pairs
-pub mod Halves
-pub mod Frames
-pub mod Keys
-pub mod Live
-pub mod Carried
-pub mod Window
-pub mod Safe
-pub mod Numbers
-pub mod Invariant
-pub mod Ended
-pub mod Blocks
+pub mod Followers
+pub mod Lets
+pub mod Arrives
+pub mod Handles
+pub mod Told
+pub mod MayOrders
+pub mod Parts
+pub mod Controls
+pub mod Owns
+pub mod Runs
+pub mod Fresh
+pub mod Owners
+pub mod Room
+pub mod Made
+pub mod Unrefused
+pub mod ListPlaces
+pub mod InForce
+pub mod Commanded
+pub mod Goes
 pub mod Shown
+pub mod ShownAcquire
+mod ShownLists
+mod ShownWire
+pub mod ShownSetup
+pub mod ShownDatagrams
+pub mod ShownPacket
+mod ShownChanged
+mod ShownForged
+mod ShownRekey
+mod ShownKeys
+mod ShownLimit
+mod ShownCut
+mod ShownRestart
+mod ShownAbandoned
+mod ShownClock
+mod ShownCommands

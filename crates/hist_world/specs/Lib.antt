@@ -1,6 +1,8 @@
-pub mod Orders
-pub mod Carried
-pub mod Law
-pub mod Safe
-pub mod Kept
-pub mod Ended
+pub mod Arrivals
+pub mod Block
+pub mod Headers
+pub mod Parts
+pub mod Events
+pub mod Stands
+pub mod Puts
+pub mod Lists

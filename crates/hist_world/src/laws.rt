@@ -1,40 +1,76 @@
 // Laws for the crates above: each is the contract of a function with an empty body.
-ghost use Rattle.std.specs.Prelude.{◌≡◌, ℕ, List, true};
-ghost use Rattle.ikeless_tree.specs.declared.command.Peer.{Peer};
-ghost use Rattle.hist_acts.specs.declared.act.Act.{Act};
+ghost use Rattle.std.specs.Prelude.{◌≡◌, ◌<◌, ◌≤◌, ℕ, false, List, [], length};
+ghost use Rattle.hist_acts.specs.declared.event.Event.{Event};
+ghost use Rattle.hist_acts.specs.declared.event.Header.{Header};
 ghost use Rattle.hist_acts.specs.Past.{after};
-ghost use Rattle.hist_world.specs.Carried.{was_sent};
-ghost use Rattle.hist_world.specs.Ended.{DoomedIsEnded};
-ghost use Rattle.hist_world.specs.Kept.{Kept};
-ghost use Rattle.hist_world.specs.Law.{IsLawful, IsWhole, MayAll};
-ghost use Rattle.hist_world.specs.Safe.{IsLastSafe, Safe};
+ghost use Rattle.hist_halves.specs.Halves.{live};
+ghost use Rattle.hist_controller.specs.Acts.{Way};
+ghost use Rattle.hist_controller.specs.Counts.{lists};
+ghost use Rattle.hist_controller.specs.Halves.{PlainAnswers};
+ghost use Rattle.hist_controller.specs.Past.{left};
+ghost use Rattle.hist_controller.specs.Told.{name_of};
+ghost use Rattle.hist_safety.specs.Law.{IsLawful};
+ghost use Rattle.hist_safety.specs.Safe.{Safe};
+ghost use Rattle.hist_world.specs.Block.{Past, Shows, forges, history, nothing, past_after};
+ghost use Rattle.hist_world.specs.Events.{AreEventsOf, IsEventOf, IsKnown};
+ghost use Rattle.hist_world.specs.Headers.{IsHeader};
+ghost use Rattle.hist_world.specs.Lists.{NeverBack, commanded, put_in_force};
+ghost use Rattle.hist_world.specs.Puts.{NoneRefused};
+ghost use Rattle.hist_world.specs.Stands.{AreGenuine, Stands, past_at};
 
-/// Every lawful history of any number of gateways and their controller is safe, in its five parts. One that is whole leaves
-/// nothing unanswered at its end that must be given.
-pub fn is_every_lawful_history_safe()
-    ensures parts { (gateways : List Peer) (h : List Act) → IsLawful gateways h → Safe gateways h }
-    ensures end { (gateways : List Peer) (h : List Act) → IsLawful gateways h → IsWhole gateways h → IsLastSafe gateways h }
+/// Whatever events come to gateways and their controller, each act may happen after those before it, up to the first forged
+/// arrival.
+pub fn is_every_history_lawful()
+    ensures { (shows : Shows) (header : Header) (events : List Event) → IsHeader header → AreEventsOf header events
+        → IsLawful header.gateways (after [] (history shows header nothing events)) }
 {}
 
-/// What every lawful history keeps, for further laws.
-pub fn kept()
-    ensures { (gateways : List Peer) (h : List Act) → IsLawful gateways h → Kept h }
+/// Whatever events come: no packet leaves in clear but where the first policy that holds it says bypass, no AES key and IV
+/// seal twice, each packet that is given was let in at its peer and is given once, what is sent has its inbound half live
+/// unless that met a hard limit or a restart, and what arrives unchanged and fresh before its half is ordered removed is given.
+pub fn is_every_history_safe()
+    ensures { (shows : Shows) (header : Header) (events : List Event) → IsHeader header → AreEventsOf header events
+        → Safe header.gateways (after [] (history shows header nothing events)) }
 {}
 
-/// Under one half a number is sent once: at one gateway, with the same ESP octets, for the same packet.
-pub fn number_is_sent_once()
-    ensures { (gateways : List Peer) (g f x : List ℕ) (n : ℕ) (b c p q : List ℕ) (h : List Act) → IsLawful gateways h →
-        was_sent g x n b p h ≡ true → was_sent f x n c q h ≡ true → (g ≡ f) × (b ≡ c) × (p ≡ q) }
+/// Between the events of a history without a forged arrival what happened is lawful and has no open question, the
+/// controller's part of it is the controller's own past, and no direction of a tunnel idles.
+pub fn stands_between_events()
+    ensures start { (header : Header) → Stands header nothing }
+    ensures event { (shows : Shows) (header : Header) (p : Past) (e : Event) → IsHeader header → IsEventOf header e → Stands header p
+        → forges header p e ≡ false → Stands header (past_after shows header p e) }
+    ensures history { (shows : Shows) (header : Header) (events : List Event) → IsHeader header → AreEventsOf header events
+        → AreGenuine shows header nothing events → Stands header (past_at shows header nothing events) }
+    ensures past { (shows : Shows) (header : Header) (events : List Event) → AreGenuine shows header nothing events
+        → after [] (history shows header nothing events) ≡ (past_at shows header nothing events).world }
 {}
 
-/// A lawful history goes on by acts that may happen after it, and each of its beginnings is lawful.
-pub fn goes_on()
-    ensures on { (gateways : List Peer) (h more : List Act) → IsLawful gateways h → MayAll gateways h more → IsLawful gateways (after h more) }
-    ensures back { (gateways : List Peer) (h more : List Act) → IsLawful gateways (after h more) → IsLawful gateways h }
+/// Whatever events come, each put that a gateway handles is answered with 201, and so is each put whose answer the controller
+/// hears: the half has a new name, an inbound one a new SPI, and there is room for it.
+pub fn no_put_is_refused()
+    ensures { (shows : Shows) (header : Header) (events : List Event) → IsHeader header → AreEventsOf header events
+        → NoneRefused (after [] (history shows header nothing events)) }
 {}
 
-/// Where each removal of an inbound half was ordered only once its association was ended, and what is ended stays so, an
-/// association that isn't ended has no removal of its inbound half ordered.
-pub fn removed_is_ended()
-    ensures { DoomedIsEnded }
+/// Between the events of a history without a forged arrival no put was answered otherwise than with 201 or a refusal, each
+/// direction has two associations left at most, and at most 4,096 halves are live at a gateway.
+pub fn few_halves_are_live()
+    ensures plain { (shows : Shows) (header : Header) (events : List Event) → IsHeader header → AreEventsOf header events
+        → AreGenuine shows header nothing events → PlainAnswers (past_at shows header nothing events).controller }
+    ensures left { (shows : Shows) (header : Header) (events : List Event) → IsHeader header → AreEventsOf header events
+        → AreGenuine shows header nothing events → (d : Way) → length (left d (past_at shows header nothing events).controller) ≤ 2 }
+    ensures live { (shows : Shows) (header : Header) (events : List Event) → IsHeader header → AreEventsOf header events
+        → AreGenuine shows header nothing events → (g : List ℕ) → length (live g (past_at shows header nothing events).world) ≤ 4096 }
+{}
+
+/// The lists of policies put in force at a gateway are lists commanded for it, in the order of the commands: some may be left
+/// out and some come again, but none goes back. So it is between events, where those accepted for a gateway are those commanded,
+/// and at the end of every history, with a forged arrival or without.
+pub fn lists_never_go_back()
+    ensures between { (header : Header) (p : Past) → IsHeader header → Stands header p → (g : ℕ) → g < length header.gateways
+        → NeverBack (lists g p.controller) (put_in_force (name_of header.gateways g) p.world) }
+    ensures accepted { (shows : Shows) (header : Header) (events : List Event) → IsHeader header → (g : ℕ) → g < length header.gateways
+        → lists g (past_at shows header nothing events).controller ≡ commanded (name_of header.gateways g) events }
+    ensures history { (shows : Shows) (header : Header) (events : List Event) → IsHeader header → AreEventsOf header events → (g : List ℕ) → IsKnown header g
+        → NeverBack (commanded g events) (put_in_force g (after [] (history shows header nothing events))) }
 {}

@@ -1,11 +1,10 @@
-//! What may happen in a world of gateways and their controller, and that whatever happens so is safe.
-//!
-//! `specs/Law.antt` says what each act may follow, `specs/Safe.antt` what is safe, and `specs/Kept.antt` what every lawful
-//! history keeps. Its model is the list of what happened, of this project.
+//! The law of the whole: for each event the one block of acts of the gateways and their controller, and that every history
+//! of such blocks is safe.
 #![tactic(auto)]
 
 mod laws;
 
 pub use laws::{
-    goes_on, is_every_lawful_history_safe, kept, number_is_sent_once, removed_is_ended,
+    few_halves_are_live, is_every_history_lawful, is_every_history_safe, lists_never_go_back,
+    no_put_is_refused, stands_between_events,
 };

@@ -8,7 +8,7 @@ use Rattle.hist_acts.specs.declared.event.Event.{Event}
 use Rattle.hist_acts.specs.declared.event.Header.{Header}
 use Rattle.ikeless_tree.specs.declared.command.Peer.{Peer}
 use Rattle.hist_acts.specs.Past.{after}
-use Rattle.hist_gateway.specs.History.{block, history}
+use Rattle.hist_clear.specs.History.{block, history}
 use Rattle.script_lines.specs.Text.{text_of, line_of}
 use Rattle.ikeless_cli.specs.declared.world.World.{World}
 use Rattle.ikeless_cli.specs.Script.{line_event, IsLine, AreLines, AreEvents, IsScript, acts_of, joined}
@@ -19,8 +19,8 @@ use Rattle.ikl_base.specs.declared.status.Status.TheVariants as statuses
 use Rattle.ikl_base.specs.declared.status.LineFault.{LineFault}
 use Rattle.ikl_base.specs.declared.status.LineFault.TheVariants as faults
 use Rattle.hist_acts.specs.Past.{events_taken}
-use Rattle.hist_gateway.specs.Safe.{Safe}
-use Rattle.hist_gateway.proofs.SafeLemmas.{history_safe, events_taken-history}
+use Rattle.hist_clear.specs.Safe.{Safe}
+use Rattle.hist_clear.proofs.SafeLemmas.{history_safe, events_taken-history}
 use Rattle.ikeless_cli.specs.Script.{HasNoLf, is_inside}
 use Rattle.ikeless_cli.specs.Run.{Taken, Ran, BrokeOff, Cause, Refuses, is_write_fault}
 use Rattle.ikeless_cli.specs.Reader.{Stands, TakesLine, header_kept, lines_of, Reads, Goes, Ends, Breaks, EndsWith, Finishes, SinkTells}

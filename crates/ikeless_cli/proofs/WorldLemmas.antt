@@ -10,8 +10,8 @@ use Rattle.hist_acts.specs.declared.event.Event.{Event}
 use Rattle.hist_acts.specs.declared.event.Event.TheVariants as events
 use Rattle.hist_acts.specs.Gateways.{is_named}
 use Rattle.hist_acts.specs.Past.{after, force, events_taken}
-use Rattle.hist_gateway.specs.Answer.{answer}
-use Rattle.hist_gateway.specs.History.{block}
+use Rattle.hist_clear.specs.Answer.{answer}
+use Rattle.hist_clear.specs.History.{block}
 use Rattle.ikeless_cli.specs.declared.policies.Forced.{Forced}
 use Rattle.ikeless_cli.specs.declared.world.World.{World}
 use Rattle.ikeless_cli.specs.Policies.{kept_for, with_list}

@@ -9,7 +9,7 @@ use Rattle.ikl_base.specs.declared.status.LineFault.TheVariants as faults
 use Rattle.hist_acts.specs.declared.event.Event.{Event}
 use Rattle.hist_acts.specs.declared.event.Header.{Header}
 use Rattle.hist_acts.specs.Past.{after}
-use Rattle.hist_gateway.specs.Safe.{Safe}
+use Rattle.hist_clear.specs.Safe.{Safe}
 use Rattle.event_lines.specs.Header.{header_of}
 use Rattle.script_lines.specs.Text.{text_of}
 use Rattle.ikeless_cli.specs.Script.{HasNoLf, IsLine, AreLines, joined, line_event, IsScript, acts_of}

@@ -7,7 +7,7 @@ use Rattle.hist_acts.specs.declared.act.Act.{Act}
 use Rattle.hist_acts.specs.declared.event.Event.{Event}
 use Rattle.hist_acts.specs.declared.event.Header.{Header}
 use Rattle.ikeless_tree.specs.declared.command.Peer.{Peer}
-use Rattle.hist_gateway.specs.History.{history}
+use Rattle.hist_clear.specs.History.{history}
 use Rattle.event_lines.specs.Header.{header_of}
 use Rattle.line_words.specs.Words.{is_printable}
 use Rattle.event_lines.specs.Event.{event_of}

@@ -6,7 +6,7 @@ ghost use Rattle.ikeless_tree.specs.declared.entry.Direction.TheVariants as dire
 ghost use Rattle.ikeless_tree.specs.declared.reply.DropWhy.TheVariants as why;
 ghost use Rattle.hist_acts.specs.declared.act.Act.TheVariants as acts;
 ghost use Rattle.spd_match.specs.Match.{first_entry};
-ghost use Rattle.hist_gateway.specs.Answer.{answer as answer_to, by_entry};
+ghost use Rattle.hist_clear.specs.Answer.{answer as answer_to, by_entry};
 
 use hist_acts::Act;
 use ikeless_tree::{Action, Direction, DropWhy, Entries, SpdEntry};
@@ -43,7 +43,7 @@ fn by_decider(e: Option<&SpdEntry>) -> Result<(), DropWhy>
 }
 
 // Why a packet is dropped with this list in force; `Ok` lets it leave in clear.
-#[tactic(auto, unfolding(hist_gateway::specs::Answer::answer))]
+#[tactic(auto, unfolding(hist_clear::specs::Answer::answer))]
 fn verdict(list: &Entries, o: &[u8]) -> Result<(), DropWhy>
     ensures { (g : List ℕ) → MatchResult result
         (λ _. answer_to g list.now o.now ≡ acts.Clear g o.now)

@@ -102,7 +102,7 @@ fn take_event(alloc: Global, world: &mut World, line: &[u8]) -> Result<Vec<u8>, 
     let acts = world.step(event)?;
     let mut text = Vec::new(alloc);
     put_acts(&mut text, &acts)?;
-    hist_gateway::goes_on();
+    hist_clear::goes_on();
     Ok(text)
 }
 

@@ -5,7 +5,7 @@ ghost use Rattle.hist_acts.specs.declared.act.Act.TheVariants as acts;
 ghost use Rattle.hist_acts.specs.declared.event.Event.TheVariants as events;
 ghost use Rattle.hist_acts.specs.Past.{after};
 ghost use Rattle.hist_acts.specs.Gateways.{is_named};
-ghost use Rattle.hist_gateway.specs.History.{block};
+ghost use Rattle.hist_clear.specs.History.{block};
 ghost use Rattle.ikeless_cli.specs.World.{StandsFor, acts_at, lists_after};
 
 use crate::answer::answer;
@@ -114,7 +114,7 @@ impl World {
     {
         let block = self.act_on(e)?;
         self.taken += 1;
-        hist_gateway::answers();
+        hist_clear::answers();
         Ok(block)
     }
 }

@@ -1,5 +1,5 @@
-use Rattle.hist_gateway.proofs.HistoryLemmas.{history-push, after-append}
-use Rattle.hist_gateway.proofs.SafeLemmas.{events_taken-history}
+use Rattle.std.proofs.Common.{refl}
+use Rattle.hist_gateway.proofs.StepsLemmas.{after-append, history-push}
 use Rattle.hist_gateway.proofs.laws.goes_on.Goals as goal
 
 pub returns-clause-block : goal.returns-clause-block
@@ -8,5 +8,5 @@ returns-clause-block c = history-push
 pub returns-clause-past : goal.returns-clause-past
 returns-clause-past c = after-append
 
-pub returns-clause-count : goal.returns-clause-count
-returns-clause-count c = events_taken-history
+pub returns-clause-begins : goal.returns-clause-begins
+returns-clause-begins c = λ g. refl

@@ -1,6 +1,8 @@
-use Rattle.std.proofs.Common.{[]}
-use Rattle.hist_gateway.proofs.SafeLemmas.{history_safe}
+use Rattle.hist_gateway.proofs.SafeLemmas.{safe-history, safe-lawful}
 use Rattle.hist_gateway.proofs.laws.is_every_history_safe.Goals as goal
 
-pub returns : goal.returns
-returns c = λ gateways events. history_safe gateways [] events tt
+pub returns-clause-history : goal.returns-clause-history
+returns-clause-history c = safe-history c.changes_fit.ensures.before
+
+pub returns-clause-lawful : goal.returns-clause-lawful
+returns-clause-lawful c = safe-lawful

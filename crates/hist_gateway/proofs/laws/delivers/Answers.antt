@@ -1,0 +1,5 @@
+use Rattle.hist_gateway.proofs.DeliveryLemmas.{delivers-is}
+use Rattle.hist_gateway.proofs.laws.delivers.Goals as goal
+
+pub returns : goal.returns
+returns c = delivers-is

@@ -1,0 +1,5 @@
+use Rattle.hist_gateway.proofs.DeliveryLemmas.{sealed-is}
+use Rattle.hist_gateway.proofs.laws.sealed.Goals as goal
+
+pub returns : goal.returns
+returns c = sealed-is c.sealed_view.ensures.view

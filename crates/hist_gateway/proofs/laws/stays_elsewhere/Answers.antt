@@ -1,0 +1,5 @@
+use Rattle.hist_gateway.proofs.OwnLemmas.{stays-elsewhere}
+use Rattle.hist_gateway.proofs.laws.stays_elsewhere.Goals as goal
+
+pub returns : goal.returns
+returns c = stays-elsewhere

@@ -1,0 +1,64 @@
+-- What answers a packet from inside (RFC 4301 section 5.1), by the first line that applies. The past has the Let as its newest act.
+use Rattle.std.specs.Prelude.{ℕ, ◌+◌, ◌==◌, ◌&&◌, nat_le, nat_lt, not, Bool, true, false, List, [], ◌∷◌, length, Option, Some, None, Result, Ok, Err, if◌then◌else◌}
+use Rattle.ip_packet.specs.declared.packet.NotPacket.{NotPacket}
+use Rattle.ip_packet.specs.View.{Packet, view_of}
+use Rattle.ikeless_tree.specs.declared.entry.SpdEntry.{SpdEntry}
+use Rattle.ikeless_tree.specs.declared.entry.Action.{Action}
+use Rattle.ikeless_tree.specs.declared.entry.Action.TheVariants as actions
+use Rattle.ikeless_tree.specs.declared.entry.Direction.TheVariants.{Out}
+use Rattle.ikeless_tree.specs.declared.association.SadEntry.{SadEntry}
+use Rattle.ikeless_tree.specs.declared.order.Notice.TheVariants as notices
+use Rattle.ikeless_tree.specs.declared.reply.DropWhy.TheVariants as why
+use Rattle.spd_match.specs.Match.{first_entry, holds_packet}
+use Rattle.hist_acts.specs.declared.act.Act.{Act}
+use Rattle.hist_acts.specs.declared.act.Act.TheVariants as acts
+use Rattle.hist_acts.specs.Past.{force}
+use Rattle.hist_halves.specs.Sealed.{is_inbound}
+use Rattle.hist_halves.specs.Halves.{live, sent}
+use Rattle.hist_gateway.specs.Stands.{acquire_stands, overflow_given}
+use Rattle.hist_gateway.specs.Datagram.{fault_why, datagram, flow_of}
+use Rattle.hist_gateway.specs.Look.{look, tells}
+
+-- an outbound half with this reqid whose selector holds the packet
+abbrev pub seals : ℕ → Packet → SadEntry → Bool
+seals reqid v e = not (is_inbound e.name) && ((e.reqid == reqid) && holds_packet e.selector Out v)
+
+abbrev pub newer : ℕ → Packet → SadEntry → Option SadEntry → Option SadEntry
+newer reqid v e (Some x) = Some x
+newer reqid v e None = if seals reqid v e then Some e else None
+
+-- the newest such half
+abbrev pub newest : ℕ → Packet → List SadEntry → Option SadEntry
+newest reqid v [] = None
+newest reqid v (e ∷ es) = newer reqid v e (newest reqid v es)
+
+abbrev pub unless : Bool → List Act → List Act
+unless true xs = []
+unless false xs = xs
+
+-- a datagram is sent under the half, and the half is looked at
+abbrev pub sends : List ℕ → List Act → SadEntry → ℕ → List ℕ → List Act
+sends g h e n d = acts.Sent g e.name n d ∷ look g (acts.Sent g e.name n d ∷ h) (e ∷ [])
+
+abbrev pub by_half : List ℕ → ℕ → List Act → List ℕ → Packet → SpdEntry → Option SadEntry → List Act
+by_half g seq_last h o v p None = acts.Drop g why.NoSa ∷ unless (acquire_stands g p.name h) (tells g h (notices.Acquire p.name (flow_of v)))
+by_half g seq_last h o v p (Some e) =
+    if nat_le seq_last (sent g e.name h) then acts.Drop g why.SeqLimit ∷ unless (overflow_given g e.name h) (tells g h (notices.SeqOverflow e.name))
+    else sends g h e (sent g e.name h + 1) (datagram e (sent g e.name h + 1) v o)
+
+abbrev pub by_action : List ℕ → ℕ → List Act → List ℕ → Packet → SpdEntry → Action → List Act
+by_action g seq_last h o v p actions.Protect = by_half g seq_last h o v p (newest p.reqid v (live g h))
+by_action g seq_last h o v p actions.Bypass = acts.Clear g o ∷ []
+by_action g seq_last h o v p actions.Discard = acts.Drop g why.Discard ∷ []
+
+abbrev pub by_entry : List ℕ → ℕ → List Act → List ℕ → Packet → Option SpdEntry → List Act
+by_entry g seq_last h o v None = acts.Drop g why.NoPolicy ∷ []
+by_entry g seq_last h o v (Some p) = by_action g seq_last h o v p p.action
+
+abbrev pub by_view : List ℕ → ℕ → List Act → List ℕ → Result Packet NotPacket → List Act
+by_view g seq_last h o (Err fault) = acts.Drop g (fault_why fault) ∷ []
+by_view g seq_last h o (Ok v) = if nat_lt 65000 (length o) then acts.Drop g why.TooLong ∷ [] else by_entry g seq_last h o v (first_entry (force g h) Out v)
+
+-- the acts at gateway g for the packet o, where no half sends a number above the last one
+unfoldable pub let_acts : List ℕ → ℕ → List Act → List ℕ → List Act
+let_acts g seq_last h o = by_view g seq_last h o (view_of o)

@@ -1,0 +1,170 @@
+-- The gateway as a machine over what it keeps: the acts of an event, and what it keeps after them.
+use Rattle.std.specs.Prelude.{ℕ, ◌+◌, ◌-◌, ◌==◌, ◌&&◌, nat_le, nat_lt, max, List, [], ◌∷◌, ◌++◌, length, map, find, Option, Some, None, Result, Ok, Err, if◌then◌else◌}
+use Rattle.std.specs.List.{list_any}
+use Rattle.std.specs.Str.{bytes_eq}
+use Rattle.ikl_base.specs.declared.address.Addr.{Addr}
+use Rattle.ip_packet.specs.declared.packet.NotPacket.{NotPacket}
+use Rattle.ip_packet.specs.View.{Packet, view_of}
+use Rattle.ikeless_tree.specs.declared.association.Limits.{Limits}
+use Rattle.ikeless_tree.specs.declared.association.SadRow.{SadRow}
+use Rattle.ikeless_tree.specs.declared.association.Tree.{Tree}
+use Rattle.ikeless_tree.specs.declared.entry.SpdEntry.{SpdEntry}
+use Rattle.ikeless_tree.specs.declared.entry.Action.{Action}
+use Rattle.ikeless_tree.specs.declared.entry.Action.TheVariants as actions
+use Rattle.ikeless_tree.specs.declared.entry.Direction.TheVariants.{In, Out}
+use Rattle.ikeless_tree.specs.declared.order.Notice.{Notice}
+use Rattle.ikeless_tree.specs.declared.order.Notice.TheVariants as notices
+use Rattle.ikeless_tree.specs.declared.reply.DropWhy.TheVariants as why
+use Rattle.ikeless_tree.specs.declared.reply.GoneWhy.TheVariants as gone
+use Rattle.reply_table.specs.declared.ask.Ask.{Ask}
+use Rattle.reply_table.specs.Reply.{reply}
+use Rattle.replay_win.specs.declared.verdict.Verdict.{Verdict}
+use Rattle.replay_win.specs.declared.verdict.Verdict.TheVariants as verdicts
+use Rattle.replay_win.specs.Marks.{judged}
+use Rattle.esp_frame.specs.Esp.{keying, spi_of, seq_of}
+use Rattle.esp_frame.specs.Open as esp
+use Rattle.spd_match.specs.Match.{first_entry}
+use Rattle.hist_acts.specs.declared.act.Act.{Act}
+use Rattle.hist_acts.specs.declared.act.Act.TheVariants as acts
+use Rattle.hist_halves.specs.Sealed.{is_inbound}
+use Rattle.hist_gateway.specs.Uses.{cut_32, octets_in}
+use Rattle.hist_gateway.specs.Datagram.{fault_why, datagram, flow_of}
+use Rattle.hist_gateway.specs.Look.{is_reached, expiry, given_by}
+use Rattle.hist_gateway.specs.Let.{seals, unless}
+use Rattle.hist_gateway.specs.Arrive as arrive
+use Rattle.hist_gateway.specs.Handle.{Fault, reply_acts, fault_answer}
+use Rattle.hist_gateway.specs.Block.{Gateway, Event, Let, Arrive, Clock, Handle, Session_taken}
+use Rattle.hist_gateway.specs.State.{Half, State, did_all, send, take_number}
+
+-- ---- counts and looks
+
+abbrev pub counts_of : ℕ → Half → Limits
+counts_of now x = record { time = cut_32 (now - x.installed); bytes = x.octets; packets = x.packets; idle = cut_32 (now - x.used) }
+
+abbrev pub goings_of : List ℕ → ℕ → List Half → List Act
+goings_of g now [] = []
+goings_of g now (x ∷ xs) = if is_reached x.entry.hard (counts_of now x) then acts.Gone g x.entry.name gone.Hard ∷ goings_of g now xs else goings_of g now xs
+
+abbrev pub expiries_of : List ℕ → ℕ → ℕ → List Half → List Act
+expiries_of g session now [] = []
+expiries_of g session now (x ∷ xs) = given_by g session (expiry x.entry (counts_of now x) x.soft) ++ expiries_of g session now xs
+
+abbrev pub look_of : List ℕ → ℕ → ℕ → List Half → List Act
+look_of g session now xs = goings_of g now xs ++ expiries_of g session now xs
+
+abbrev pub tells_of : List ℕ → State → Notice → List Act
+tells_of g s n = acts.Notice g s.session n ∷ []
+
+-- ---- a packet from inside
+
+abbrev pub newer_of : ℕ → Packet → Half → Option Half → Option Half
+newer_of reqid v x (Some y) = Some y
+newer_of reqid v x None = if seals reqid v x.entry then Some x else None
+
+abbrev pub newest_of : ℕ → Packet → List Half → Option Half
+newest_of reqid v [] = None
+newest_of reqid v (x ∷ xs) = newer_of reqid v x (newest_of reqid v xs)
+
+abbrev pub sends_of : List ℕ → State → Half → ℕ → List ℕ → List Act
+sends_of g s x n d = acts.Sent g x.entry.name n d ∷ look_of g s.session s.clock (send s.clock (octets_in (Some d)) x ∷ [])
+
+abbrev pub out_by_half : List ℕ → ℕ → State → List ℕ → Packet → SpdEntry → Option Half → List Act
+out_by_half g seq_last s o v p None =
+    acts.Drop g why.NoSa ∷ unless (list_any (λ q. bytes_eq q p.name) s.acquires) (tells_of g s (notices.Acquire p.name (flow_of v)))
+out_by_half g seq_last s o v p (Some x) =
+    if nat_le seq_last x.sent then acts.Drop g why.SeqLimit ∷ unless x.overflow (tells_of g s (notices.SeqOverflow x.entry.name))
+    else sends_of g s x (x.sent + 1) (datagram x.entry (x.sent + 1) v o)
+
+abbrev pub out_by_action : List ℕ → ℕ → State → List ℕ → Packet → SpdEntry → Action → List Act
+out_by_action g seq_last s o v p actions.Protect = out_by_half g seq_last s o v p (newest_of p.reqid v s.halves)
+out_by_action g seq_last s o v p actions.Bypass = acts.Clear g o ∷ []
+out_by_action g seq_last s o v p actions.Discard = acts.Drop g why.Discard ∷ []
+
+abbrev pub out_by_entry : List ℕ → ℕ → State → List ℕ → Packet → Option SpdEntry → List Act
+out_by_entry g seq_last s o v None = acts.Drop g why.NoPolicy ∷ []
+out_by_entry g seq_last s o v (Some p) = out_by_action g seq_last s o v p p.action
+
+abbrev pub out_by_view : List ℕ → ℕ → State → List ℕ → Result Packet NotPacket → List Act
+out_by_view g seq_last s o (Err fault) = acts.Drop g (fault_why fault) ∷ []
+out_by_view g seq_last s o (Ok v) =
+    if nat_lt 65000 (length o) then acts.Drop g why.TooLong ∷ [] else out_by_entry g seq_last s o v (first_entry s.spd Out v)
+
+-- ---- a datagram from outside
+
+abbrev pub uses_of : List ℕ → State → List ℕ → Half → ℕ → Act → List Act
+uses_of g s o x n a = a ∷ look_of g s.session s.clock (take_number s.clock (octets_in (Some o)) n x ∷ [])
+
+abbrev pub in_by_text : List ℕ → State → List ℕ → Half → ℕ → Option (List ℕ) → List Act
+in_by_text g s o x n None = arrive.drops g why.Auth
+in_by_text g s o x n (Some text) = uses_of g s o x n (arrive.by_packet g x.entry n (esp.packet_of text))
+
+abbrev pub in_by_verdict : List ℕ → State → List ℕ → List ℕ → Half → ℕ → Verdict → List Act
+in_by_verdict g s o b x n verdicts.Zero = arrive.drops g why.Zero
+in_by_verdict g s o b x n verdicts.Old = arrive.drops g why.Old
+in_by_verdict g s o b x n verdicts.Seen = arrive.drops g why.Seen
+in_by_verdict g s o b x n verdicts.Fresh = in_by_text g s o x n (esp.opened (keying x.entry.spi x.entry.key) b)
+
+abbrev pub in_by_half : List ℕ → State → List ℕ → List ℕ → Option Half → List Act
+in_by_half g s o b None = acts.Drop g why.BadSpi ∷ unless (list_any (λ k. k == spi_of b) s.bad_spis) (tells_of g s (notices.BadSpi (spi_of b)))
+in_by_half g s o b (Some x) = in_by_verdict g s o b x (seq_of b) (judged x.window (seq_of b))
+
+abbrev pub half_by_spi : ℕ → List Half → Option Half
+half_by_spi spi xs = find (λ x. is_inbound x.entry.name && (x.entry.spi == spi)) xs
+
+abbrev pub in_esp : List ℕ → State → List ℕ → List ℕ → List Act
+in_esp g s o b = if nat_lt (length b) 34 then arrive.drops g why.Short else in_by_half g s o b (half_by_spi (spi_of b) s.halves)
+
+abbrev pub in_by_view : List ℕ → Addr → State → List ℕ → Result Packet NotPacket → List Act
+in_by_view g own s o (Err fault) = arrive.drops g (fault_why fault)
+in_by_view g own s o (Ok v) = if arrive.is_sealed_for own v then in_esp g s o v.payload else arrive.by_entry g o (first_entry s.spd In v) ∷ []
+
+-- ---- a request
+
+abbrev pub top_of : Half → ℕ
+top_of x = if is_inbound x.entry.name then x.window.top else x.sent
+
+abbrev pub row_from : ℕ → Half → SadRow
+row_from now x = record { entry = x.entry; state = record { current = counts_of now x; top = top_of x } }
+
+abbrev pub tree_from : State → Tree
+tree_from s = record { spd = s.spd; sad = map (row_from s.clock) s.halves }
+
+abbrev pub handles : List ℕ → State → Result Ask Fault → List Act
+handles g s (Ok ask) = reply_acts g s.session (s.requests + 1) (reply (tree_from s) ask)
+handles g s (Err fault) = acts.Handled g s.session (s.requests + 1) (fault_answer fault) ∷ []
+
+-- ---- the whole
+
+abbrev pub ticks : List ℕ → State → ℕ → List Act
+ticks g s t = if nat_lt s.clock t then look_of g s.session (max t s.clock) s.halves else []
+
+-- the acts of an event
+abbrev pub acts_of : Gateway → State → Event → List Act
+acts_of c s (Let o) = acts.Let c.name o ∷ out_by_view c.name c.seq_last s o (view_of o)
+acts_of c s (Arrive o) = acts.Arrived c.name o ∷ in_by_view c.name c.address s o (view_of o)
+acts_of c s (Clock t) = acts.Now (max t s.clock) ∷ ticks c.name s t
+acts_of c s (Handle request) = handles c.name s request
+acts_of c s Session_taken = acts.Opened c.name (s.openings + 1) ∷ []
+
+-- what is kept after it
+abbrev pub next : Gateway → State → Event → State
+next c s e = did_all c.name s (acts_of c s e)
+
+-- a gateway that was never started has kept nothing
+abbrev pub empty : State
+empty = record {
+  spd = [];
+  halves = [];
+  acquires = [];
+  bad_spis = [];
+  clock = 0;
+  openings = 0;
+  session = 0;
+  requests = 0;
+  arrival = None;
+}
+
+-- the acts of events, one after another
+abbrev pub run : Gateway → State → List Event → List Act
+run c s [] = []
+run c s (e ∷ es) = acts_of c s e ++ run c (next c s e) es

@@ -1,0 +1,360 @@
+-- What a gateway keeps in place of its past, and what each act does to it.
+use Rattle.std.specs.Prelude.{ℕ, ◌+◌, ◌&&◌, ◌||◌, max, not, Bool, true, false, List, [], ◌∷◌, ◌++◌, map, filter, fold, take, Option, Some, None, if◌then◌else◌}
+use Rattle.std.specs.Str.{bytes_eq}
+use Rattle.ikeless_tree.specs.declared.entry.SpdEntry.{SpdEntry}
+use Rattle.ikeless_tree.specs.declared.association.SadEntry.{SadEntry}
+use Rattle.ikeless_tree.specs.declared.order.Notice.{Notice}
+use Rattle.ikeless_tree.specs.declared.order.Notice.TheVariants as notices
+use Rattle.replay_win.specs.Marks.{Marks, marked, no_marks}
+use Rattle.hist_acts.specs.declared.act.Act.{Act}
+use Rattle.hist_acts.specs.declared.act.Act.TheVariants as acts
+use Rattle.hist_acts.specs.Past.{force, clock}
+use Rattle.hist_acts.specs.Sessions as sessions
+use Rattle.hist_halves.specs.Sealed.{is_inbound, is_opened}
+use Rattle.hist_halves.specs.Halves.{live, sent, taken}
+use Rattle.hist_gateway.specs.Uses.{arrival, is_for, number_in, octets_in, installed_at, last_used, octets_used, times_used, cut_32, cut_64}
+use Rattle.hist_gateway.specs.Stands.{has_reqid, is_soft_of, is_overflow_of, soft_given, overflow_given, with_spi, bad_spis}
+use Rattle.hist_gateway.specs.Handle.{requests}
+
+-- a half with what was counted of it since its installation
+pub record Half : Type 0 where
+  pub entry : SadEntry
+  pub sent : ℕ
+  pub window : Marks
+  pub installed : ℕ
+  pub used : ℕ
+  pub octets : ℕ
+  pub packets : ℕ
+  pub soft : Bool
+  pub overflow : Bool
+
+-- The list in force, the halves in the order of installation, the policies whose acquire stands, the last 64 SPIs reported, the
+-- clock, the session taken with its number and the requests answered in it, and the datagram that has no answer yet.
+pub record State : Type 0 where
+  pub spd : List SpdEntry
+  pub halves : List Half
+  pub acquires : List (List ℕ)
+  pub bad_spis : List ℕ
+  pub clock : ℕ
+  pub openings : ℕ
+  pub session : ℕ
+  pub requests : ℕ
+  pub arrival : Option (List ℕ)
+
+abbrev pub with_acquire : Notice → List (List ℕ) → List (List ℕ)
+with_acquire (notices.Acquire policy selector) names = names ++ policy ∷ []
+with_acquire _ names = names
+
+-- of these policies those whose reqid isn't this one
+abbrev pub unwanted : ℕ → List SpdEntry → List (List ℕ) → List (List ℕ)
+unwanted reqid list names = filter (λ p. not (has_reqid p reqid list)) names
+
+-- the policies whose acquire stands
+abbrev pub acquires : List ℕ → List Act → List (List ℕ)
+acquires g [] = []
+acquires g (acts.Notice f s n ∷ h) = if bytes_eq f g then with_acquire n (acquires g h) else acquires g h
+acquires g (acts.Policy f list ∷ h) = if bytes_eq f g then [] else acquires g h
+acquires g (acts.Put f e ∷ h) = if bytes_eq f g && not (is_inbound e.name) then unwanted e.reqid (force g h) (acquires g h) else acquires g h
+acquires g (acts.Opened f s ∷ h) = if bytes_eq f g then [] else acquires g h
+acquires g (acts.Boot f ∷ h) = if bytes_eq f g then [] else acquires g h
+acquires g (_ ∷ h) = acquires g h
+
+-- the window after these numbers, the oldest first
+abbrev pub window_of : ℕ → List ℕ → Marks
+window_of size numbers = fold marked (no_marks size) numbers
+
+abbrev pub half_of : List ℕ → List Act → SadEntry → Half
+half_of g h e = record {
+  entry = e;
+  sent = sent g e.name h;
+  window = window_of e.window (taken g e.name h);
+  installed = installed_at g e.name h;
+  used = last_used g e.name h;
+  octets = cut_64 (octets_used g e.name h);
+  packets = cut_32 (times_used g e.name h);
+  soft = soft_given g e.name h;
+  overflow = overflow_given g e.name h;
+}
+
+-- what is to be kept of a past
+abbrev pub state_of : List ℕ → List Act → State
+state_of g h = record {
+  spd = force g h;
+  halves = map (half_of g h) (live g h);
+  acquires = acquires g h;
+  bad_spis = take 64 (bad_spis g h);
+  clock = clock h;
+  openings = sessions.openings g h;
+  session = sessions.taken g h;
+  requests = requests g h;
+  arrival = arrival g h;
+}
+
+-- ---- the effect of an act
+
+abbrev pub quiet : State → State
+quiet s = record {
+  spd = s.spd;
+  halves = s.halves;
+  acquires = s.acquires;
+  bad_spis = s.bad_spis;
+  clock = s.clock;
+  openings = s.openings;
+  session = s.session;
+  requests = s.requests;
+  arrival = None;
+}
+
+abbrev pub with_policy : List SpdEntry → State → State
+with_policy list s = record {
+  spd = list;
+  halves = s.halves;
+  acquires = [];
+  bad_spis = s.bad_spis;
+  clock = s.clock;
+  openings = s.openings;
+  session = s.session;
+  requests = s.requests;
+  arrival = None;
+}
+
+abbrev pub with_halves : List Half → State → State
+with_halves halves s = record {
+  spd = s.spd;
+  halves = halves;
+  acquires = s.acquires;
+  bad_spis = s.bad_spis;
+  clock = s.clock;
+  openings = s.openings;
+  session = s.session;
+  requests = s.requests;
+  arrival = None;
+}
+
+abbrev pub with_put : List Half → List (List ℕ) → State → State
+with_put halves names s = record {
+  spd = s.spd;
+  halves = halves;
+  acquires = names;
+  bad_spis = s.bad_spis;
+  clock = s.clock;
+  openings = s.openings;
+  session = s.session;
+  requests = s.requests;
+  arrival = None;
+}
+
+abbrev pub with_notice : List Half → List (List ℕ) → List ℕ → State → State
+with_notice halves names spis s = record {
+  spd = s.spd;
+  halves = halves;
+  acquires = names;
+  bad_spis = spis;
+  clock = s.clock;
+  openings = s.openings;
+  session = s.session;
+  requests = s.requests;
+  arrival = None;
+}
+
+abbrev pub with_session : ℕ → List Half → State → State
+with_session session halves s = record {
+  spd = s.spd;
+  halves = halves;
+  acquires = [];
+  bad_spis = [];
+  clock = s.clock;
+  openings = s.openings + 1;
+  session = session;
+  requests = 0;
+  arrival = None;
+}
+
+-- a gateway that restarted has nothing but the clock, and the number of sessions goes on
+abbrev pub restarted : State → State
+restarted s = record {
+  spd = [];
+  halves = [];
+  acquires = [];
+  bad_spis = [];
+  clock = s.clock;
+  openings = s.openings;
+  session = 0;
+  requests = 0;
+  arrival = None;
+}
+
+abbrev pub with_clock : ℕ → State → State
+with_clock now s = record {
+  spd = s.spd;
+  halves = s.halves;
+  acquires = s.acquires;
+  bad_spis = s.bad_spis;
+  clock = now;
+  openings = s.openings;
+  session = s.session;
+  requests = s.requests;
+  arrival = None;
+}
+
+abbrev pub with_request : State → State
+with_request s = record {
+  spd = s.spd;
+  halves = s.halves;
+  acquires = s.acquires;
+  bad_spis = s.bad_spis;
+  clock = s.clock;
+  openings = s.openings;
+  session = s.session;
+  requests = s.requests + 1;
+  arrival = None;
+}
+
+abbrev pub with_arrival : List ℕ → State → State
+with_arrival o s = record {
+  spd = s.spd;
+  halves = s.halves;
+  acquires = s.acquires;
+  bad_spis = s.bad_spis;
+  clock = s.clock;
+  openings = s.openings;
+  session = s.session;
+  requests = s.requests;
+  arrival = Some o;
+}
+
+-- ---- of halves
+
+abbrev pub fresh : ℕ → SadEntry → Half
+fresh now e = record {
+  entry = e;
+  sent = 0;
+  window = no_marks e.window;
+  installed = now;
+  used = now;
+  octets = 0;
+  packets = 0;
+  soft = false;
+  overflow = false;
+}
+
+-- one more number is sent under this half, with these octets at this time
+abbrev pub send : ℕ → ℕ → Half → Half
+send now size x = record {
+  entry = x.entry;
+  sent = x.sent + 1;
+  window = x.window;
+  installed = x.installed;
+  used = now;
+  octets = cut_64 (x.octets + size);
+  packets = cut_32 (x.packets + 1);
+  soft = x.soft;
+  overflow = x.overflow;
+}
+
+-- the number is taken under this half, with these octets at this time
+abbrev pub take_number : ℕ → ℕ → ℕ → Half → Half
+take_number now size n x = record {
+  entry = x.entry;
+  sent = x.sent;
+  window = marked x.window n;
+  installed = x.installed;
+  used = now;
+  octets = cut_64 (x.octets + size);
+  packets = cut_32 (x.packets + 1);
+  soft = x.soft;
+  overflow = x.overflow;
+}
+
+-- a notice of this half is given
+abbrev pub note : Notice → Half → Half
+note n x = record {
+  entry = x.entry;
+  sent = x.sent;
+  window = x.window;
+  installed = x.installed;
+  used = x.used;
+  octets = x.octets;
+  packets = x.packets;
+  soft = is_soft_of x.entry.name n || x.soft;
+  overflow = is_overflow_of x.entry.name n || x.overflow;
+}
+
+-- no notice of this half stands
+abbrev pub hush : Half → Half
+hush x = record {
+  entry = x.entry;
+  sent = x.sent;
+  window = x.window;
+  installed = x.installed;
+  used = x.used;
+  octets = x.octets;
+  packets = x.packets;
+  soft = false;
+  overflow = false;
+}
+
+abbrev pub sent_under : List ℕ → ℕ → ℕ → Half → Half
+sent_under y now size x = if bytes_eq y x.entry.name then send now size x else x
+
+abbrev pub given_under : List ℕ → ℕ → ℕ → ℕ → Half → Half
+given_under y now size n x = if bytes_eq y x.entry.name then take_number now size n x else x
+
+-- what was opened counts for its half, though it is dropped
+abbrev pub opened_under : List SadEntry → Option (List ℕ) → ℕ → Half → Half
+opened_under live o now x = if is_for x.entry.name live o then take_number now (octets_in o) (number_in o) x else x
+
+abbrev pub entries_of : List Half → List SadEntry
+entries_of xs = map (λ x. x.entry) xs
+
+abbrev pub gone_from : List ℕ → List Half → List Half
+gone_from name [] = []
+gone_from name (x ∷ xs) = if bytes_eq x.entry.name name then gone_from name xs else x ∷ gone_from name xs
+
+-- ---- of acts
+
+-- the act is one of this gateway, or a reading of the clock of all
+abbrev pub is_at : List ℕ → Act → Bool
+is_at g (acts.Now t) = true
+is_at g (acts.Boot f) = bytes_eq f g
+is_at g (acts.Policy f list) = bytes_eq f g
+is_at g (acts.Put f e) = bytes_eq f g
+is_at g (acts.Gone f x w) = bytes_eq f g
+is_at g (acts.Sent f x n o) = bytes_eq f g
+is_at g (acts.Drop f w) = bytes_eq f g
+is_at g (acts.Arrived f o) = bytes_eq f g
+is_at g (acts.Gave f x n o) = bytes_eq f g
+is_at g (acts.Opened f s) = bytes_eq f g
+is_at g (acts.Handled f s k a) = bytes_eq f g
+is_at g (acts.Notice f s n) = bytes_eq f g
+is_at g _ = false
+
+abbrev pub wanted_after : SadEntry → State → List (List ℕ)
+wanted_after e s = if not (is_inbound e.name) then unwanted e.reqid s.spd s.acquires else s.acquires
+
+abbrev pub opens : State → State
+opens s = with_halves (map (opened_under (entries_of s.halves) s.arrival s.clock) s.halves) s
+
+-- what an act of this gateway makes of what was kept
+abbrev pub did_at : State → Act → State
+did_at s (acts.Now t) = with_clock (max t s.clock) s
+did_at s (acts.Boot f) = restarted s
+did_at s (acts.Policy f list) = with_policy list s
+did_at s (acts.Put f e) = with_put (s.halves ++ fresh s.clock e ∷ []) (wanted_after e s) s
+did_at s (acts.Gone f x w) = with_halves (gone_from x s.halves) s
+did_at s (acts.Sent f x n o) = with_halves (map (sent_under x s.clock (octets_in (Some o))) s.halves) s
+did_at s (acts.Drop f w) = if is_opened w then opens s else quiet s
+did_at s (acts.Arrived f o) = with_arrival o s
+did_at s (acts.Gave f x n o) = with_halves (map (given_under x s.clock (octets_in s.arrival) n) s.halves) s
+did_at s (acts.Opened f n) = with_session n (map hush s.halves) s
+did_at s (acts.Handled f n k a) = with_request s
+did_at s (acts.Notice f k n) = with_notice (map (note n) s.halves) (with_acquire n s.acquires) (take 64 (with_spi n s.bad_spis)) s
+did_at s _ = quiet s
+
+-- the state of gateway g after an act
+abbrev pub did : List ℕ → State → Act → State
+did g s a = if is_at g a then did_at s a else quiet s
+
+abbrev pub did_all : List ℕ → State → List Act → State
+did_all g s [] = s
+did_all g s (a ∷ more) = did_all g (did g s a) more

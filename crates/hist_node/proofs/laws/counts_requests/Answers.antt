@@ -1,9 +1,0 @@
-use Rattle.hist_node.proofs.SessionsLemmas.{requests-are}
-use Rattle.hist_node.proofs.MayLemmas.{lawful-numbered}
-use Rattle.hist_node.proofs.laws.counts_requests.Goals as goal
-
-pub returns-clause-handled : goal.returns-clause-handled
-returns-clause-handled c = requests-are
-
-pub returns-clause-lawful : goal.returns-clause-lawful
-returns-clause-lawful c = lawful-numbered

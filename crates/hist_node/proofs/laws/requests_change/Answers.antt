@@ -1,5 +1,0 @@
-use Rattle.hist_node.proofs.TreeLemmas.{tree-after}
-use Rattle.hist_node.proofs.laws.requests_change.Goals as goal
-
-pub returns : goal.returns
-returns c = tree-after c.changes_fit.ensures.before c.changes_fit.ensures.after

@@ -1,9 +1,0 @@
-//! The law of a gateway over what happened: for each event the one block of acts that may follow a past.
-#![tactic(auto)]
-
-mod laws;
-
-pub use laws::{
-    answers, blocks_follow, counts_requests, delivers, goes_on, halves, is_every_history_safe,
-    keeps, readings, requests_change, sealed, stays_elsewhere, steps,
-};

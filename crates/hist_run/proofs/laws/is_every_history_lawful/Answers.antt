@@ -1,6 +1,0 @@
-use Rattle.hist_run.specs.Block.{nothing}
-use Rattle.hist_run.proofs.Runs.{lawful-history, start}
-use Rattle.hist_run.proofs.laws.is_every_history_lawful.Goals as goal
-
-pub returns : goal.returns
-returns c = λ shows header events i k. lawful-history shows header nothing events i k (start header)

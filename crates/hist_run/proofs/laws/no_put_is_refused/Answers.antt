@@ -1,5 +1,0 @@
-use Rattle.hist_run.proofs.Unrefused.{unrefused}
-use Rattle.hist_run.proofs.laws.no_put_is_refused.Goals as goal
-
-pub returns : goal.returns
-returns c = unrefused

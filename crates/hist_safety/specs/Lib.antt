@@ -1,0 +1,6 @@
+pub mod Orders
+pub mod Carried
+pub mod Law
+pub mod Safe
+pub mod Kept
+pub mod Ended

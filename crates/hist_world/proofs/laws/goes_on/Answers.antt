@@ -1,8 +1,0 @@
-use Rattle.hist_world.proofs.Blocks.{lawful-after, lawful-before}
-use Rattle.hist_world.proofs.laws.goes_on.Goals as goal
-
-pub returns-clause-on : goal.returns-clause-on
-returns-clause-on c = lawful-after
-
-pub returns-clause-back : goal.returns-clause-back
-returns-clause-back c = lawful-before

@@ -1,5 +1,0 @@
-use Rattle.hist_world.proofs.Numbers.{one-sent}
-use Rattle.hist_world.proofs.laws.number_is_sent_once.Goals as goal
-
-pub returns : goal.returns
-returns c = one-sent
