@@ -6,7 +6,7 @@ use Rattle.hist_acts.specs.declared.act.Act.{Act}
 use Rattle.hist_acts.specs.declared.act.Act.TheVariants as acts
 
 -- a past after further acts, which stand in their order
-abbrev pub after : List Act → List Act → List Act
+abbrev pub after : {A : Type 0} → List A → List A → List A
 after h [] = h
 after h (a ∷ more) = after (a ∷ h) more
 

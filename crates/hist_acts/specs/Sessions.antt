@@ -23,11 +23,11 @@ is_open g (acts.Cut f s ∷ h) = not (bytes_eq f g) && is_open g h
 is_open g (_ ∷ h) = is_open g h
 
 -- the session taken at the gateway, or 0: the last one opened, if the gateway has not restarted since
-abbrev pub taken : List ℕ → List Act → ℕ
-taken g [] = 0
-taken g (acts.Opened f s ∷ h) = if bytes_eq f g then s else taken g h
-taken g (acts.Boot f ∷ h) = if bytes_eq f g then 0 else taken g h
-taken g (_ ∷ h) = taken g h
+abbrev pub session_taken : List ℕ → List Act → ℕ
+session_taken g [] = 0
+session_taken g (acts.Opened f s ∷ h) = if bytes_eq f g then s else session_taken g h
+session_taken g (acts.Boot f ∷ h) = if bytes_eq f g then 0 else session_taken g h
+session_taken g (_ ∷ h) = session_taken g h
 
 -- this session of this gateway
 abbrev pub is_session : List ℕ → ℕ → List ℕ → ℕ → Bool
@@ -67,7 +67,7 @@ answer_at g s k (_ ∷ h) = answer_at g s k h
 
 -- the request that the gateway handles next: of the session taken, the first that isn't handled
 abbrev pub next_request : List ℕ → List Act → Option Order
-next_request g h = if taken g h == 0 then None else order_at g (taken g h) (handled g (taken g h) h + 1) h
+next_request g h = if session_taken g h == 0 then None else order_at g (session_taken g h) (handled g (session_taken g h) h + 1) h
 
 -- the answer that the controller hears next: of the open session, the first handled that it has not heard
 abbrev pub next_answer : List ℕ → List Act → Option Answer
@@ -93,11 +93,11 @@ notices g s [] = []
 notices g s (acts.Notice f t n ∷ h) = if is_session f t g s then notices g s h ++ n ∷ [] else notices g s h
 notices g s (_ ∷ h) = notices g s h
 
-abbrev pub heard : List ℕ → ℕ → List Act → ℕ
-heard g s [] = 0
-heard g s (acts.Heard f t n ∷ h) = if is_session f t g s then heard g s h + 1 else heard g s h
-heard g s (_ ∷ h) = heard g s h
+abbrev pub notices_heard : List ℕ → ℕ → List Act → ℕ
+notices_heard g s [] = 0
+notices_heard g s (acts.Heard f t n ∷ h) = if is_session f t g s then notices_heard g s h + 1 else notices_heard g s h
+notices_heard g s (_ ∷ h) = notices_heard g s h
 
 -- the notice that the controller hears next
 abbrev pub next_notice : List ℕ → List Act → Option Notice
-next_notice g h = if is_open g h then slice_get (notices g (openings g h) h) (heard g (openings g h) h) else None
+next_notice g h = if is_open g h then slice_get (notices g (openings g h) h) (notices_heard g (openings g h) h) else None

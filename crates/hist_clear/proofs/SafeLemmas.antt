@@ -19,57 +19,57 @@ use Rattle.hist_acts.specs.Past.{after, events_taken, force}
 use Rattle.hist_clear.specs.Answer.{answer, by_view, by_fault, by_entry, by_action}
 use Rattle.hist_clear.specs.History.{block, history}
 use Rattle.hist_acts.specs.Gateways.{is_named}
-use Rattle.hist_clear.specs.Safe.{Safe, IsSafeAct}
+use Rattle.hist_clear.specs.Safe.{IsSafeInClear, IsActSafeInClear}
 use Rattle.hist_clear.proofs.HistoryLemmas.{after-append}
 
 -- the answer's own past: the Let, and before it the number of the event
 action_safe : (g o : List ℕ) (h : List Act) (v : Packet) (e : SpdEntry) (a : Action) → view_of o ≡ Ok v → first_entry (force g h) Out v ≡ Some e → e.action ≡ a →
-    IsSafeAct (acts.Let g o ∷ h) (by_action g o a)
+    IsActSafeInClear (acts.Let g o ∷ h) (by_action g o a)
 action_safe g o h v e actions.Protect seen first act = tt
 action_safe g o h v e actions.Bypass seen first act =
     record { older = h; let_before = refl; bypass = record { packet = v; entry = e; view = seen; first = first; action = act } }
 action_safe g o h v e actions.Discard seen first act = tt
 
 entry_safe : (g o : List ℕ) (h : List Act) (v : Packet) (found : Option SpdEntry) → view_of o ≡ Ok v → first_entry (force g h) Out v ≡ found →
-    IsSafeAct (acts.Let g o ∷ h) (by_entry g o found)
+    IsActSafeInClear (acts.Let g o ∷ h) (by_entry g o found)
 entry_safe g o h v None seen first = tt
 entry_safe g o h v (Some e) seen first = action_safe g o h v e e.action seen first refl
 
 long_safe : (g o : List ℕ) (h : List Act) (v : Packet) (is_long : Bool) → view_of o ≡ Ok v →
-    IsSafeAct (acts.Let g o ∷ h) (if is_long then acts.Drop g why.TooLong else by_entry g o (first_entry (force g h) Out v))
+    IsActSafeInClear (acts.Let g o ∷ h) (if is_long then acts.Drop g why.TooLong else by_entry g o (first_entry (force g h) Out v))
 long_safe g o h v true seen = tt
 long_safe g o h v false seen = entry_safe g o h v (first_entry (force g h) Out v) seen refl
 
-fault_safe : (g : List ℕ) (h : List Act) (f : NotPacket) → IsSafeAct h (by_fault g f)
+fault_safe : (g : List ℕ) (h : List Act) (f : NotPacket) → IsActSafeInClear h (by_fault g f)
 fault_safe g h faults.Short = tt
 fault_safe g h faults.Version = tt
 fault_safe g h faults.Length = tt
 fault_safe g h faults.HeaderSum = tt
 fault_safe g h faults.Fragment = tt
 
-view_safe : (g o : List ℕ) (h : List Act) (r : Result Packet NotPacket) → view_of o ≡ r → IsSafeAct (acts.Let g o ∷ h) (by_view g (force g h) o r)
+view_safe : (g o : List ℕ) (h : List Act) (r : Result Packet NotPacket) → view_of o ≡ r → IsActSafeInClear (acts.Let g o ∷ h) (by_view g (force g h) o r)
 view_safe g o h (Err f) seen = fault_safe g (acts.Let g o ∷ h) f
 view_safe g o h (Ok v) seen = long_safe g o h v (nat_lt 65000 (length o)) seen
 
-answer_safe : (g o : List ℕ) (h : List Act) → IsSafeAct (acts.Let g o ∷ h) (answer g (force g h) o)
+answer_safe : (g o : List ℕ) (h : List Act) → IsActSafeInClear (acts.Let g o ∷ h) (answer g (force g h) o)
 unfolding answer
 answer_safe g o h = view_safe g o h (view_of o) refl
 
-policy_safe : (h : List Act) (g : List ℕ) (list : List SpdEntry) (is_here : Bool) → Safe h → Safe (after h (if is_here then acts.Policy g list ∷ [] else []))
+policy_safe : (h : List Act) (g : List ℕ) (list : List SpdEntry) (is_here : Bool) → IsSafeInClear h → IsSafeInClear (after h (if is_here then acts.Policy g list ∷ [] else []))
 policy_safe h g list true safe = (tt, safe)
 policy_safe h g list false safe = safe
 
-pub block_safe : (gateways : List Peer) (h : List Act) (e : Event) → Safe h → Safe (after h (block gateways h e))
+pub block_safe : (gateways : List Peer) (h : List Act) (e : Event) → IsSafeInClear h → IsSafeInClear (after h (block gateways h e))
 unfolding block
 block_safe gateways h (events.Policy g list) safe = policy_safe (acts.Took (events_taken h + 1) ∷ h) g list (is_named gateways g) (tt, safe)
 block_safe gateways h (events.Let g o) safe = (answer_safe g o (acts.Took (events_taken h + 1) ∷ h), (tt, (tt, safe)))
 block_safe gateways h e safe = (tt, safe)
 
-pub history_safe : (gateways : List Peer) (h : List Act) (es : List Event) → Safe h → Safe (after h (history gateways h es))
+pub history_safe : (gateways : List Peer) (h : List Act) (es : List Event) → IsSafeInClear h → IsSafeInClear (after h (history gateways h es))
 history_safe gateways h [] safe = safe
 history_safe gateways h (e ∷ es) safe =
     let b : List Act = block gateways h e in
-    let P : List Act → Type 0 = Safe in
+    let P : List Act → Type 0 = IsSafeInClear in
     subst P (sym (after-append h b (history gateways (after h b) es))) (history_safe gateways (after h b) es (block_safe gateways h e safe))
 
 -- a packet's answer is Clear or Drop

@@ -24,11 +24,11 @@ pub record ClearIsLet (h : List Act) (g o : List ℕ) : Type 0 where
   pub bypass : Bypasses (force g h) o
 
 -- an act is safe after its past
-abbrev pub IsSafeAct : List Act → Act → Type 0
-IsSafeAct h (acts.Clear g o) = ClearIsLet h g o
-IsSafeAct h _ = Unit {0}
+abbrev pub IsActSafeInClear : List Act → Act → Type 0
+IsActSafeInClear h (acts.Clear g o) = ClearIsLet h g o
+IsActSafeInClear h _ = Unit {0}
 
 -- each act is safe after those before it
-abbrev pub Safe : List Act → Type 0
-Safe [] = Unit {0}
-Safe (a ∷ h) = IsSafeAct h a × Safe h
+abbrev pub IsSafeInClear : List Act → Type 0
+IsSafeInClear [] = Unit {0}
+IsSafeInClear (a ∷ h) = IsActSafeInClear h a × IsSafeInClear h

@@ -9,11 +9,11 @@ ghost use Rattle.ikeless_tree.specs.declared.entry.SpdEntry.{SpdEntry};
 ghost use Rattle.hist_acts.specs.Past.{after, events_taken};
 ghost use Rattle.hist_clear.specs.Answer.{answer};
 ghost use Rattle.hist_clear.specs.History.{block, history};
-ghost use Rattle.hist_clear.specs.Safe.{Safe};
+ghost use Rattle.hist_clear.specs.Safe.{IsSafeInClear};
 
 /// Whatever events come, a packet leaves in clear only where the first policy that holds it says bypass.
 pub fn is_every_history_safe()
-    ensures { (gateways : List Peer) (events : List Event) → Safe (after [] (history gateways [] events)) }
+    ensures { (gateways : List Peer) (events : List Event) → IsSafeInClear (after [] (history gateways [] events)) }
 {}
 
 /// A packet from inside has exactly one answer: it leaves with its own octets, or it is dropped.

@@ -6,11 +6,11 @@ use Rattle.std.specs.List.{list_all}
 use Rattle.std.specs.Str.{bytes_eq}
 use Rattle.ikeless_tree.specs.Check.{is_key_length}
 use Rattle.ikeless_tree.specs.declared.command.Refusal.TheVariants as refusals
-use Rattle.hist_controller.specs.Acts.{Way, Placed, SetPolicy, Tunnel, End, Rekey, Keys, Act, Opened, Cut, Answered, Heard, Ordered, Accepted, Refused}
-use Rattle.hist_controller.specs.Past.{keys, spare, serials, directions, born}
+use Rattle.hist_controller.specs.Acts.{Way, PlacedCommand, SetPolicy, Tunnel, End, Rekey, Keys, ControllerAct, Opened, Cut, Answered, Heard, Ordered, Accepted, Refused}
+use Rattle.hist_controller.specs.Past.{keys, spare, serials, directions, new_ways}
 use Rattle.hist_controller.specs.Law.{aes_part, is_seen, has_tunnel, tunnels, refusal}
 use Rattle.hist_controller.specs.Machine.{place}
-use Rattle.hist_controller.specs.Clauses.{Has, IsPast}
+use Rattle.hist_controller.specs.Clauses.{Has, IsControllerPast}
 use Rattle.hist_controller.proofs.Lists.{length-more, place-old, length-both}
 use Rattle.hist_controller.proofs.Serials.{has-more}
 use Rattle.hist_controller.proofs.Often.{keyed}
@@ -54,7 +54,7 @@ same-apart : (ks : List (List ℕ)) → Apart ks → Apart (ks ++ [])
 same-apart ks f = subst Apart (sym (append-nil ks)) f
 
 -- no two accepted keys have one AES key
-pub apart : (p : ℕ) (h : List Act) → IsPast p h → Apart (keys h)
+pub apart : (p : ℕ) (h : List ControllerAct) → IsControllerPast p h → Apart (keys h)
 apart p [] l = λ i j a b x y e. cc
 apart p (Opened g s ∷ h) l = apart p h l.1
 apart p (Cut g s ∷ h) l = apart p h l.1
@@ -76,7 +76,7 @@ under : (n : ℕ) → nat_le 1048576 n ≡ false → n + 1 ≤ 1048576
 under n e = grind (arith, common_steps)
 
 -- no more keys are accepted than the limit says
-pub few-keys : (p : ℕ) (h : List Act) → IsPast p h → length (keys h) ≤ 1048576
+pub few-keys : (p : ℕ) (h : List ControllerAct) → IsControllerPast p h → length (keys h) ≤ 1048576
 few-keys p [] l = omega arith
 few-keys p (Opened g s ∷ h) l = few-keys p h l.1
 few-keys p (Cut g s ∷ h) l = few-keys p h l.1
@@ -95,7 +95,7 @@ few-keys p (Accepted (Rekey r) ∷ h) l = let f = few-keys p h l.1 in rw (append
 few-keys p (Refused w ∷ h) l = few-keys p h l.1
 
 -- and no more serials are given out than keys are accepted
-pub few-serials : (p : ℕ) (h : List Act) → IsPast p h → serials h ≤ length (keys h)
+pub few-serials : (p : ℕ) (h : List ControllerAct) → IsControllerPast p h → serials h ≤ length (keys h)
 few-serials p h l =
     let k = keyed p h l in
     let e = ap length k.split ∙ length-both k.gone (spare h) in
@@ -107,7 +107,7 @@ all-more [] k e f = rw e refl
 all-more (x ∷ ks) k e f = let ih = all-more ks k e in grind (arith, ih)
 
 -- each of them is an AES key and a salt
-pub long-keys : (p : ℕ) (h : List Act) → IsPast p h → list_all (λ k. is_key_length (length k)) (keys h) ≡ true
+pub long-keys : (p : ℕ) (h : List ControllerAct) → IsControllerPast p h → list_all (λ k. is_key_length (length k)) (keys h) ≡ true
 long-keys p [] l = refl
 long-keys p (Opened g s ∷ h) l = long-keys p h l.1
 long-keys p (Cut g s ∷ h) l = long-keys p h l.1
@@ -144,7 +144,7 @@ below n p e = grind (arith, common_steps)
 turned : (n m : ℕ) → (n == m) ≡ false → (m == n) ≡ false
 turned n m e = grind arith
 
-placed-new : (p n : ℕ) (h : List Act) (c : Placed) (d : Way) → refusal p h c ≡ None → Has d (born n c) → Placing p d
+placed-new : (p n : ℕ) (h : List ControllerAct) (c : PlacedCommand) (d : Way) → refusal p h c ≡ None → Has d (new_ways n c) → Placing p d
 placed-new p n h (SetPolicy g l) d e i = absurd i
 placed-new p n h (Tunnel t) d e (inl i) =
     let q = tunnel-passes (nat_lt t.first p) (nat_lt t.second p) (t.first == t.second) (has_tunnel t.spec.reqid h) (nat_le 1024 (tunnels h (directions h))) e in
@@ -158,14 +158,14 @@ placed-new p n h (Rekey r) d e i = absurd i
 placed-new p n h (Keys k) d e i = absurd i
 
 -- the two gateways of a direction are known and differ
-pub placings : (p : ℕ) (h : List Act) → IsPast p h → (d : Way) → Has d (directions h) → Placing p d
+pub placings : (p : ℕ) (h : List ControllerAct) → IsControllerPast p h → (d : Way) → Has d (directions h) → Placing p d
 placings p [] l d i = absurd i
 placings p (Opened g s ∷ h) l d i = placings p h l.1 d i
 placings p (Cut g s ∷ h) l d i = placings p h l.1 d i
 placings p (Answered g s n z ∷ h) l d i = placings p h l.1 d i
 placings p (Heard g s t ∷ h) l d i = placings p h l.1 d i
 placings p (Ordered g s n o ∷ h) l d i = placings p h l.1 d i
-placings p (Accepted c ∷ h) l d i = elim (has-more d (directions h) (born (length (directions h)) c) i) as (λ q. Placing p d) [
+placings p (Accepted c ∷ h) l d i = elim (has-more d (directions h) (new_ways (length (directions h)) c) i) as (λ q. Placing p d) [
   | inl j ↦ placings p h l.1 d j
   | inr j ↦ placed-new p (length (directions h)) h c d l.0 j
 ]

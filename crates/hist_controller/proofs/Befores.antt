@@ -2,18 +2,18 @@
 use Rattle.std.proofs.Common.{◌≡◌, ℕ, ◌+◌, ◌<◌, ◌≤◌, Bool, true, false, ◌==◌, not, ◌&&◌, ◌||◌, List, [], ◌∷◌, ◌++◌, Option, Some, None, ◌⊎◌, inl, inr, refl, sym, subst, ◌∙◌, ap, arith, if◌then◌else◌, append-nil}
 use Rattle.std.specs.List.{list_any}
 use Rattle.ikeless_tree.specs.declared.order.Answer.{Answer}
-use Rattle.hist_controller.specs.Acts.{Way, Association, Order, Read, Policy, PutIn, PutOut, RemoveIn, RemoveOut, Act, Opened, Cut, Answered, Heard, Ordered, Accepted, Refused}
-use Rattle.hist_controller.specs.Past.{oldest, rest, queue, ready, serials, is_first, directions, Kind, PuttingIn, PuttingOut, RemovingIn, RemovingOut, is, is_own, answers_to, sends, heard, spoils, ended, in_progress, put_in, left}
-use Rattle.hist_controller.specs.Clauses.{Has, MayOrder, IsPast, MayInPut, MayOutPut, MayInRemove, MayOutRemove}
+use Rattle.hist_controller.specs.Acts.{Way, Association, ControllerOrder, Read, Policy, PutIn, PutOut, RemoveIn, RemoveOut, ControllerAct, Opened, Cut, Answered, Heard, Ordered, Accepted, Refused}
+use Rattle.hist_controller.specs.Past.{oldest, rest, queue, is_read, serials, is_inbound_put, directions, Kind, PuttingIn, PuttingOut, RemovingIn, RemovingOut, is_kind, is_own, is_answer_to, is_out_ordered, has_answer, is_spoiled, is_ended, is_in_progress, inbound_put, left}
+use Rattle.hist_controller.specs.Clauses.{Has, MayOrder, IsControllerPast, MayOrderInPut, MayOrderOutPut, MayOrderInRemove, MayOrderOutRemove}
 use Rattle.hist_controller.specs.Counts.{times}
-use Rattle.hist_controller.specs.Orders.{given, not_shown, missed, Before, AllBefore}
+use Rattle.hist_controller.specs.Orders.{was_ordered, is_not_shown, was_missed, Before, AllBefore}
 use Rattle.hist_controller.proofs.Lists.{has-left}
 use Rattle.hist_controller.proofs.Bools.{or-right, second-of-4, split-or}
 use Rattle.hist_controller.proofs.Serials.{has-more, has-filter, has-if, put-one, of-way, low, one, one-way}
 use Rattle.hist_controller.proofs.Often.{once, not-sent}
 use Rattle.hist_controller.proofs.Removed.{neither}
 
-none-given : (k : Kind) (n : ℕ) (h : List Act) → times k n h ≡ 0 → given k n h ≡ false
+none-given : (k : Kind) (n : ℕ) (h : List ControllerAct) → times k n h ≡ 0 → was_ordered k n h ≡ false
 none-given k n [] e = refl
 none-given k n (Opened g s ∷ h) e = none-given k n h e
 none-given k n (Cut g s ∷ h) e = none-given k n h e
@@ -23,7 +23,7 @@ none-given k n (Ordered g s i o ∷ h) e = let ih = none-given k n h in grind (a
 none-given k n (Accepted c ∷ h) e = none-given k n h e
 none-given k n (Refused w ∷ h) e = none-given k n h e
 
-sent-given : (n : ℕ) (h : List Act) → sends n h ≡ true → given PuttingOut n h ≡ true
+sent-given : (n : ℕ) (h : List ControllerAct) → is_out_ordered n h ≡ true → was_ordered PuttingOut n h ≡ true
 sent-given n [] e = e
 sent-given n (Opened g s ∷ h) e = sent-given n h e
 sent-given n (Cut g s ∷ h) e = sent-given n h e
@@ -35,27 +35,27 @@ sent-given n (Refused w ∷ h) e = sent-given n h e
 
 -- ## what an inbound removal says for good
 
-record Marked (h : List Act) : Type 0 where
-  pub new : (n : ℕ) → serials h < n → given RemovingIn n h ≡ false
-  pub gone : (d : Way) (x : Association) → Has x (left d h) → given RemovingIn x.serial h ≡ true → ended x h ≡ true
+record Marked (h : List ControllerAct) : Type 0 where
+  pub new : (n : ℕ) → serials h < n → was_ordered RemovingIn n h ≡ false
+  pub gone : (d : Way) (x : Association) → Has x (left d h) → was_ordered RemovingIn x.serial h ≡ true → is_ended x h ≡ true
 
 first-of-4 : (a b c : Bool) → (a && b && c) ≡ true → a ≡ true
 first-of-4 a b c e = grind arith
 
-old-ended : (h : List Act) (o : Order) (x : Association) → is PuttingIn x.serial o ≡ false → ended x h ≡ true → (not (is PuttingIn x.serial o) && ended x h) ≡ true
+old-ended : (h : List ControllerAct) (o : ControllerOrder) (x : Association) → is_kind PuttingIn x.serial o ≡ false → is_ended x h ≡ true → (not (is_kind PuttingIn x.serial o) && is_ended x h) ≡ true
 old-ended h o x r e = rw (r, e) refl
 
-pub old-left : (h : List Act) (d : Way) (x : Association) → Has x (left d h ++ []) → Has x (left d h)
+pub old-left : (h : List ControllerAct) (d : Way) (x : Association) → Has x (left d h ++ []) → Has x (left d h)
 old-left h d x i = subst (Has x) (append-nil (left d h)) i
 
-gone-remove : (p : ℕ) (h : List Act) → IsPast p h → Marked h → (g q : ℕ) → MayInRemove h g q → (d : Way) (x : Association) → Has x (left d h) → (b : Bool) → (x.serial == q) ≡ b → (b || given RemovingIn x.serial h) ≡ true → ended x h ≡ true
+gone-remove : (p : ℕ) (h : List ControllerAct) → IsControllerPast p h → Marked h → (g q : ℕ) → MayOrderInRemove h g q → (d : Way) (x : Association) → Has x (left d h) → (b : Bool) → (x.serial == q) ≡ b → (b || was_ordered RemovingIn x.serial h) ≡ true → is_ended x h ≡ true
 gone-remove p h l k g q m d x i true e w =
     let s : x.serial ≡ q = grind arith in
     let t = one p h l d m.way x m.association i m.left (s ∙ m.name) in
-    rw t (first-of-4 (ended m.association h) (not (sends m.association.serial h) || heard RemovingOut m.association.serial h) (ready m.way.receiver h) m.may)
+    rw t (first-of-4 (is_ended m.association h) (not (is_out_ordered m.association.serial h) || has_answer RemovingOut m.association.serial h) (is_read m.way.receiver h) m.may)
 gone-remove p h l k g q m d x i false e w = k.gone d x i w
 
-gone-put : (p : ℕ) (h : List Act) → IsPast p h → Marked h → (z : Association) → z.serial ≡ serials h + 1 → (d : Way) (x : Association) → Has x (left d h) ⊎ Has x (put_in d (PutIn z)) → given RemovingIn x.serial h ≡ true → (not (x.serial == z.serial) && ended x h) ≡ true
+gone-put : (p : ℕ) (h : List ControllerAct) → IsControllerPast p h → Marked h → (z : Association) → z.serial ≡ serials h + 1 → (d : Way) (x : Association) → Has x (left d h) ⊎ Has x (inbound_put d (PutIn z)) → was_ordered RemovingIn x.serial h ≡ true → (not (x.serial == z.serial) && is_ended x h) ≡ true
 gone-put p h l k z e d x (inl i) w =
     let b = low p h l d x i in
     let r : (x.serial == z.serial) ≡ false = grind arith in
@@ -70,31 +70,31 @@ gone-put p h l k z e d x (inr i) w =
 pub not-either : (a b : Bool) → a ≡ false → b ≡ false → (a || b) ≡ false
 not-either a b e f = rw (e, f) refl
 
-marked-order : (p : ℕ) (h : List Act) (g s i : ℕ) (o : Order) → IsPast p h → MayOrder h g o → Marked h → Marked (Ordered g s i o ∷ h)
+marked-order : (p : ℕ) (h : List ControllerAct) (g s i : ℕ) (o : ControllerOrder) → IsControllerPast p h → MayOrder h g o → Marked h → Marked (Ordered g s i o ∷ h)
 marked-order p h g s i Read l m k = record { new = k.new; gone = λ d x j w. k.gone d x (old-left h d x j) w }
 marked-order p h g s i (Policy q) l m k = record { new = k.new; gone = λ d x j w. k.gone d x (old-left h d x j) w }
 marked-order p h g s i (PutIn z) l m k =
     record {
       new = λ n w. k.new n (omega arith);
-      gone = λ d x j w. gone-put p h l k z m.serial d x (has-more x (left d h) (put_in d (PutIn z)) j) w;
+      gone = λ d x j w. gone-put p h l k z m.serial d x (has-more x (left d h) (inbound_put d (PutIn z)) j) w;
     }
 marked-order p h g s i (PutOut z) l m k = record { new = k.new; gone = λ d x j w. k.gone d x (old-left h d x j) w }
 marked-order p h g s i (RemoveIn q) l m k =
     let b = low p h l m.way m.association m.left in
     let e = m.name in
     record {
-      new = λ n w. not-either (n == q) (given RemovingIn n h) (grind arith) (k.new n w);
+      new = λ n w. not-either (n == q) (was_ordered RemovingIn n h) (grind arith) (k.new n w);
       gone = λ d x j w. gone-remove p h l k g q m d x (old-left h d x j) (x.serial == q) refl w;
     }
 marked-order p h g s i (RemoveOut q) l m k = record { new = k.new; gone = λ d x j w. k.gone d x (old-left h d x j) w }
 
-marked : (p : ℕ) (h : List Act) → IsPast p h → Marked h
+marked : (p : ℕ) (h : List ControllerAct) → IsControllerPast p h → Marked h
 marked p [] l = record { new = λ n w. refl; gone = λ d x i. absurd i }
 marked p (Opened g s ∷ h) l = let k = marked p h l.1 in record { new = k.new; gone = k.gone }
 marked p (Cut g s ∷ h) l = let k = marked p h l.1 in record { new = k.new; gone = λ d x i w. or-right _ _ (k.gone d x i w) }
 marked p (Answered g s n a ∷ h) l =
     let k = marked p h l.1 in
-    record { new = k.new; gone = λ d x i w. or-right _ _ (k.gone d x (has-filter (λ y. not (answers_to RemovingIn y.serial (oldest (queue g h)))) x (left d h) i) w) }
+    record { new = k.new; gone = λ d x i w. or-right _ _ (k.gone d x (has-filter (λ y. not (is_answer_to RemovingIn y.serial (oldest (queue g h)))) x (left d h) i) w) }
 marked p (Heard g s t ∷ h) l = let k = marked p h l.1 in record { new = k.new; gone = k.gone }
 marked p (Ordered g s n o ∷ h) l = marked-order p h g s n o l.1 l.0.3 (marked p h l.1)
 marked p (Accepted c ∷ h) l = let k = marked p h l.1 in record { new = k.new; gone = λ d x i w. or-right _ _ (k.gone d x (has-if x _ (left d h) i).1 w) }
@@ -102,7 +102,7 @@ marked p (Refused w ∷ h) l = let k = marked p h l.1 in record { new = k.new; g
 
 -- ## where an outbound put waits
 
-pub record Home (h : List Act) (g : ℕ) (y : Association) : Type 0 where
+pub record Home (h : List ControllerAct) (g : ℕ) (y : Association) : Type 0 where
   pub way : Way
   pub of : Has way (directions h)
   pub own : (way.id == y.way.id) ≡ true
@@ -110,23 +110,23 @@ pub record Home (h : List Act) (g : ℕ) (y : Association) : Type 0 where
   pub low : y.serial ≤ serials h
   pub alone : (d : Way) (x : Association) → Has x (left d h) → x.serial ≡ y.serial → x ≡ y
 
-abbrev Homes : List Act → Type 0
+abbrev Homes : List ControllerAct → Type 0
 Homes h = (g : ℕ) (y : Association) → Has (PutOut y) (queue g h) → Home h g y
 
-pub has-queue : (b : Bool) (q : List Order) (o z : Order) → Has z (if b then q ++ o ∷ [] else q) → Has z q ⊎ ((z ≡ o) × (b ≡ true))
+pub has-queue : (b : Bool) (q : List ControllerOrder) (o z : ControllerOrder) → Has z (if b then q ++ o ∷ [] else q) → Has z q ⊎ ((z ≡ o) × (b ≡ true))
 has-queue true q o z i = elim (has-more z q (o ∷ []) i) as (λ w. Has z q ⊎ ((z ≡ o) × (true ≡ true))) [ inl j ↦ inl j | inr j ↦ inr (last z o j, refl) ]
   where
-    last : (z o : Order) → Has z (o ∷ []) → z ≡ o
+    last : (z o : ControllerOrder) → Has z (o ∷ []) → z ≡ o
     last z o (inl e) = e
     last z o (inr e) = absurd e
 has-queue false q o z i = inl i
 
-pub has-rest : (b : Bool) (q : List Order) (z : Order) → Has z (if b then rest q else q) → Has z q
+pub has-rest : (b : Bool) (q : List ControllerOrder) (z : ControllerOrder) → Has z (if b then rest q else q) → Has z q
 has-rest true [] z i = i
 has-rest true (o ∷ os) z i = inr i
 has-rest false q z i = i
 
-pub has-none : (b : Bool) (q : List Order) (z : Order) → Has z (if b then [] else q) → Has z q
+pub has-none : (b : Bool) (q : List ControllerOrder) (z : ControllerOrder) → Has z (if b then [] else q) → Has z q
 has-none true q z i = absurd i
 has-none false q z i = i
 
@@ -134,28 +134,28 @@ grown : (b : Bool) (n : ℕ) → n ≤ (if b then n + 1 else n)
 grown true n = omega arith
 grown false n = omega arith
 
-pub home-order : (p : ℕ) (h : List Act) (f s i : ℕ) (o : Order) → IsPast p h → MayOrder h f o → (g : ℕ) (y : Association) → Home h g y → Home (Ordered f s i o ∷ h) g y
+pub home-order : (p : ℕ) (h : List ControllerAct) (f s i : ℕ) (o : ControllerOrder) → IsControllerPast p h → MayOrder h f o → (g : ℕ) (y : Association) → Home h g y → Home (Ordered f s i o ∷ h) g y
 home-order p h f s i o l m g y k =
     let b = k.low in
-    let r = grown (is_first o) (serials h) in
+    let r = grown (is_inbound_put o) (serials h) in
     record {
       way = k.way;
       of = k.of;
       own = k.own;
       at = k.at;
       low = omega arith;
-      alone = λ d x j e. alone d x (has-more x (left d h) (put_in d o) j) e;
+      alone = λ d x j e. alone d x (has-more x (left d h) (inbound_put d o) j) e;
     }
   where
-    alone : (d : Way) (x : Association) → Has x (left d h) ⊎ Has x (put_in d o) → x.serial ≡ y.serial → x ≡ y
+    alone : (d : Way) (x : Association) → Has x (left d h) ⊎ Has x (inbound_put d o) → x.serial ≡ y.serial → x ≡ y
     alone d x (inl j) e = k.alone d x j e
     alone d x (inr j) e =
-        let m' : MayInPut h f x = subst (MayOrder h f) (put-one d x o j).0 m in
+        let m' : MayOrderInPut h f x = subst (MayOrder h f) (put-one d x o j).0 m in
         let q = m'.serial in
         let b = k.low in
         absurd (omega arith)
 
-pub new-home : (p : ℕ) (h : List Act) (f s i : ℕ) (g : ℕ) (y : Association) → IsPast p h → MayOutPut h f y → g ≡ f → Home (Ordered f s i (PutOut y) ∷ h) g y
+pub new-home : (p : ℕ) (h : List ControllerAct) (f s i : ℕ) (g : ℕ) (y : Association) → IsControllerPast p h → MayOrderOutPut h f y → g ≡ f → Home (Ordered f s i (PutOut y) ∷ h) g y
 new-home p h f s i g y l m e =
     record {
       way = m.way;
@@ -166,20 +166,20 @@ new-home p h f s i g y l m e =
       alone = λ d x j q. one p h l d m.way x y (old-left h d x j) m.left q;
     }
 
-homes-order : (p : ℕ) (h : List Act) (f s i : ℕ) (o : Order) → IsPast p h → MayOrder h f o → Homes h → (g : ℕ) (y : Association) → Has (PutOut y) (queue g h) ⊎ ((PutOut y ≡ o) × ((g == f) ≡ true)) → Home (Ordered f s i o ∷ h) g y
+homes-order : (p : ℕ) (h : List ControllerAct) (f s i : ℕ) (o : ControllerOrder) → IsControllerPast p h → MayOrder h f o → Homes h → (g : ℕ) (y : Association) → Has (PutOut y) (queue g h) ⊎ ((PutOut y ≡ o) × ((g == f) ≡ true)) → Home (Ordered f s i o ∷ h) g y
 homes-order p h f s i o l m k g y (inl j) = home-order p h f s i o l m g y (k g y j)
 homes-order p h f s i o l m k g y (inr j) =
     let e : g ≡ f = let t = j.1 in grind arith in
-    let m' : MayOutPut h f y = subst (MayOrder h f) (sym j.0) m in
+    let m' : MayOrderOutPut h f y = subst (MayOrder h f) (sym j.0) m in
     subst (λ z. Home (Ordered f s i z ∷ h) g y) j.0 (new-home p h f s i g y l m' e)
 
-homes : (p : ℕ) (h : List Act) → IsPast p h → Homes h
+homes : (p : ℕ) (h : List ControllerAct) → IsControllerPast p h → Homes h
 homes p [] l g y i = absurd i
 homes p (Opened f s ∷ h) l g y i = let k = homes p h l.1 g y (has-none (g == f) (queue g h) (PutOut y) i) in record { way = k.way; of = k.of; own = k.own; at = k.at; low = k.low; alone = k.alone }
 homes p (Cut f s ∷ h) l g y i = let k = homes p h l.1 g y (has-none (g == f) (queue g h) (PutOut y) i) in record { way = k.way; of = k.of; own = k.own; at = k.at; low = k.low; alone = k.alone }
 homes p (Answered f s n a ∷ h) l g y i =
     let k = homes p h l.1 g y (has-rest (g == f) (queue g h) (PutOut y) i) in
-    record { way = k.way; of = k.of; own = k.own; at = k.at; low = k.low; alone = λ d x j e. k.alone d x (has-filter (λ z. not (answers_to RemovingIn z.serial (oldest (queue f h)))) x (left d h) j) e }
+    record { way = k.way; of = k.of; own = k.own; at = k.at; low = k.low; alone = λ d x j e. k.alone d x (has-filter (λ z. not (is_answer_to RemovingIn z.serial (oldest (queue f h)))) x (left d h) j) e }
 homes p (Heard f s t ∷ h) l g y i = let k = homes p h l.1 g y i in record { way = k.way; of = k.of; own = k.own; at = k.at; low = k.low; alone = k.alone }
 homes p (Ordered f s n o ∷ h) l g y i = homes-order p h f s n o l.1 l.0.3 (homes p h l.1) g y (has-queue (g == f) (queue g h) o (PutOut y) i)
 homes p (Accepted c ∷ h) l g y i =
@@ -188,11 +188,11 @@ homes p (Accepted c ∷ h) l g y i =
 homes p (Refused w ∷ h) l g y i = let k = homes p h l.1 g y i in record { way = k.way; of = k.of; own = k.own; at = k.at; low = k.low; alone = k.alone }
 
 -- no outbound put of the association waits anywhere, where its direction is free
-pub no-put-in : (q : List Order) (n : ℕ) → ((y : Association) → Has (PutOut y) q → (n == y.serial) ≡ false) → list_any (is PuttingOut n) q ≡ false
+pub no-put-in : (q : List ControllerOrder) (n : ℕ) → ((y : Association) → Has (PutOut y) q → (n == y.serial) ≡ false) → list_any (is_kind PuttingOut n) q ≡ false
 no-put-in [] n f = refl
-no-put-in (o ∷ os) n f = not-either (is PuttingOut n o) (list_any (is PuttingOut n) os) (here o (λ y e. f y (inl e))) (no-put-in os n (λ y j. f y (inr j)))
+no-put-in (o ∷ os) n f = not-either (is_kind PuttingOut n o) (list_any (is_kind PuttingOut n) os) (here o (λ y e. f y (inl e))) (no-put-in os n (λ y j. f y (inr j)))
   where
-    here : (o : Order) → ((y : Association) → PutOut y ≡ o → (n == y.serial) ≡ false) → is PuttingOut n o ≡ false
+    here : (o : ControllerOrder) → ((y : Association) → PutOut y ≡ o → (n == y.serial) ≡ false) → is_kind PuttingOut n o ≡ false
     here Read g = refl
     here (Policy l) g = refl
     here (PutIn x) g = refl
@@ -209,7 +209,7 @@ any-yes p [] x i e f = absurd i
 any-yes p (y ∷ ys) x (inl q) e f = let w : p y ≡ true = ap p (sym q) ∙ e in let t = neither (p y) (list_any p ys) f in let u : true ≡ false = sym w ∙ t.0 in cc
 any-yes p (y ∷ ys) x (inr i) e f = any-yes p ys x i e (neither (p y) (list_any p ys) f).1
 
-no-put : (p : ℕ) (h : List Act) (f n : ℕ) → IsPast p h → MayOutRemove h f n → (g : ℕ) → list_any (is PuttingOut n) (queue g h) ≡ false
+no-put : (p : ℕ) (h : List ControllerAct) (f n : ℕ) → IsControllerPast p h → MayOrderOutRemove h f n → (g : ℕ) → list_any (is_kind PuttingOut n) (queue g h) ≡ false
 no-put p h f n l m g = no-put-in (queue g h) n (λ y j. is-not (n == y.serial) (λ e.
     let k = homes p h l g y j in
     let s : m.association.serial ≡ y.serial = let q = m.name in grind arith in
@@ -233,7 +233,7 @@ third-of-5 a b c d e q = grind arith
 pub not-ended : (a b c d e f : Bool) → ((not a && b) && c && d && e && f) ≡ true → a ≡ false
 not-ended a b c d e f q = grind arith
 
-spoiled : (x : Association) (g : ℕ) (o : Option Order) (a : Answer) (done sent : Bool) → sent ≡ false → not_shown x g o a done ≡ true → spoils x g o a done sent ≡ true
+spoiled : (x : Association) (g : ℕ) (o : Option ControllerOrder) (a : Answer) (done sent : Bool) → sent ≡ false → is_not_shown x g o a done ≡ true → is_spoiled x g o a done sent ≡ true
 spoiled x g None a done sent e t = cc
 spoiled x g (Some Read) a done sent e t = grind arith
 spoiled x g (Some (Policy l)) a done sent e t = cc
@@ -251,41 +251,41 @@ missed-or : (a b c d : Bool) → (a ≡ true → c ≡ true) → (b ≡ true →
 missed-or true b c d f g e = rw (f refl) refl
 missed-or false b c d f g e = or-right c d (g e)
 
-missed-ended : (x : Association) (h : List Act) → missed x h ≡ true → sends x.serial h ≡ false → ended x h ≡ true
+missed-ended : (x : Association) (h : List ControllerAct) → was_missed x h ≡ true → is_out_ordered x.serial h ≡ false → is_ended x h ≡ true
 missed-ended x [] t e = cc
 missed-ended x (Opened g s ∷ h) t e = missed-ended x h t e
 missed-ended x (Cut g s ∷ h) t e = or-right _ _ (missed-ended x h t e)
-missed-ended x (Answered g s n a ∷ h) t e = missed-or _ _ _ _ (spoiled x g (oldest (queue g h)) a (heard PuttingIn x.serial h) (sends x.serial h) e) (λ u. missed-ended x h u e) t
+missed-ended x (Answered g s n a ∷ h) t e = missed-or _ _ _ _ (spoiled x g (oldest (queue g h)) a (has_answer PuttingIn x.serial h) (is_out_ordered x.serial h) e) (λ u. missed-ended x h u e) t
 missed-ended x (Heard g s n ∷ h) t e = missed-ended x h t e
-missed-ended x (Ordered g s n o ∷ h) t e = missed-put (is PuttingIn x.serial o) (is PuttingOut x.serial o) (missed x h) (sends x.serial h) (ended x h) (missed-ended x h) t e
+missed-ended x (Ordered g s n o ∷ h) t e = missed-put (is_kind PuttingIn x.serial o) (is_kind PuttingOut x.serial o) (was_missed x h) (is_out_ordered x.serial h) (is_ended x h) (missed-ended x h) t e
 missed-ended x (Accepted c ∷ h) t e = or-right _ _ (missed-ended x h t e)
 missed-ended x (Refused w ∷ h) t e = missed-ended x h t e
 
-pub before : (p : ℕ) (h : List Act) (g : ℕ) (o : Order) → IsPast p h → MayOrder h g o → Before h o
+pub before : (p : ℕ) (h : List ControllerAct) (g : ℕ) (o : ControllerOrder) → IsControllerPast p h → MayOrder h g o → Before h o
 before p h g Read l m = tt
 before p h g (Policy q) l m = tt
 before p h g (PutIn x) l m = let k = once p x.serial h l in let e = m.serial in none-given PuttingIn x.serial h (k.new_in (omega arith))
 before p h g (PutOut x) l m =
     let k = once p x.serial h l in
     let w = marked p h l in
-    let e = not-ended (ended x h) (not (heard PuttingOut x.serial h)) (not (sends x.serial h)) (heard PuttingIn x.serial h) (ready m.way.sender h) (ready m.way.receiver h) m.may in (
-      third-of-5 (in_progress h x) (not (sends x.serial h)) (heard PuttingIn x.serial h) (ready m.way.sender h) (ready m.way.receiver h) m.may,
-      none-given PuttingOut x.serial h (k.sent_out (not-sent (in_progress h x) (sends x.serial h) (heard PuttingIn x.serial h) (ready m.way.sender h) (ready m.way.receiver h) m.may)),
-      is-not (given RemovingIn x.serial h) (λ t. let u = w.gone m.way x m.left t in cc),
-      is-not (missed x h) (λ t. let u = missed-ended x h t (not-sent (in_progress h x) (sends x.serial h) (heard PuttingIn x.serial h) (ready m.way.sender h) (ready m.way.receiver h) m.may) in cc),
+    let e = not-ended (is_ended x h) (not (has_answer PuttingOut x.serial h)) (not (is_out_ordered x.serial h)) (has_answer PuttingIn x.serial h) (is_read m.way.sender h) (is_read m.way.receiver h) m.may in (
+      third-of-5 (is_in_progress h x) (not (is_out_ordered x.serial h)) (has_answer PuttingIn x.serial h) (is_read m.way.sender h) (is_read m.way.receiver h) m.may,
+      none-given PuttingOut x.serial h (k.sent_out (not-sent (is_in_progress h x) (is_out_ordered x.serial h) (has_answer PuttingIn x.serial h) (is_read m.way.sender h) (is_read m.way.receiver h) m.may)),
+      is-not (was_ordered RemovingIn x.serial h) (λ t. let u = w.gone m.way x m.left t in cc),
+      is-not (was_missed x h) (λ t. let u = missed-ended x h t (not-sent (is_in_progress h x) (is_out_ordered x.serial h) (has_answer PuttingIn x.serial h) (is_read m.way.sender h) (is_read m.way.receiver h) m.may) in cc),
     )
 before p h g (RemoveOut n) l m = (
-  rw m.name (sent-given m.association.serial h (second-of-4 (ended m.association h) (sends m.association.serial h) (not (heard RemovingOut m.association.serial h)) (ready m.way.sender h) m.may)),
+  rw m.name (sent-given m.association.serial h (second-of-4 (is_ended m.association h) (is_out_ordered m.association.serial h) (not (has_answer RemovingOut m.association.serial h)) (is_read m.way.sender h) m.may)),
   no-put p h g n l m,
 )
 before p h g (RemoveIn n) l m =
     let k = once p m.association.serial h l in
-    elim (split-or (sends m.association.serial h) (heard RemovingOut m.association.serial h) (second-of-3 (ended m.association h) (not (sends m.association.serial h) || heard RemovingOut m.association.serial h) (ready m.way.receiver h) m.may)) as (λ q. (given PuttingOut n h ≡ false) ⊎ (heard RemovingOut n h ≡ true)) [
+    elim (split-or (is_out_ordered m.association.serial h) (has_answer RemovingOut m.association.serial h) (second-of-3 (is_ended m.association h) (not (is_out_ordered m.association.serial h) || has_answer RemovingOut m.association.serial h) (is_read m.way.receiver h) m.may)) as (λ q. (was_ordered PuttingOut n h ≡ false) ⊎ (has_answer RemovingOut n h ≡ true)) [
       | inl e ↦ inl (rw m.name (none-given PuttingOut m.association.serial h (k.sent_out e)))
       | inr e ↦ inr (rw m.name e)
     ]
 
-pub all-before : (p : ℕ) (h : List Act) → IsPast p h → AllBefore h
+pub all-before : (p : ℕ) (h : List ControllerAct) → IsControllerPast p h → AllBefore h
 all-before p [] l = tt
 all-before p (Opened g s ∷ h) l = all-before p h l.1
 all-before p (Cut g s ∷ h) l = all-before p h l.1

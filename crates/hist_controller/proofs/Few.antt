@@ -2,11 +2,11 @@
 use Rattle.std.proofs.Common.{◌≡◌, ℕ, ◌+◌, ◌*◌, ◌<◌, ◌≤◌, Bool, true, false, ◌==◌, not, ◌&&◌, ◌||◌, nat_le, nat_lt, List, [], ◌∷◌, ◌++◌, ◌⊎◌, inl, inr, length, refl, sym, subst, ◌∙◌, ap, arith, if◌then◌else◌, append-nil}
 use Rattle.std.proofs.lemmas.Grind.{common_steps}
 use Rattle.std.specs.List.{filter, list_any}
-use Rattle.hist_controller.specs.Acts.{Way, Association, Order, Read, Policy, PutIn, PutOut, RemoveIn, RemoveOut, Placed, SetPolicy, Tunnel, End, Rekey, Keys, Act, Opened, Cut, Answered, Heard, Ordered, Accepted, Refused}
-use Rattle.hist_controller.specs.Past.{oldest, queue, ready, directions, born, two_of, made_by, ends, over, owed, wanted, PuttingIn, PuttingOut, RemovingIn, RemovingOut, answers_to, sends, heard, ended, put_in, left, is_own, busy}
-use Rattle.hist_controller.specs.Law.{has_tunnel, is_none, counts, tunnels}
-use Rattle.hist_controller.specs.Clauses.{Has, MayOrder, IsPast, MayInPut}
-use Rattle.hist_controller.specs.Halves.{PlainAnswers, touches, halves}
+use Rattle.hist_controller.specs.Acts.{Way, Association, ControllerOrder, Read, Policy, PutIn, PutOut, RemoveIn, RemoveOut, PlacedCommand, SetPolicy, Tunnel, End, Rekey, Keys, ControllerAct, Opened, Cut, Answered, Heard, Ordered, Accepted, Refused}
+use Rattle.hist_controller.specs.Past.{oldest, queue, is_read, directions, new_ways, both_ways, is_made_by, is_end_of, is_over, is_owed, is_wanted, PuttingIn, PuttingOut, RemovingIn, RemovingOut, is_answer_to, is_out_ordered, has_answer, is_ended, inbound_put, left, is_own, is_busy}
+use Rattle.hist_controller.specs.Law.{has_tunnel, is_none, is_counted, tunnels}
+use Rattle.hist_controller.specs.Clauses.{Has, MayOrder, IsControllerPast, MayOrderInPut}
+use Rattle.hist_controller.specs.Halves.{PlainAnswers, is_at_gateway, half_count}
 use Rattle.hist_controller.proofs.Lists.{length-more}
 use Rattle.hist_controller.proofs.KeptState.{rising, made-no}
 use Rattle.hist_controller.proofs.Serials.{has-more, has-filter, put-one, put-serial, of-way, low, one-way, upto}
@@ -46,7 +46,7 @@ climbs-one : (b : Bool) (x : Association) → Climbs (if b then x ∷ [] else []
 climbs-one true x = (λ y i. absurd i, tt)
 climbs-one false x = tt
 
-climbs-put : (d : Way) (o : Order) → Climbs (put_in d o)
+climbs-put : (d : Way) (o : ControllerOrder) → Climbs (inbound_put d o)
 climbs-put d Read = tt
 climbs-put d (Policy l) = tt
 climbs-put d (PutIn x) = climbs-one (d.id == x.way.id) x
@@ -54,17 +54,17 @@ climbs-put d (PutOut x) = tt
 climbs-put d (RemoveIn n) = tt
 climbs-put d (RemoveOut n) = tt
 
-climbs : (p : ℕ) (h : List Act) → IsPast p h → (d : Way) → Climbs (left d h)
+climbs : (p : ℕ) (h : List ControllerAct) → IsControllerPast p h → (d : Way) → Climbs (left d h)
 climbs p [] l d = tt
 climbs p (Opened g s ∷ h) l d = climbs p h l.1 d
 climbs p (Cut g s ∷ h) l d = climbs p h l.1 d
-climbs p (Answered g s n a ∷ h) l d = climbs-filter (λ x. not (answers_to RemovingIn x.serial (oldest (queue g h)))) (left d h) (climbs p h l.1 d)
+climbs p (Answered g s n a ∷ h) l d = climbs-filter (λ x. not (is_answer_to RemovingIn x.serial (oldest (queue g h)))) (left d h) (climbs p h l.1 d)
 climbs p (Heard g s t ∷ h) l d = climbs p h l.1 d
-climbs p (Ordered g s n o ∷ h) l d = climbs-more (left d h) (put_in d o) (climbs p h l.1 d) (climbs-put d o) (λ x y i j.
+climbs p (Ordered g s n o ∷ h) l d = climbs-more (left d h) (inbound_put d o) (climbs p h l.1 d) (climbs-put d o) (λ x y i j.
     let a = low p h l.1 d x i in
     let b = put-serial h g o y l.0.3 (put-one d y o j).0 in
     omega arith)
-climbs p (Accepted c ∷ h) l d = climbs-if (made_by c (length (directions h)) d) (left d h) (climbs p h l.1 d)
+climbs p (Accepted c ∷ h) l d = climbs-if (is_made_by c (length (directions h)) d) (left d h) (climbs p h l.1 d)
 climbs p (Refused w ∷ h) l d = climbs p h l.1 d
 
 -- ## one at most where a new one is put
@@ -88,29 +88,29 @@ goes-on e o true i b c p q r s u = inl refl
 goes-on e o false false b c p q r s u = inr refl
 goes-on e o false true b c p q r s u = absurd (let w : ((not false && not false) && not false && true && true && true) ≡ false = rw (p, q, r, s) at u in let v : true ≡ false = w in cc)
 
-busy-there : (h : List Act) (d : Way) (x : Association) (g : ℕ) (o : Order) → is_own d (left d h) o ≡ true → Has o (queue g h) → (g ≡ d.sender) ⊎ (g ≡ d.receiver) → busy d h ≡ false → ⊥
+busy-there : (h : List ControllerAct) (d : Way) (x : Association) (g : ℕ) (o : ControllerOrder) → is_own d (left d h) o ≡ true → Has o (queue g h) → (g ≡ d.sender) ⊎ (g ≡ d.receiver) → is_busy d h ≡ false → ⊥
 busy-there h d x g o y i (inl e) f = any-yes (is_own d (left d h)) (queue d.sender h) o (subst (λ z. Has o (queue z h)) e i) y (neither (list_any (is_own d (left d h)) (queue d.sender h)) (list_any (is_own d (left d h)) (queue d.receiver h)) f).0
 busy-there h d x g o y i (inr e) f = any-yes (is_own d (left d h)) (queue d.receiver h) o (subst (λ z. Has o (queue z h)) e i) y (neither (list_any (is_own d (left d h)) (queue d.sender h)) (list_any (is_own d (left d h)) (queue d.receiver h)) f).1
 
 -- where a new one is put, each that is left is not ended and was put whole
-settled : (p : ℕ) (h : List Act) → IsPast p h → Waits h → (g : ℕ) (z : Association) → MayInPut h g z → (x : Association) → Has x (left z.way h) → (ended x h ≡ false) × (heard PuttingOut x.serial h ≡ true)
+settled : (p : ℕ) (h : List ControllerAct) → IsControllerPast p h → Waits h → (g : ℕ) (z : Association) → MayOrderInPut h g z → (x : Association) → Has x (left z.way h) → (is_ended x h ≡ false) × (has_answer PuttingOut x.serial h ≡ true)
 settled p h l k g z m x i =
-    let r = ready-both (owed z.way h) (ready z.way.sender h) (ready z.way.receiver h) m.may in
-    let e = not-over (ended x h) (sends x.serial h) (heard RemovingOut x.serial h) (ready z.way.sender h) (ready z.way.receiver h) r.0 r.1 (m.no_out_remove x i) (m.no_in_remove x i) in
-    (e, answered (heard PuttingOut x.serial h) refl r e)
+    let r = ready-both (is_owed z.way h) (is_read z.way.sender h) (is_read z.way.receiver h) m.may in
+    let e = not-over (is_ended x h) (is_out_ordered x.serial h) (has_answer RemovingOut x.serial h) (is_read z.way.sender h) (is_read z.way.receiver h) r.0 r.1 (m.no_out_remove x i) (m.no_in_remove x i) in
+    (e, answered (has_answer PuttingOut x.serial h) refl r e)
   where
     own : z.way ≡ x.way
     own = own-way p h l z.way x m.of i
 
-    waits-in : ended x h ≡ false → heard PuttingIn x.serial h ≡ false → ⊥
+    waits-in : is_ended x h ≡ false → has_answer PuttingIn x.serial h ≡ false → ⊥
     waits-in e v = busy-there h z.way x x.way.receiver (PutIn x) (of-way h z.way x i) (k.inbound z.way x i e v) (inr (ap (λ (d : Way). d.receiver) (sym own))) m.free
 
-    waits-out : ended x h ≡ false → sends x.serial h ≡ true → heard PuttingOut x.serial h ≡ false → ⊥
+    waits-out : is_ended x h ≡ false → is_out_ordered x.serial h ≡ true → has_answer PuttingOut x.serial h ≡ false → ⊥
     waits-out e t v = busy-there h z.way x x.way.sender (PutOut x) (of-way h z.way x i) (k.outbound z.way x i e t v) (inl (ap (λ (d : Way). d.sender) (sym own))) m.free
 
-    answered : (b : Bool) → heard PuttingOut x.serial h ≡ b → (ready z.way.sender h ≡ true) × (ready z.way.receiver h ≡ true) → ended x h ≡ false → b ≡ true
+    answered : (b : Bool) → has_answer PuttingOut x.serial h ≡ b → (is_read z.way.sender h ≡ true) × (is_read z.way.receiver h ≡ true) → is_ended x h ≡ false → b ≡ true
     answered true v r e = refl
-    answered false v r e = absurd (elim (goes-on (ended x h) (heard PuttingOut x.serial h) (sends x.serial h) (heard PuttingIn x.serial h) (ready z.way.sender h) (ready z.way.receiver h) e r.0 r.1 v (m.no_out_put x i)) as (λ q. ⊥) [
+    answered false v r e = absurd (elim (goes-on (is_ended x h) (has_answer PuttingOut x.serial h) (is_out_ordered x.serial h) (has_answer PuttingIn x.serial h) (is_read z.way.sender h) (is_read z.way.receiver h) e r.0 r.1 v (m.no_out_put x i)) as (λ q. ⊥) [
       | inl t ↦ waits-out e t v
       | inr t ↦ waits-in e t
     ])
@@ -120,7 +120,7 @@ single [] c f = omega arith
 single (x ∷ []) c f = omega arith
 single (x ∷ y ∷ xs) c f = absurd (f x y (inl refl) (inr (inl refl)) (c.0 y (inl refl)))
 
-one-left : (p : ℕ) (h : List Act) → IsPast p h → Waits h → (g : ℕ) (z : Association) → MayInPut h g z → length (left z.way h) ≤ 1
+one-left : (p : ℕ) (h : List ControllerAct) → IsControllerPast p h → Waits h → (g : ℕ) (z : Association) → MayOrderInPut h g z → length (left z.way h) ≤ 1
 one-left p h l k g z m = single (left z.way h) (climbs p h l z.way) (λ x y i j e.
     let a = settled p h l k g z m x i in
     let b = settled p h l k g z m y j in
@@ -139,24 +139,24 @@ filter-length q (x ∷ xs) = kept (q x) (filter-length q xs)
     kept false e = grind arith
 
 -- what is left hangs on the id alone
-left-by-id : (h : List Act) (d e : Way) → d.id ≡ e.id → left d h ≡ left e h
+left-by-id : (h : List ControllerAct) (d e : Way) → d.id ≡ e.id → left d h ≡ left e h
 left-by-id [] d e q = refl
 left-by-id (Opened g s ∷ h) d e q = left-by-id h d e q
 left-by-id (Cut g s ∷ h) d e q = left-by-id h d e q
-left-by-id (Answered g s n a ∷ h) d e q = ap (filter (λ x. not (answers_to RemovingIn x.serial (oldest (queue g h))))) (left-by-id h d e q)
+left-by-id (Answered g s n a ∷ h) d e q = ap (filter (λ x. not (is_answer_to RemovingIn x.serial (oldest (queue g h))))) (left-by-id h d e q)
 left-by-id (Heard g s t ∷ h) d e q = left-by-id h d e q
-left-by-id (Ordered g s n o ∷ h) d e q = ap (λ t. t ++ put_in d o) (left-by-id h d e q) ∙ ap (λ t. left e h ++ t) (same-put o)
+left-by-id (Ordered g s n o ∷ h) d e q = ap (λ t. t ++ inbound_put d o) (left-by-id h d e q) ∙ ap (λ t. left e h ++ t) (same-put o)
   where
-    same-put : (o : Order) → put_in d o ≡ put_in e o
+    same-put : (o : ControllerOrder) → inbound_put d o ≡ inbound_put e o
     same-put Read = refl
     same-put (Policy l) = refl
     same-put (PutIn x) = ap (λ n. if n == x.way.id then x ∷ [] else []) q
     same-put (PutOut x) = refl
     same-put (RemoveIn n) = refl
     same-put (RemoveOut n) = refl
-left-by-id (Accepted c ∷ h) d e q = ap (λ t. if made_by c (length (directions h)) d then [] else t) (left-by-id h d e q) ∙ ap (λ b. if b then [] else left e h) (same-made c)
+left-by-id (Accepted c ∷ h) d e q = ap (λ t. if is_made_by c (length (directions h)) d then [] else t) (left-by-id h d e q) ∙ ap (λ b. if b then [] else left e h) (same-made c)
   where
-    same-made : (c : Placed) → made_by c (length (directions h)) d ≡ made_by c (length (directions h)) e
+    same-made : (c : PlacedCommand) → is_made_by c (length (directions h)) d ≡ is_made_by c (length (directions h)) e
     same-made (SetPolicy g l) = refl
     same-made (Tunnel t) = ap (λ n. nat_le (length (directions h)) n) q
     same-made (End r) = refl
@@ -168,7 +168,7 @@ none-if : (b : Bool) (xs : List Association) → length xs ≤ 2 → length (if 
 none-if true xs e = omega arith
 none-if false xs e = e
 
-few-ordered : (p : ℕ) (h : List Act) → IsPast p h → Waits h → (g : ℕ) (o : Order) → MayOrder h g o → (d : Way) → length (left d h) ≤ 2 → length (left d h ++ put_in d o) ≤ 2
+few-ordered : (p : ℕ) (h : List ControllerAct) → IsControllerPast p h → Waits h → (g : ℕ) (o : ControllerOrder) → MayOrder h g o → (d : Way) → length (left d h) ≤ 2 → length (left d h ++ inbound_put d o) ≤ 2
 few-ordered p h l k g Read m d e = rw (append-nil (left d h)) e
 few-ordered p h l k g (Policy q) m d e = rw (append-nil (left d h)) e
 few-ordered p h l k g (PutIn x) m d e = by-way (d.id == x.way.id) refl
@@ -185,17 +185,17 @@ few-ordered p h l k g (PutOut x) m d e = rw (append-nil (left d h)) e
 few-ordered p h l k g (RemoveIn n) m d e = rw (append-nil (left d h)) e
 few-ordered p h l k g (RemoveOut n) m d e = rw (append-nil (left d h)) e
 
-pub few-left : (p : ℕ) (h : List Act) → IsPast p h → PlainAnswers h → (d : Way) → length (left d h) ≤ 2
+pub few-left : (p : ℕ) (h : List ControllerAct) → IsControllerPast p h → PlainAnswers h → (d : Way) → length (left d h) ≤ 2
 few-left p [] l a d = omega arith
 few-left p (Opened g s ∷ h) l a d = few-left p h l.1 a d
 few-left p (Cut g s ∷ h) l a d = few-left p h l.1 a d
 few-left p (Answered g s n z ∷ h) l a d =
     let e = few-left p h l.1 a.1 d in
-    let f = filter-length (λ x. not (answers_to RemovingIn x.serial (oldest (queue g h)))) (left d h) in
+    let f = filter-length (λ x. not (is_answer_to RemovingIn x.serial (oldest (queue g h)))) (left d h) in
     omega arith
 few-left p (Heard g s t ∷ h) l a d = few-left p h l.1 a d
 few-left p (Ordered g s n o ∷ h) l a d = few-ordered p h l.1 (waits p h l.1 a) g o l.0.3 d (few-left p h l.1 a d)
-few-left p (Accepted c ∷ h) l a d = none-if (made_by c (length (directions h)) d) (left d h) (few-left p h l.1 a d)
+few-left p (Accepted c ∷ h) l a d = none-if (is_made_by c (length (directions h)) d) (left d h) (few-left p h l.1 a d)
 few-left p (Refused w ∷ h) l a d = few-left p h l.1 a d
 
 -- ## tunnels
@@ -210,21 +210,21 @@ pairs-more [] ys a b = b
 pairs-more (d ∷ []) ys a b = absurd a
 pairs-more (d ∷ e ∷ ds) ys a b = pairs-more ds ys a b
 
-pairs-born : (n : ℕ) (c : Placed) → Pairs (born n c)
+pairs-born : (n : ℕ) (c : PlacedCommand) → Pairs (new_ways n c)
 pairs-born n (SetPolicy g l) = tt
 pairs-born n (Tunnel t) = tt
 pairs-born n (End r) = tt
 pairs-born n (Rekey r) = tt
 pairs-born n (Keys k) = tt
 
-pairs : (h : List Act) → Pairs (directions h)
+pairs : (h : List ControllerAct) → Pairs (directions h)
 pairs [] = tt
 pairs (Opened g s ∷ h) = pairs h
 pairs (Cut g s ∷ h) = pairs h
 pairs (Answered g s n a ∷ h) = pairs h
 pairs (Heard g s t ∷ h) = pairs h
 pairs (Ordered g s n o ∷ h) = pairs h
-pairs (Accepted c ∷ h) = pairs-more (directions h) (born (length (directions h)) c) (pairs h) (pairs-born (length (directions h)) c)
+pairs (Accepted c ∷ h) = pairs-more (directions h) (new_ways (length (directions h)) c) (pairs h) (pairs-born (length (directions h)) c)
 pairs (Refused w ∷ h) = pairs h
 
 less-step : (a b c d : Bool) (n m : ℕ) → n ≤ m → (a ≡ true → c ≡ true) → (b ≡ true → d ≡ true) → (if a || b then n + 1 else n) ≤ (if c || d then m + 1 else m)
@@ -237,19 +237,19 @@ less-step false false c d n m e f g = at-least (c || d)
     at-least true = omega arith
     at-least false = e
 
-tunnels-less : (k h : List Act) (ds : List Way) → ((d : Way) → Has d ds → counts k d ≡ true → counts h d ≡ true) → tunnels k ds ≤ tunnels h ds
+tunnels-less : (k h : List ControllerAct) (ds : List Way) → ((d : Way) → Has d ds → is_counted k d ≡ true → is_counted h d ≡ true) → tunnels k ds ≤ tunnels h ds
 tunnels-less k h [] f = omega arith
 tunnels-less k h (d ∷ []) f = omega arith
-tunnels-less k h (d ∷ e ∷ ds) f = less-step (counts k d) (counts k e) (counts h d) (counts h e) (tunnels k ds) (tunnels h ds) (tunnels-less k h ds (λ c i. f c (inr (inr i)))) (f d (inl refl)) (f e (inr (inl refl)))
+tunnels-less k h (d ∷ e ∷ ds) f = less-step (is_counted k d) (is_counted k e) (is_counted h d) (is_counted h e) (tunnels k ds) (tunnels h ds) (tunnels-less k h ds (λ c i. f c (inr (inr i)))) (f d (inl refl)) (f e (inr (inl refl)))
 
 add-if : (b : Bool) (n m k : ℕ) → n ≡ m + k → (if b then n + 1 else n) ≡ (if b then m + 1 else m) + k
 add-if true n m k e = omega arith
 add-if false n m k e = e
 
-tunnels-both : (h : List Act) (xs ys : List Way) → Pairs xs → tunnels h (xs ++ ys) ≡ tunnels h xs + tunnels h ys
+tunnels-both : (h : List ControllerAct) (xs ys : List Way) → Pairs xs → tunnels h (xs ++ ys) ≡ tunnels h xs + tunnels h ys
 tunnels-both h [] ys a = omega arith
 tunnels-both h (d ∷ []) ys a = absurd a
-tunnels-both h (d ∷ e ∷ ds) ys a = add-if (counts h d || counts h e) (tunnels h (ds ++ ys)) (tunnels h ds) (tunnels h ys) (tunnels-both h ds ys a)
+tunnels-both h (d ∷ e ∷ ds) ys a = add-if (is_counted h d || is_counted h e) (tunnels h (ds ++ ys)) (tunnels h ds) (tunnels h ys) (tunnels-both h ds ys a)
 
 one-more : (b : Bool) → (if b then 0 + 1 else 0) ≤ 1
 one-more true = omega arith
@@ -271,15 +271,15 @@ first-and : (a b c : Bool) → (a && b && c) ≡ true → a ≡ true
 first-and true b c e = refl
 first-and false b c e = cc
 
-counts-put : (h : List Act) (g : ℕ) (x : Association) (d : Way) → Has d (directions h) → MayInPut h g x → (b : Bool) → (d.id == x.way.id) ≡ b → (not (over d h) || not (is_none (left d h ++ (if b then x ∷ [] else [])))) ≡ true → counts h d ≡ true
+counts-put : (h : List ControllerAct) (g : ℕ) (x : Association) (d : Way) → Has d (directions h) → MayOrderInPut h g x → (b : Bool) → (d.id == x.way.id) ≡ b → (not (is_over d h) || not (is_none (left d h ++ (if b then x ∷ [] else [])))) ≡ true → is_counted h d ≡ true
 counts-put h g x d i m true t e =
     let w : d ≡ x.way = one-way h d x.way i m.of (grind arith) in
-    let q = not-wanted (wanted x.way h) (over x.way h) (first-and (owed x.way h) (ready x.way.sender h) (ready x.way.receiver h) m.may) in
-    let r : not (over d h) ≡ true = ap (λ z. not (over z h)) w ∙ q in
+    let q = not-wanted (is_wanted x.way h) (is_over x.way h) (first-and (is_owed x.way h) (is_read x.way.sender h) (is_read x.way.receiver h) m.may) in
+    let r : not (is_over d h) ≡ true = ap (λ z. not (is_over z h)) w ∙ q in
     rw r refl
 counts-put h g x d i m false t e = rw (append-nil (left d h)) at e
 
-counts-order : (h : List Act) (g s n : ℕ) (o : Order) (d : Way) → Has d (directions h) → MayOrder h g o → counts (Ordered g s n o ∷ h) d ≡ true → counts h d ≡ true
+counts-order : (h : List ControllerAct) (g s n : ℕ) (o : ControllerOrder) (d : Way) → Has d (directions h) → MayOrder h g o → is_counted (Ordered g s n o ∷ h) d ≡ true → is_counted h d ≡ true
 counts-order h g s n Read d i m e = rw (append-nil (left d h)) at e
 counts-order h g s n (Policy l) d i m e = rw (append-nil (left d h)) at e
 counts-order h g s n (PutIn x) d i m e = counts-put h g x d i m (d.id == x.way.id) refl e
@@ -292,28 +292,28 @@ counts-old true true c e = e
 counts-old true false c e = refl
 counts-old false b c e = e
 
-counts-accepted : (h : List Act) (c : Placed) (d : Way) → Has d (directions h) → counts (Accepted c ∷ h) d ≡ true → counts h d ≡ true
+counts-accepted : (h : List ControllerAct) (c : PlacedCommand) (d : Way) → Has d (directions h) → is_counted (Accepted c ∷ h) d ≡ true → is_counted h d ≡ true
 counts-accepted h c d i e =
     let u = upto 0 (directions h) d (rising h) i in
     let q = made-no c (length (directions h)) d (omega arith) in
-    counts-old (ends d.tunnel.reqid c) (over d h) (not (is_none (left d h))) (rw q at e)
+    counts-old (is_end_of d.tunnel.reqid c) (is_over d h) (not (is_none (left d h))) (rw q at e)
 
 limit-passes : (n m k : ℕ) → nat_le 1024 n ≡ false → m ≤ n → k ≤ 1 → m + k ≤ 1024
 limit-passes n m k e f g = let q : n + 1 ≤ 1024 = grind (arith, common_steps) in omega arith
 
-none-new : (h : List Act) (c : Placed) (ds : List Way) → ((d : Way) → Has d ds → Has d (directions h)) → tunnels h ds ≤ 1024 → tunnels (Accepted c ∷ h) (ds ++ []) ≤ 1024
+none-new : (h : List ControllerAct) (c : PlacedCommand) (ds : List Way) → ((d : Way) → Has d ds → Has d (directions h)) → tunnels h ds ≤ 1024 → tunnels (Accepted c ∷ h) (ds ++ []) ≤ 1024
 none-new h c ds f e =
     let q = tunnels-less (Accepted c ∷ h) h ds (λ d i. counts-accepted h c d (f d i)) in
     rw (append-nil ds) (omega arith)
 
 -- no more tunnels count than the limit says
-pub few-tunnels : (p : ℕ) (h : List Act) → IsPast p h → tunnels h (directions h) ≤ 1024
+pub few-tunnels : (p : ℕ) (h : List ControllerAct) → IsControllerPast p h → tunnels h (directions h) ≤ 1024
 few-tunnels p [] l = omega arith
 few-tunnels p (Opened g s ∷ h) l = let e = few-tunnels p h l.1 in let q = tunnels-less (Opened g s ∷ h) h (directions h) (λ d i v. v) in omega arith
 few-tunnels p (Cut g s ∷ h) l = let e = few-tunnels p h l.1 in let q = tunnels-less (Cut g s ∷ h) h (directions h) (λ d i v. v) in omega arith
 few-tunnels p (Answered g s n a ∷ h) l =
     let e = few-tunnels p h l.1 in
-    let q = tunnels-less (Answered g s n a ∷ h) h (directions h) (λ d i v. or-step (not (over d h)) _ (not (is_none (left d h))) (none-filter (λ x. not (answers_to RemovingIn x.serial (oldest (queue g h)))) (left d h)) v) in
+    let q = tunnels-less (Answered g s n a ∷ h) h (directions h) (λ d i v. or-step (not (is_over d h)) _ (not (is_none (left d h))) (none-filter (λ x. not (is_answer_to RemovingIn x.serial (oldest (queue g h)))) (left d h)) v) in
     omega arith
 few-tunnels p (Heard g s t ∷ h) l = let e = few-tunnels p h l.1 in let q = tunnels-less (Heard g s t ∷ h) h (directions h) (λ d i v. v) in omega arith
 few-tunnels p (Ordered g s n o ∷ h) l = let e = few-tunnels p h l.1 in let q = tunnels-less (Ordered g s n o ∷ h) h (directions h) (λ d i v. counts-order h g s n o d i l.0.3 v) in omega arith
@@ -321,8 +321,8 @@ few-tunnels p (Accepted (SetPolicy g w) ∷ h) l = none-new h (SetPolicy g w) (d
 few-tunnels p (Accepted (Tunnel t) ∷ h) l =
     let n = tunnel-passes (nat_lt t.first p) (nat_lt t.second p) (t.first == t.second) (has_tunnel t.spec.reqid h) (nat_le 1024 (tunnels h (directions h))) l.0 in
     let q = tunnels-less (Accepted (Tunnel t) ∷ h) h (directions h) (λ d i. counts-accepted h (Tunnel t) d i) in
-    let b = tunnels-both (Accepted (Tunnel t) ∷ h) (directions h) (two_of (length (directions h)) t) (pairs h) in
-    rw b (limit-passes (tunnels h (directions h)) (tunnels (Accepted (Tunnel t) ∷ h) (directions h)) (tunnels (Accepted (Tunnel t) ∷ h) (two_of (length (directions h)) t)) n.4 q (one-more _))
+    let b = tunnels-both (Accepted (Tunnel t) ∷ h) (directions h) (both_ways (length (directions h)) t) (pairs h) in
+    rw b (limit-passes (tunnels h (directions h)) (tunnels (Accepted (Tunnel t) ∷ h) (directions h)) (tunnels (Accepted (Tunnel t) ∷ h) (both_ways (length (directions h)) t)) n.4 q (one-more _))
 few-tunnels p (Accepted (End r) ∷ h) l = none-new h (End r) (directions h) (λ d i. i) (few-tunnels p h l.1)
 few-tunnels p (Accepted (Rekey r) ∷ h) l = none-new h (Rekey r) (directions h) (λ d i. i) (few-tunnels p h l.1)
 few-tunnels p (Accepted (Keys k) ∷ h) l = none-new h (Keys k) (directions h) (λ d i. i) (few-tunnels p h l.1)
@@ -330,14 +330,14 @@ few-tunnels p (Refused w ∷ h) l = let e = few-tunnels p h l.1 in let q = tunne
 
 -- ## halves
 
-none-left : (h : List Act) (d : Way) → counts h d ≡ false → length (left d h) ≡ 0
-none-left h d e = empty (left d h) (neither (not (over d h)) (not (is_none (left d h))) e).1
+none-left : (h : List ControllerAct) (d : Way) → is_counted h d ≡ false → length (left d h) ≡ 0
+none-left h d e = empty (left d h) (neither (not (is_over d h)) (not (is_none (left d h))) e).1
   where
     empty : (xs : List Association) → not (is_none xs) ≡ false → length xs ≡ 0
     empty [] e = refl
     empty (x ∷ xs) e = cc
 
-four-step : (h : List Act) (a b : Bool) (d e : Way) (n m : ℕ) → length (left d h) ≤ 2 → length (left e h) ≤ 2 → m ≤ 4 * n → (c k : Bool) → counts h d ≡ c → counts h e ≡ k → (if a then length (left d h) + (if b then length (left e h) + m else m) else if b then length (left e h) + m else m) ≤ 4 * (if c || k then n + 1 else n)
+four-step : (h : List ControllerAct) (a b : Bool) (d e : Way) (n m : ℕ) → length (left d h) ≤ 2 → length (left e h) ≤ 2 → m ≤ 4 * n → (c k : Bool) → is_counted h d ≡ c → is_counted h e ≡ k → (if a then length (left d h) + (if b then length (left e h) + m else m) else if b then length (left e h) + m else m) ≤ 4 * (if c || k then n + 1 else n)
 four-step h a b d e n m u v w true k t z = most a b
   where
     most : (a b : Bool) → (if a then length (left d h) + (if b then length (left e h) + m else m) else if b then length (left e h) + m else m) ≤ 4 * (n + 1)
@@ -360,13 +360,13 @@ four-step h a b d e n m u v w false false t z = least a b (none-left h d t) (non
     least false true q r = omega arith
     least false false q r = omega arith
 
-four-each : (p : ℕ) (h : List Act) → IsPast p h → PlainAnswers h → (g : ℕ) (ds : List Way) → Pairs ds → halves g h ds ≤ 4 * tunnels h ds
+four-each : (p : ℕ) (h : List ControllerAct) → IsControllerPast p h → PlainAnswers h → (g : ℕ) (ds : List Way) → Pairs ds → half_count g h ds ≤ 4 * tunnels h ds
 four-each p h l a g [] q = omega arith
 four-each p h l a g (d ∷ []) q = absurd q
-four-each p h l a g (d ∷ e ∷ ds) q = four-step h (touches g d) (touches g e) d e (tunnels h ds) (halves g h ds) (few-left p h l a d) (few-left p h l a e) (four-each p h l a g ds q) (counts h d) (counts h e) refl refl
+four-each p h l a g (d ∷ e ∷ ds) q = four-step h (is_at_gateway g d) (is_at_gateway g e) d e (tunnels h ds) (half_count g h ds) (few-left p h l a d) (few-left p h l a e) (four-each p h l a g ds q) (is_counted h d) (is_counted h e) refl refl
 
 -- a gateway never has more halves than its database holds
-pub few-halves : (p : ℕ) (h : List Act) → IsPast p h → PlainAnswers h → (g : ℕ) → halves g h (directions h) ≤ 4096
+pub few-halves : (p : ℕ) (h : List ControllerAct) → IsControllerPast p h → PlainAnswers h → (g : ℕ) → half_count g h (directions h) ≤ 4096
 few-halves p h l a g =
     let e = four-each p h l a g (directions h) (pairs h) in
     let q = few-tunnels p h l in

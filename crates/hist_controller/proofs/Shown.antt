@@ -19,8 +19,8 @@ use Rattle.ikeless_tree.specs.declared.order.Notice.TheVariants as notices
 use Rattle.ikeless_tree.specs.declared.order.Order.TheVariants as orders
 use Rattle.ikeless_tree.specs.declared.reply.Tag.TheVariants as tags
 use Rattle.hist_acts.specs.declared.act.Act.TheVariants as acts
-use Rattle.hist_controller.specs.Acts.{Way, Association, in_name, out_name, Read, Policy, PutIn, PutOut, RemoveIn, RemoveOut, PlacedTunnel, SetPolicy, Tunnel, End, Rekey, Keys, Act, Opened, Cut, Answered, Heard, Ordered, Accepted, Refused, Event, Told, Opens, Cuts, Answers, Notices}
-use Rattle.hist_controller.specs.Past.{after}
+use Rattle.hist_controller.specs.Acts.{Way, Association, in_name, out_name, Read, Policy, PutIn, PutOut, RemoveIn, RemoveOut, PlacedTunnel, SetPolicy, Tunnel, End, Rekey, Keys, ControllerAct, Opened, Cut, Answered, Heard, Ordered, Accepted, Refused, ControllerEvent, Told, Opens, Cuts, Answers, Notices}
+use Rattle.hist_acts.specs.Past.{after}
 use Rattle.hist_controller.specs.Law.{history}
 use Rattle.hist_controller.specs.Told.{between, all_told}
 
@@ -87,18 +87,18 @@ denied = record { status = 409; tag = Some tags.ResourceDenied; names = [] }
 abbrev flow : Selector
 flow = between behind_a behind_b
 
-abbrev policy_a : Event
+abbrev policy_a : ControllerEvent
 policy_a = Told (commands.Policy (codes "a") list_a)
 
-abbrev policy_b : Event
+abbrev policy_b : ControllerEvent
 policy_b = Told (commands.Policy (codes "b") list_b)
 
 -- a policy of each of two gateways, two keys, a tunnel, two sessions
-start : List Event
+start : List ControllerEvent
 start = policy_a ∷ policy_b ∷ Told (commands.Keys k1) ∷ Told (commands.Keys k2) ∷ Told (commands.Tunnel t) ∷ Opens 0 ∷ Opens 1 ∷ []
 
 -- and the answers to the readings, the lists and the inbound puts
-setup : List Event
+setup : List ControllerEvent
 unfolding start
 setup = start ++ Answers 0 (reading []) ∷ Answers 0 (plain 204) ∷ Answers 1 (reading []) ∷ Answers 1 (plain 204) ∷ Answers 1 (plain 201) ∷ Answers 0 (plain 201) ∷ []
 
@@ -111,7 +111,7 @@ ba = record { id = 1; tunnel = t; sender = 1; receiver = 0; near = behind_b; far
 abbrev half : ℕ → List ℕ → Way → Association
 half n k d = record { serial = n; key = k; way = d }
 
-begun : List Act
+begun : List ControllerAct
 begun =
     Accepted (SetPolicy 0 list_a) ∷ Accepted (SetPolicy 1 list_b) ∷ Accepted (Keys k1) ∷ Accepted (Keys k2) ∷ Accepted (Tunnel (at t))
     ∷ Opened 0 1 ∷ Ordered 0 1 1 Read ∷ Ordered 0 1 2 (Policy list_a)
@@ -127,7 +127,7 @@ shown-setup : history peers [] setup ≡ begun
 unfolding start setup begun in_name out_name k1 k2 k3 k4 digits
 shown-setup = refl
 
-rekeyed : List Event
+rekeyed : List ControllerEvent
 rekeyed = Answers 0 (plain 201) ∷ Answers 1 (plain 201) ∷ Told (commands.Keys k3) ∷ Notices 1 (notices.Expire (codes "in/1") true spent) ∷ Answers 1 (plain 201) ∷ Answers 0 (plain 201) ∷ Answers 0 (plain 204) ∷ Answers 1 (plain 204) ∷ []
 
 shown-rekey : history peers (after [] begun) rekeyed ≡
@@ -140,7 +140,7 @@ shown-rekey : history peers (after [] begun) rekeyed ≡
 unfolding begun rekeyed in_name out_name k1 k2 k3 k4 digits
 shown-rekey = refl
 
-cut : List Event
+cut : List ControllerEvent
 cut =
     Told (commands.Keys k3) ∷ Cuts 0 ∷ Opens 0 ∷ Answers 0 (reading (codes "in/2" ∷ codes "out/1" ∷ []))
     ∷ Answers 0 (plain 204) ∷ Answers 0 (plain 204) ∷ Answers 1 (plain 201) ∷ Answers 1 (plain 204) ∷ []
@@ -158,12 +158,12 @@ unfolding begun cut in_name out_name k1 k2 k3 k4 digits
 shown-cut = refl
 
 -- both directions stand
-up : List Act
+up : List ControllerAct
 unfolding begun
 up = begun ++ Answered 0 1 4 (plain 201) ∷ Answered 1 1 4 (plain 201) ∷ []
 
 -- a gateway that lost its halves: the reading is a cause of both directions, and the earlier one gets the key
-rebooted : List Event
+rebooted : List ControllerEvent
 rebooted = Told (commands.Keys k3) ∷ Cuts 1 ∷ Opens 1 ∷ Answers 1 (reading []) ∷ Notices 1 (notices.BadSpi 257) ∷ Notices 1 (notices.BadSpi 257) ∷ Answers 1 (plain 204) ∷ Answers 1 (plain 201) ∷ Told (commands.Keys k4) ∷ []
 
 shown-reboot : history peers (after [] up) rebooted ≡
@@ -180,7 +180,7 @@ unfolding begun up rebooted in_name out_name k1 k2 k3 k4 digits
 shown-reboot = refl
 
 -- the put of out/1 is lost before it was handled, and the reading shows in/2 alone: the removal is ordered all the same
-lost : List Event
+lost : List ControllerEvent
 lost = Told (commands.Keys k3) ∷ Cuts 0 ∷ Opens 0 ∷ Answers 0 (reading (codes "in/2" ∷ [])) ∷ Answers 0 (plain 204) ∷ Answers 0 (absent) ∷ []
 
 shown-lost : history peers (after [] begun) lost ≡
@@ -203,7 +203,7 @@ asked_ab = record { id = 0; tunnel = asked_for; sender = 0; receiver = 1; near =
 abbrev asked_ba : Way
 asked_ba = record { id = 1; tunnel = asked_for; sender = 1; receiver = 0; near = behind_b; far = behind_a }
 
-acquired : List Event
+acquired : List ControllerEvent
 unfolding asked_for
 acquired =
     policy_a ∷ Told (commands.Keys k1) ∷ Opens 0 ∷ Opens 1 ∷ Answers 0 (reading []) ∷ Answers 0 (plain 204) ∷ Answers 1 (reading [])
@@ -222,7 +222,7 @@ unfolding acquired asked_for in_name out_name k1 k2 k3 k4 digits
 shown-acquire = refl
 
 -- refusals, in their order
-refused : List Event
+refused : List ControllerEvent
 refused =
     Told (commands.Keys k1) ∷ Told (commands.Keys k1) ∷ Told (commands.Keys (k1 ++ k1 ++ take 16 k1)) ∷ Told (commands.Rekey 9) ∷ Told (commands.Tunnel (spec true (codes "a") (codes "a")))
     ∷ Told (commands.Tunnel (spec true (codes "a") (codes "c"))) ∷ Told (commands.Tunnel t) ∷ Told (commands.Tunnel t) ∷ Told (commands.Policy (codes "c") []) ∷ Told (commands.End 10) ∷ Told (commands.Rekey 10) ∷ Told (commands.Tunnel t)
@@ -236,7 +236,7 @@ unfolding refused in_name out_name k1 k2 k3 k4 digits
 shown-refused = refl
 
 -- an acquire while an association is in progress is no cause, a rekey is one for both directions
-renewed : List Event
+renewed : List ControllerEvent
 unfolding asked_for
 renewed =
     policy_a ∷ Told (commands.Keys k1) ∷ Told (commands.Keys k2) ∷ Told (commands.Keys k3) ∷ Told (commands.Tunnel asked_for) ∷ Opens 0 ∷ Opens 1 ∷ Answers 0 (reading []) ∷ Answers 0 (plain 204) ∷ Answers 1 (reading [])
@@ -256,7 +256,7 @@ unfolding renewed asked_for in_name out_name k1 k2 k3 k4 digits
 shown-renew = refl
 
 -- a reading that doesn't show in/1 in time abandons it and is a cause: it is removed, and a new one is put; a refused put abandons too and is no cause
-abandoned : List Event
+abandoned : List ControllerEvent
 unfolding asked_for
 abandoned =
     policy_a ∷ Told (commands.Keys k1) ∷ Told (commands.Keys k2) ∷ Told (commands.Tunnel asked_for) ∷ Opens 0 ∷ Opens 1 ∷ Answers 0 (reading []) ∷ Answers 0 (plain 204) ∷ Answers 1 (reading [])
@@ -281,7 +281,7 @@ unfolding abandoned asked_for in_name out_name k1 k2 k3 k4 digits
 shown-abandon = refl
 
 -- a reading that doesn't show an association that was replaced is no cause
-replaced : List Event
+replaced : List ControllerEvent
 replaced =
     Told (commands.Keys k3) ∷ Told (commands.Keys k4) ∷ Notices 1 (notices.Expire (codes "in/1") true spent) ∷ Answers 1 (plain 201) ∷ Answers 0 (plain 201)
     ∷ Notices 1 (notices.BadSpi 257) ∷ Answers 1 (reading (codes "out/2" ∷ codes "in/3" ∷ [])) ∷ Answers 0 (plain 204) ∷ Answers 1 (plain 204) ∷ []
@@ -299,7 +299,7 @@ unfolding begun up replaced in_name out_name k1 k2 k3 k4 digits
 shown-replaced = refl
 
 -- a second expiry, of the other direction, finds no key left; the next key is put there
-without_key : List Event
+without_key : List ControllerEvent
 without_key = Answers 0 (plain 201) ∷ Answers 1 (plain 201) ∷ Told (commands.Keys k3) ∷ Notices 1 (notices.Expire (codes "in/1") true spent) ∷ Notices 1 (notices.Expire (codes "out/2") true spent) ∷ Told (commands.Keys k4) ∷ []
 
 shown-without-key : history peers (after [] begun) without_key ≡
@@ -312,7 +312,7 @@ unfolding begun without_key in_name out_name k1 k2 k3 k4 digits
 shown-without-key = refl
 
 -- the put of in/1 is lost, and out/1 was never ordered: in/1 is removed at once, whether it is there or not
-never_ordered : List Event
+never_ordered : List ControllerEvent
 unfolding start
 never_ordered =
     start ++ Answers 0 (reading []) ∷ Answers 0 (plain 204) ∷ Answers 1 (reading []) ∷ Answers 1 (plain 204)
@@ -335,7 +335,7 @@ shown-never-ordered = refl
 
 -- an expiry from the wrong gateway is no cause, an overflow from the sender is one, and an expiry of the association before
 -- the one put last is none
-outrun : List Event
+outrun : List ControllerEvent
 outrun =
     Told (commands.Keys k3) ∷ Told (commands.Keys k4) ∷ Notices 0 (notices.Expire (codes "in/1") true spent) ∷ Notices 0 (notices.SeqOverflow (codes "out/1"))
     ∷ Notices 1 (notices.Expire (codes "in/1") false spent) ∷ Answers 1 (plain 201) ∷ Answers 0 (plain 201) ∷ Answers 0 (plain 204) ∷ Answers 1 (plain 204) ∷ []
@@ -356,7 +356,7 @@ other_list = record { name = codes "o1"; direction = directions.Out; reqid = 11;
 
 -- an acquire of an entry with another reqid is no cause, an expiry of an ended association is none, and an acquire while an
 -- ended one waits for its removal is one
-renewed_late : List Event
+renewed_late : List ControllerEvent
 unfolding asked_for
 renewed_late =
     Told (commands.Policy (codes "a") other_list) ∷ Told (commands.Keys k1) ∷ Told (commands.Keys k2) ∷ Told (commands.Keys k3) ∷ Told (commands.Tunnel asked_for) ∷ Opens 0 ∷ Opens 1 ∷ Answers 0 (reading []) ∷ Answers 0 (plain 204) ∷ Answers 1 (reading [])
@@ -383,7 +383,7 @@ unfolding renewed_late asked_for in_name out_name k1 k2 k3 k4 digits
 shown-renew-late = refl
 
 -- the outbound put waits until both sessions are open and read
-waited : List Event
+waited : List ControllerEvent
 unfolding asked_for
 waited =
     policy_a ∷ Told (commands.Keys k1) ∷ Told (commands.Tunnel asked_for) ∷ Opens 0 ∷ Opens 1 ∷ Answers 0 (reading []) ∷ Answers 0 (plain 204) ∷ Answers 1 (reading [])
@@ -403,7 +403,7 @@ unfolding waited asked_for in_name out_name k1 k2 k3 k4 digits
 shown-wait = refl
 
 -- a refused outbound put ends its association, whose halves are removed; its key was seen for good
-refused_put : List Event
+refused_put : List ControllerEvent
 refused_put = Answers 0 denied ∷ Answers 0 absent ∷ Answers 1 (plain 201) ∷ Answers 1 (plain 204) ∷ Told (commands.Keys k1) ∷ []
 
 shown-refused-put : history peers (after [] begun) refused_put ≡
@@ -422,7 +422,7 @@ abbrev again_ba : Way
 again_ba = record { id = 3; tunnel = t; sender = 1; receiver = 0; near = behind_b; far = behind_a }
 
 -- no key is put for an ended tunnel, and a later one with its reqid has causes of its own
-ended_early : List Event
+ended_early : List ControllerEvent
 ended_early =
     Told (commands.Tunnel t) ∷ Opens 0 ∷ Opens 1 ∷ Answers 0 (reading []) ∷ Answers 1 (reading []) ∷ Told (commands.End 10)
     ∷ Told (commands.Keys k1) ∷ Told (commands.Tunnel t) ∷ Told (commands.Keys k2) ∷ Told (commands.Keys k3) ∷ []

@@ -32,13 +32,13 @@ unfoldable pub out_name : ℕ → List ℕ
 out_name n = codes "out/" ++ decimal n
 
 -- an order at a gateway; a half is put whole and removed by its serial
-pub data Order : Type 0 where
-  Read : Order
-  Policy : (l : List SpdEntry) → Order
-  PutIn : (x : Association) → Order
-  PutOut : (x : Association) → Order
-  RemoveIn : (n : ℕ) → Order
-  RemoveOut : (n : ℕ) → Order
+pub data ControllerOrder : Type 0 where
+  Read : ControllerOrder
+  Policy : (l : List SpdEntry) → ControllerOrder
+  PutIn : (x : Association) → ControllerOrder
+  PutOut : (x : Association) → ControllerOrder
+  RemoveIn : (n : ℕ) → ControllerOrder
+  RemoveOut : (n : ℕ) → ControllerOrder
 
 -- a tunnel that is commanded, with its gateways by their numbers
 pub record PlacedTunnel : Type 0 where
@@ -47,26 +47,26 @@ pub record PlacedTunnel : Type 0 where
   pub second : ℕ
 
 -- a command with its gateways by their numbers
-pub data Placed : Type 0 where
-  SetPolicy : (g : ℕ) (l : List SpdEntry) → Placed
-  Tunnel : (t : PlacedTunnel) → Placed
-  End : (r : ℕ) → Placed
-  Rekey : (r : ℕ) → Placed
-  Keys : (k : List ℕ) → Placed
+pub data PlacedCommand : Type 0 where
+  SetPolicy : (g : ℕ) (l : List SpdEntry) → PlacedCommand
+  Tunnel : (t : PlacedTunnel) → PlacedCommand
+  End : (r : ℕ) → PlacedCommand
+  Rekey : (r : ℕ) → PlacedCommand
+  Keys : (k : List ℕ) → PlacedCommand
 
 -- g a gateway, s a session of it, n the number of an order in the session
-pub data Act : Type 0 where
-  Opened : (g s : ℕ) → Act
-  Cut : (g s : ℕ) → Act
-  Answered : (g s n : ℕ) (a : Answer) → Act
-  Heard : (g s : ℕ) (t : Notice) → Act
-  Ordered : (g s n : ℕ) (o : Order) → Act
-  Accepted : (c : Placed) → Act
-  Refused : (w : Refusal) → Act
+pub data ControllerAct : Type 0 where
+  Opened : (g s : ℕ) → ControllerAct
+  Cut : (g s : ℕ) → ControllerAct
+  Answered : (g s n : ℕ) (a : Answer) → ControllerAct
+  Heard : (g s : ℕ) (t : Notice) → ControllerAct
+  Ordered : (g s n : ℕ) (o : ControllerOrder) → ControllerAct
+  Accepted : (c : PlacedCommand) → ControllerAct
+  Refused : (w : Refusal) → ControllerAct
 
-pub data Event : Type 0 where
-  Told : (c : Command) → Event
-  Opens : (g : ℕ) → Event
-  Cuts : (g : ℕ) → Event
-  Answers : (g : ℕ) (a : Answer) → Event
-  Notices : (g : ℕ) (t : Notice) → Event
+pub data ControllerEvent : Type 0 where
+  Told : (c : Command) → ControllerEvent
+  Opens : (g : ℕ) → ControllerEvent
+  Cuts : (g : ℕ) → ControllerEvent
+  Answers : (g : ℕ) (a : Answer) → ControllerEvent
+  Notices : (g : ℕ) (t : Notice) → ControllerEvent

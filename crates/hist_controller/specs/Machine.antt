@@ -9,111 +9,111 @@ use Rattle.ikeless_tree.specs.declared.order.Answer.{Answer}
 use Rattle.ikeless_tree.specs.declared.order.Notice.{Notice}
 use Rattle.ikeless_tree.specs.declared.order.Notice.TheVariants as notices
 use Rattle.ikeless_tree.specs.declared.command.Refusal.TheVariants as refusals
-use Rattle.hist_controller.specs.Acts.{Way, Order, Read, Policy, PutIn, PutOut, RemoveIn, RemoveOut, Placed, SetPolicy, Tunnel, End, Rekey, Keys, Act, Opened, Cut, Answered, Heard, Ordered, Accepted, Refused, Event, Told, Opens, Cuts, Answers, Notices}
-use Rattle.hist_controller.specs.Law.{is_reading, placed, is_seen}
-use Rattle.hist_controller.specs.State.{KeptGateway, KeptAssociation, KeptWay, State, open_kept, did, did_all}
+use Rattle.hist_controller.specs.Acts.{Way, ControllerOrder, Read, Policy, PutIn, PutOut, RemoveIn, RemoveOut, PlacedCommand, SetPolicy, Tunnel, End, Rekey, Keys, ControllerAct, Opened, Cut, Answered, Heard, Ordered, Accepted, Refused, ControllerEvent, Told, Opens, Cuts, Answers, Notices}
+use Rattle.hist_controller.specs.Law.{is_reading, placed_command, is_seen}
+use Rattle.hist_controller.specs.State.{KeptGateway, KeptAssociation, KeptWay, ControllerState, is_kept_in_progress, did, did_all}
 
-abbrev pub order_of : State → ℕ → Order → Act
-order_of s g o = Ordered g (s.gateway g).session ((s.gateway g).orders + 1) o
+abbrev pub order_act : ControllerState → ℕ → ControllerOrder → ControllerAct
+order_act s g o = Ordered g (s.gateway g).session ((s.gateway g).orders + 1) o
 
-abbrev pub ready_of : KeptGateway → Bool
-ready_of x = x.up && x.read
+abbrev pub is_read_of : KeptGateway → Bool
+is_read_of x = x.up && x.read
 
-abbrev pub own_of : Way → List KeptAssociation → Order → Bool
-own_of d ks (PutIn x) = d.id == x.way.id
-own_of d ks (PutOut x) = d.id == x.way.id
-own_of d ks (RemoveIn n) = list_any (λ k. k.association.serial == n) ks
-own_of d ks (RemoveOut n) = list_any (λ k. k.association.serial == n) ks
-own_of d ks (_) = false
+abbrev pub is_own_of : Way → List KeptAssociation → ControllerOrder → Bool
+is_own_of d ks (PutIn x) = d.id == x.way.id
+is_own_of d ks (PutOut x) = d.id == x.way.id
+is_own_of d ks (RemoveIn n) = list_any (λ k. k.association.serial == n) ks
+is_own_of d ks (RemoveOut n) = list_any (λ k. k.association.serial == n) ks
+is_own_of d ks (_) = false
 
-abbrev pub busy_of : State → KeptWay → Bool
-busy_of s w = list_any (own_of w.way w.associations) (s.gateway w.way.sender).queue || list_any (own_of w.way w.associations) (s.gateway w.way.receiver).queue
+abbrev pub is_busy_of : ControllerState → KeptWay → Bool
+is_busy_of s w = list_any (is_own_of w.way w.associations) (s.gateway w.way.sender).queue || list_any (is_own_of w.way w.associations) (s.gateway w.way.receiver).queue
 
-abbrev pub out_removable : State → KeptWay → KeptAssociation → Bool
-out_removable s w k = k.ended && k.out_sent && not k.out_gone && ready_of (s.gateway w.way.sender)
+abbrev pub may_out_remove_of : ControllerState → KeptWay → KeptAssociation → Bool
+may_out_remove_of s w k = k.ended && k.out_sent && not k.out_gone && is_read_of (s.gateway w.way.sender)
 
-abbrev pub in_removable : State → KeptWay → KeptAssociation → Bool
-in_removable s w k = k.ended && (not k.out_sent || k.out_gone) && ready_of (s.gateway w.way.receiver)
+abbrev pub may_in_remove_of : ControllerState → KeptWay → KeptAssociation → Bool
+may_in_remove_of s w k = k.ended && (not k.out_sent || k.out_gone) && is_read_of (s.gateway w.way.receiver)
 
-abbrev pub out_puttable : State → KeptWay → KeptAssociation → Bool
-out_puttable s w k = open_kept k && not k.out_sent && k.in_done && ready_of (s.gateway w.way.sender) && ready_of (s.gateway w.way.receiver)
+abbrev pub may_out_put_of : ControllerState → KeptWay → KeptAssociation → Bool
+may_out_put_of s w k = is_kept_in_progress k && not k.out_sent && k.in_done && is_read_of (s.gateway w.way.sender) && is_read_of (s.gateway w.way.receiver)
 
-abbrev pub in_puttable : State → KeptWay → Bool
-in_puttable s w = (w.wanted && not w.over) && ready_of (s.gateway w.way.sender) && ready_of (s.gateway w.way.receiver)
+abbrev pub may_in_put_of : ControllerState → KeptWay → Bool
+may_in_put_of s w = (w.wanted && not w.over) && is_read_of (s.gateway w.way.sender) && is_read_of (s.gateway w.way.receiver)
 
 abbrev pub first_of : (KeptAssociation → Bool) → List KeptAssociation → Option KeptAssociation
 first_of p [] = None
 first_of p (k ∷ ks) = if p k then Some k else first_of p ks
 
-abbrev pub key_put_of : State → KeptWay → List (List ℕ) → List Act
+abbrev pub key_put_of : ControllerState → KeptWay → List (List ℕ) → List ControllerAct
 key_put_of s w [] = []
-key_put_of s w (k ∷ ks) = if in_puttable s w then order_of s w.way.receiver (PutIn (record { serial = s.serials + 1; key = k; way = w.way })) ∷ [] else []
+key_put_of s w (k ∷ ks) = if may_in_put_of s w then order_act s w.way.receiver (PutIn (record { serial = s.serials + 1; key = k; way = w.way })) ∷ [] else []
 
-abbrev pub out_put_of : State → KeptWay → Option KeptAssociation → List Act
-out_put_of s w (Some k) = order_of s w.way.sender (PutOut k.association) ∷ []
+abbrev pub out_put_of : ControllerState → KeptWay → Option KeptAssociation → List ControllerAct
+out_put_of s w (Some k) = order_act s w.way.sender (PutOut k.association) ∷ []
 out_put_of s w None = key_put_of s w s.spare
 
-abbrev pub in_remove_of : State → KeptWay → Option KeptAssociation → List Act
-in_remove_of s w (Some k) = order_of s w.way.receiver (RemoveIn k.association.serial) ∷ []
-in_remove_of s w None = out_put_of s w (first_of (out_puttable s w) w.associations)
+abbrev pub in_remove_of : ControllerState → KeptWay → Option KeptAssociation → List ControllerAct
+in_remove_of s w (Some k) = order_act s w.way.receiver (RemoveIn k.association.serial) ∷ []
+in_remove_of s w None = out_put_of s w (first_of (may_out_put_of s w) w.associations)
 
-abbrev pub out_remove_of : State → KeptWay → Option KeptAssociation → List Act
-out_remove_of s w (Some k) = order_of s w.way.sender (RemoveOut k.association.serial) ∷ []
-out_remove_of s w None = in_remove_of s w (first_of (in_removable s w) w.associations)
+abbrev pub out_remove_of : ControllerState → KeptWay → Option KeptAssociation → List ControllerAct
+out_remove_of s w (Some k) = order_act s w.way.sender (RemoveOut k.association.serial) ∷ []
+out_remove_of s w None = in_remove_of s w (first_of (may_in_remove_of s w) w.associations)
 
-abbrev pub give_of : State → KeptWay → List Act
-give_of s w = if busy_of s w then [] else out_remove_of s w (first_of (out_removable s w) w.associations)
+abbrev pub give_of : ControllerState → KeptWay → List ControllerAct
+give_of s w = if is_busy_of s w then [] else out_remove_of s w (first_of (may_out_remove_of s w) w.associations)
 
 abbrev pub place : {A : Type 0} → ℕ → List A → Option A
 place i [] = None
 place i (x ∷ xs) = if i == 0 then Some x else place (i - 1) xs
 
-abbrev pub give_at : State → Option KeptWay → List Act
+abbrev pub give_at : ControllerState → Option KeptWay → List ControllerAct
 give_at s None = []
 give_at s (Some w) = give_of s w
 
 -- the directions from a place on, so many as the list is long; each is read when its turn comes
-abbrev pub pass_of : State → ℕ → List KeptWay → List Act
+abbrev pub pass_of : ControllerState → ℕ → List KeptWay → List ControllerAct
 pass_of s i [] = []
 pass_of s i (w ∷ ws) = give_at s (place i s.ways) ++ pass_of (did_all s (give_at s (place i s.ways))) (i + 1) ws
 
-abbrev pub with_list_of : State → ℕ → Option (List SpdEntry) → List Act
+abbrev pub with_list_of : ControllerState → ℕ → Option (List SpdEntry) → List ControllerAct
 with_list_of s g None = []
-with_list_of s g (Some l) = order_of s g (Policy l) ∷ []
+with_list_of s g (Some l) = order_act s g (Policy l) ∷ []
 
-abbrev pub by_command_of : State → Placed → List Act
-by_command_of s (SetPolicy g l) = if (s.gateway g).up then order_of s g (Policy l) ∷ [] else []
+abbrev pub by_command_of : ControllerState → PlacedCommand → List ControllerAct
+by_command_of s (SetPolicy g l) = if (s.gateway g).up then order_act s g (Policy l) ∷ [] else []
 by_command_of s (_) = []
 
-abbrev pub by_notice_of : State → ℕ → Notice → List Act
-by_notice_of s g (notices.BadSpi n) = if list_any is_reading (s.gateway g).queue then [] else order_of s g Read ∷ []
+abbrev pub by_notice_of : ControllerState → ℕ → Notice → List ControllerAct
+by_notice_of s g (notices.BadSpi n) = if list_any is_reading (s.gateway g).queue then [] else order_act s g Read ∷ []
 by_notice_of s g (_) = []
 
-abbrev pub read_put_of : State → ℕ → List Act
-read_put_of s g = order_of s g Read ∷ with_list_of (did s (order_of s g Read)) g (s.gateway g).list
+abbrev pub read_put_of : ControllerState → ℕ → List ControllerAct
+read_put_of s g = order_act s g Read ∷ with_list_of (did s (order_act s g Read)) g (s.gateway g).list
 
-abbrev pub asked_of : State → Act → List Act
+abbrev pub asked_of : ControllerState → ControllerAct → List ControllerAct
 asked_of s (Accepted c) = by_command_of s c
 asked_of s (Opened g n) = read_put_of s g
 asked_of s (Heard g n t) = by_notice_of s g t
 asked_of s (_) = []
 
-abbrev pub has_tunnel_of : ℕ → State → Bool
+abbrev pub has_tunnel_of : ℕ → ControllerState → Bool
 has_tunnel_of r s = list_any (λ w. (w.way.tunnel.reqid == r) && not w.over) s.ways
 
-abbrev pub none_kept : List KeptAssociation → Bool
-none_kept [] = true
-none_kept (x ∷ xs) = false
+abbrev pub is_none_kept : List KeptAssociation → Bool
+is_none_kept [] = true
+is_none_kept (x ∷ xs) = false
 
-abbrev pub way_counts : KeptWay → Bool
-way_counts w = not w.over || not (none_kept w.associations)
+abbrev pub is_counted_way : KeptWay → Bool
+is_counted_way w = not w.over || not (is_none_kept w.associations)
 
 abbrev pub tunnels_of : List KeptWay → ℕ
 tunnels_of [] = 0
 tunnels_of (w ∷ []) = 0
-tunnels_of (w ∷ v ∷ ws) = if way_counts w || way_counts v then tunnels_of ws + 1 else tunnels_of ws
+tunnels_of (w ∷ v ∷ ws) = if is_counted_way w || is_counted_way v then tunnels_of ws + 1 else tunnels_of ws
 
-abbrev pub refusal_of : ℕ → State → Placed → Option Refusal
+abbrev pub refusal_of : ℕ → ControllerState → PlacedCommand → Option Refusal
 refusal_of p s (SetPolicy g l) = if nat_lt g p then None else Some refusals.UnknownGateway
 refusal_of p s (Tunnel t) =
     if not (nat_lt t.first p && nat_lt t.second p) then Some refusals.UnknownGateway
@@ -129,32 +129,32 @@ refusal_of p s (Keys k) =
     else if nat_le 1048576 (length s.keys) then Some refusals.KeyLimit
     else None
 
-abbrev pub asked_then_of : State → List Act → List Act
+abbrev pub asked_then_of : ControllerState → List ControllerAct → List ControllerAct
 asked_then_of s os = os ++ pass_of (did_all s os) 0 (did_all s os).ways
 
-abbrev pub going_of : State → Act → List Act
+abbrev pub going_of : ControllerState → ControllerAct → List ControllerAct
 going_of s a = a ∷ asked_then_of (did s a) (asked_of (did s a) a)
 
-abbrev pub by_refusal_of : State → Placed → Option Refusal → List Act
+abbrev pub by_refusal_of : ControllerState → PlacedCommand → Option Refusal → List ControllerAct
 by_refusal_of s c None = going_of s (Accepted c)
 by_refusal_of s c (Some w) = Refused w ∷ []
 
-abbrev pub by_answer_of : State → ℕ → Answer → List Order → List Act
+abbrev pub by_answer_of : ControllerState → ℕ → Answer → List ControllerOrder → List ControllerAct
 by_answer_of s g a [] = []
 by_answer_of s g a (o ∷ os) = going_of s (Answered g (s.gateway g).session ((s.gateway g).answers + 1) a)
 
 -- the acts of an event
-abbrev pub acts_of : List Peer → State → Event → List Act
-acts_of ps s (Told c) = by_refusal_of s (placed ps c) (refusal_of (length ps) s (placed ps c))
+abbrev pub acts_of : List Peer → ControllerState → ControllerEvent → List ControllerAct
+acts_of ps s (Told c) = by_refusal_of s (placed_command ps c) (refusal_of (length ps) s (placed_command ps c))
 acts_of ps s (Opens g) = if (s.gateway g).up then [] else going_of s (Opened g ((s.gateway g).session + 1))
 acts_of ps s (Cuts g) = if (s.gateway g).up then going_of s (Cut g (s.gateway g).session) else []
 acts_of ps s (Answers g a) = by_answer_of s g a (s.gateway g).queue
 acts_of ps s (Notices g t) = if (s.gateway g).up then going_of s (Heard g (s.gateway g).session t) else []
 
-abbrev pub next : List Peer → State → Event → State
+abbrev pub next : List Peer → ControllerState → ControllerEvent → ControllerState
 next ps s e = did_all s (acts_of ps s e)
 
 -- the acts of events, one after another
-abbrev pub run : List Peer → State → List Event → List Act
+abbrev pub run : List Peer → ControllerState → List ControllerEvent → List ControllerAct
 run ps s [] = []
 run ps s (e ∷ es) = acts_of ps s e ++ run ps (next ps s e) es

@@ -5,8 +5,8 @@ use Rattle.ikeless_tree.specs.declared.entry.SpdEntry.{SpdEntry}
 use Rattle.ikeless_tree.specs.declared.order.Answer.{Answer}
 use Rattle.ikeless_tree.specs.declared.order.Notice.{Notice}
 use Rattle.ikeless_tree.specs.declared.order.Notice.TheVariants as notices
-use Rattle.hist_controller.specs.Acts.{Way, Association, in_name, out_name, Order, Read, Placed, Act, Opened, Cut, Answered, Heard, Ordered, Accepted, Refused}
-use Rattle.hist_controller.specs.Past.{is_open, session, orders, answers, rest, oldest, queue, is_read, list_if, newest_list, key_of, keys, is_first, serials, used, spare, born, directions, ends, over, PuttingIn, PuttingOut, RemovingIn, RemovingOut, is, answers_to, sends, heard, shows, spoils, ended, put_in, left, last_if, newest, starts, renews, has_entry, is_half, puts, puts_first, wanted}
+use Rattle.hist_controller.specs.Acts.{Way, Association, in_name, out_name, ControllerOrder, Read, PlacedCommand, ControllerAct, Opened, Cut, Answered, Heard, Ordered, Accepted, Refused}
+use Rattle.hist_controller.specs.Past.{is_open, openings, orders, answered, rest, oldest, queue, is_first_answered, list_if, newest_list, key_of, keys, is_inbound_put, serials, keys_after, spare, new_ways, directions, is_end_of, is_over, PuttingIn, PuttingOut, RemovingIn, RemovingOut, is_kind, is_answer_to, is_out_ordered, has_answer, is_shown, is_spoiled, is_ended, inbound_put, left, last_if, newest_serial, is_start, is_renewal, has_entry, is_half_at, is_put_of, is_inbound_put_of, is_wanted}
 
 -- a gateway as the controller sees it
 pub record KeptGateway : Type 0 where
@@ -14,7 +14,7 @@ pub record KeptGateway : Type 0 where
   pub session : ℕ
   pub orders : ℕ
   pub answers : ℕ
-  pub queue : List Order
+  pub queue : List ControllerOrder
   pub read : Bool
   pub list : Option (List SpdEntry)
 
@@ -34,41 +34,41 @@ pub record KeptWay : Type 0 where
   pub newest : ℕ
   pub associations : List KeptAssociation
 
-pub record State : Type 0 where
+pub record ControllerState : Type 0 where
   pub gateway : ℕ → KeptGateway
   pub ways : List KeptWay
   pub keys : List (List ℕ)
   pub spare : List (List ℕ)
   pub serials : ℕ
 
-abbrev pub gateway_of : List Act → ℕ → KeptGateway
-gateway_of h g = record { up = is_open g h; session = session g h; orders = orders g h; answers = answers g h; queue = queue g h; read = is_read g h; list = newest_list g h }
+abbrev pub gateway_of : List ControllerAct → ℕ → KeptGateway
+gateway_of h g = record { up = is_open g h; session = openings g h; orders = orders g h; answers = answered g h; queue = queue g h; read = is_first_answered g h; list = newest_list g h }
 
-abbrev pub association_of : List Act → Association → KeptAssociation
-association_of h x = record { association = x; in_done = heard PuttingIn x.serial h; out_sent = sends x.serial h; out_done = heard PuttingOut x.serial h; out_gone = heard RemovingOut x.serial h; ended = ended x h }
+abbrev pub association_of : List ControllerAct → Association → KeptAssociation
+association_of h x = record { association = x; in_done = has_answer PuttingIn x.serial h; out_sent = is_out_ordered x.serial h; out_done = has_answer PuttingOut x.serial h; out_gone = has_answer RemovingOut x.serial h; ended = is_ended x h }
 
-abbrev pub way_of : List Act → Way → KeptWay
-way_of h d = record { way = d; over = over d h; wanted = wanted d h; newest = newest d h; associations = map (association_of h) (left d h) }
+abbrev pub way_of : List ControllerAct → Way → KeptWay
+way_of h d = record { way = d; over = is_over d h; wanted = is_wanted d h; newest = newest_serial d h; associations = map (association_of h) (left d h) }
 
 -- what is to be kept of a past
-abbrev pub state_of : List Act → State
+abbrev pub state_of : List ControllerAct → ControllerState
 state_of h = record { gateway = gateway_of h; ways = map (way_of h) (directions h); keys = keys h; spare = spare h; serials = serials h }
 
 -- ## what an act does to a gateway's part
 
-abbrev pub opened : KeptGateway → KeptGateway
-opened x = record { up = true; session = x.session + 1; orders = 0; answers = 0; queue = []; read = false; list = x.list }
+abbrev pub gateway_opened : KeptGateway → KeptGateway
+gateway_opened x = record { up = true; session = x.session + 1; orders = 0; answers = 0; queue = []; read = false; list = x.list }
 
-abbrev pub closed : KeptGateway → KeptGateway
-closed x = record { up = false; session = x.session; orders = x.orders; answers = x.answers; queue = []; read = x.read; list = x.list }
+abbrev pub gateway_cut : KeptGateway → KeptGateway
+gateway_cut x = record { up = false; session = x.session; orders = x.orders; answers = x.answers; queue = []; read = x.read; list = x.list }
 
-abbrev pub answered : ℕ → KeptGateway → KeptGateway
-answered n x = record { up = x.up; session = x.session; orders = x.orders; answers = x.answers + 1; queue = rest x.queue; read = (n == 1) || x.read; list = x.list }
+abbrev pub gateway_answered : ℕ → KeptGateway → KeptGateway
+gateway_answered n x = record { up = x.up; session = x.session; orders = x.orders; answers = x.answers + 1; queue = rest x.queue; read = (n == 1) || x.read; list = x.list }
 
-abbrev pub ordered : Order → KeptGateway → KeptGateway
-ordered o x = record { up = x.up; session = x.session; orders = x.orders + 1; answers = x.answers; queue = x.queue ++ o ∷ []; read = x.read; list = x.list }
+abbrev pub gateway_ordered : ControllerOrder → KeptGateway → KeptGateway
+gateway_ordered o x = record { up = x.up; session = x.session; orders = x.orders + 1; answers = x.answers; queue = x.queue ++ o ∷ []; read = x.read; list = x.list }
 
-abbrev pub gateway_told : Placed → ℕ → KeptGateway → KeptGateway
+abbrev pub gateway_told : PlacedCommand → ℕ → KeptGateway → KeptGateway
 gateway_told c g x = record { up = x.up; session = x.session; orders = x.orders; answers = x.answers; queue = x.queue; read = x.read; list = list_if g c x.list }
 
 -- ## to an association
@@ -76,96 +76,96 @@ gateway_told c g x = record { up = x.up; session = x.session; orders = x.orders;
 abbrev pub fresh : Association → KeptAssociation
 fresh x = record { association = x; in_done = false; out_sent = false; out_done = false; out_gone = false; ended = false }
 
-abbrev pub kept_told : Placed → KeptAssociation → KeptAssociation
-kept_told c k = record { association = k.association; in_done = k.in_done; out_sent = k.out_sent; out_done = k.out_done; out_gone = k.out_gone; ended = ends k.association.way.tunnel.reqid c || k.ended }
+abbrev pub kept_told : PlacedCommand → KeptAssociation → KeptAssociation
+kept_told c k = record { association = k.association; in_done = k.in_done; out_sent = k.out_sent; out_done = k.out_done; out_gone = k.out_gone; ended = is_end_of k.association.way.tunnel.reqid c || k.ended }
 
-abbrev pub kept_cut : List Order → KeptAssociation → KeptAssociation
-kept_cut q k = record { association = k.association; in_done = k.in_done; out_sent = k.out_sent; out_done = k.out_done; out_gone = k.out_gone; ended = list_any (λ o. is PuttingIn k.association.serial o || is PuttingOut k.association.serial o) q || k.ended }
+abbrev pub kept_cut : List ControllerOrder → KeptAssociation → KeptAssociation
+kept_cut q k = record { association = k.association; in_done = k.in_done; out_sent = k.out_sent; out_done = k.out_done; out_gone = k.out_gone; ended = list_any (λ o. is_kind PuttingIn k.association.serial o || is_kind PuttingOut k.association.serial o) q || k.ended }
 
-abbrev pub kept_answered : ℕ → Option Order → Answer → KeptAssociation → KeptAssociation
+abbrev pub kept_answered : ℕ → Option ControllerOrder → Answer → KeptAssociation → KeptAssociation
 kept_answered g o a k = record {
   association = k.association;
-  in_done = answers_to PuttingIn k.association.serial o || k.in_done;
+  in_done = is_answer_to PuttingIn k.association.serial o || k.in_done;
   out_sent = k.out_sent;
-  out_done = answers_to PuttingOut k.association.serial o || k.out_done;
-  out_gone = answers_to RemovingOut k.association.serial o || k.out_gone;
-  ended = spoils k.association g o a k.in_done k.out_sent || k.ended;
+  out_done = is_answer_to PuttingOut k.association.serial o || k.out_done;
+  out_gone = is_answer_to RemovingOut k.association.serial o || k.out_gone;
+  ended = is_spoiled k.association g o a k.in_done k.out_sent || k.ended;
 }
 
-abbrev pub kept_ordered : Order → KeptAssociation → KeptAssociation
+abbrev pub kept_ordered : ControllerOrder → KeptAssociation → KeptAssociation
 kept_ordered o k = record {
   association = k.association;
-  in_done = not (is PuttingIn k.association.serial o) && k.in_done;
-  out_sent = not (is PuttingIn k.association.serial o) && (is PuttingOut k.association.serial o || k.out_sent);
-  out_done = not (is PuttingIn k.association.serial o) && k.out_done;
-  out_gone = not (is PuttingIn k.association.serial o) && k.out_gone;
-  ended = not (is PuttingIn k.association.serial o) && k.ended;
+  in_done = not (is_kind PuttingIn k.association.serial o) && k.in_done;
+  out_sent = not (is_kind PuttingIn k.association.serial o) && (is_kind PuttingOut k.association.serial o || k.out_sent);
+  out_done = not (is_kind PuttingIn k.association.serial o) && k.out_done;
+  out_gone = not (is_kind PuttingIn k.association.serial o) && k.out_gone;
+  ended = not (is_kind PuttingIn k.association.serial o) && k.ended;
 }
 
 -- ## to a direction
 
-abbrev pub way_told : Placed → KeptWay → KeptWay
-way_told c w = record { way = w.way; over = ends w.way.tunnel.reqid c || w.over; wanted = renews w.way c || w.wanted; newest = w.newest; associations = map (kept_told c) w.associations }
+abbrev pub way_told : PlacedCommand → KeptWay → KeptWay
+way_told c w = record { way = w.way; over = is_end_of w.way.tunnel.reqid c || w.over; wanted = is_renewal w.way c || w.wanted; newest = w.newest; associations = map (kept_told c) w.associations }
 
-abbrev pub fresh_way : Placed → Way → KeptWay
-fresh_way c d = record { way = d; over = false; wanted = starts c; newest = 0; associations = [] }
+abbrev pub fresh_way : PlacedCommand → Way → KeptWay
+fresh_way c d = record { way = d; over = false; wanted = is_start c; newest = 0; associations = [] }
 
-abbrev pub way_cut : List Order → KeptWay → KeptWay
-way_cut q w = record { way = w.way; over = w.over; wanted = list_any (puts w.way) q || w.wanted; newest = w.newest; associations = map (kept_cut q) w.associations }
+abbrev pub way_cut : List ControllerOrder → KeptWay → KeptWay
+way_cut q w = record { way = w.way; over = w.over; wanted = list_any (is_put_of w.way) q || w.wanted; newest = w.newest; associations = map (kept_cut q) w.associations }
 
-abbrev pub lacks_of : Way → ℕ → List (List ℕ) → KeptAssociation → Bool
-lacks_of d g names k =
+abbrev pub is_unseen_of : Way → ℕ → List (List ℕ) → KeptAssociation → Bool
+is_unseen_of d g names k =
     not k.ended
-    && (((d.receiver == g) && k.in_done && not (shows names (in_name k.association.serial)))
-    || ((d.sender == g) && k.out_done && not (shows names (out_name k.association.serial))))
+    && (((d.receiver == g) && k.in_done && not (is_shown names (in_name k.association.serial)))
+    || ((d.sender == g) && k.out_done && not (is_shown names (out_name k.association.serial))))
 
-abbrev pub misses_of : KeptWay → ℕ → Option Order → Answer → Bool
-misses_of w g (Some Read) a = list_any (lacks_of w.way g a.names) w.associations
-misses_of w g (_) a = false
+abbrev pub is_cause_reading_of : KeptWay → ℕ → Option ControllerOrder → Answer → Bool
+is_cause_reading_of w g (Some Read) a = list_any (is_unseen_of w.way g a.names) w.associations
+is_cause_reading_of w g (_) a = false
 
-abbrev pub way_answered : ℕ → Option Order → Answer → KeptWay → KeptWay
+abbrev pub way_answered : ℕ → Option ControllerOrder → Answer → KeptWay → KeptWay
 way_answered g o a w = record {
   way = w.way;
   over = w.over;
-  wanted = misses_of w g o a || w.wanted;
+  wanted = is_cause_reading_of w g o a || w.wanted;
   newest = w.newest;
-  associations = filter (λ k. not (answers_to RemovingIn k.association.serial o)) (map (kept_answered g o a) w.associations);
+  associations = filter (λ k. not (is_answer_to RemovingIn k.association.serial o)) (map (kept_answered g o a) w.associations);
 }
 
-abbrev pub newest_of : KeptWay → ℕ → List ℕ → Bool
-newest_of w g name = is_half w.way g name w.newest && list_any (λ k. (k.association.serial == w.newest) && not k.ended) w.associations
+abbrev pub is_newest_of : KeptWay → ℕ → List ℕ → Bool
+is_newest_of w g name = is_half_at w.way g name w.newest && list_any (λ k. (k.association.serial == w.newest) && not k.ended) w.associations
 
-abbrev pub open_kept : KeptAssociation → Bool
-open_kept k = not k.ended && not k.out_done
+abbrev pub is_kept_in_progress : KeptAssociation → Bool
+is_kept_in_progress k = not k.ended && not k.out_done
 
-abbrev pub calls_of : Option (List SpdEntry) → KeptWay → ℕ → Notice → Bool
-calls_of l w g (notices.Acquire p f) = (w.way.sender == g) && has_entry p w.way.tunnel.reqid l && not (list_any open_kept w.associations)
-calls_of l w g (notices.Expire m b c) = newest_of w g m
-calls_of l w g (notices.SeqOverflow m) = newest_of w g m
-calls_of l w g (notices.BadSpi s) = false
+abbrev pub is_cause_notice_of : Option (List SpdEntry) → KeptWay → ℕ → Notice → Bool
+is_cause_notice_of l w g (notices.Acquire p f) = (w.way.sender == g) && has_entry p w.way.tunnel.reqid l && not (list_any is_kept_in_progress w.associations)
+is_cause_notice_of l w g (notices.Expire m b c) = is_newest_of w g m
+is_cause_notice_of l w g (notices.SeqOverflow m) = is_newest_of w g m
+is_cause_notice_of l w g (notices.BadSpi s) = false
 
 abbrev pub way_heard : Option (List SpdEntry) → ℕ → Notice → KeptWay → KeptWay
-way_heard l g t w = record { way = w.way; over = w.over; wanted = calls_of l w g t || w.wanted; newest = w.newest; associations = w.associations }
+way_heard l g t w = record { way = w.way; over = w.over; wanted = is_cause_notice_of l w g t || w.wanted; newest = w.newest; associations = w.associations }
 
-abbrev pub way_ordered : Order → KeptWay → KeptWay
+abbrev pub way_ordered : ControllerOrder → KeptWay → KeptWay
 way_ordered o w = record {
   way = w.way;
   over = w.over;
-  wanted = not (puts_first w.way o) && w.wanted;
+  wanted = not (is_inbound_put_of w.way o) && w.wanted;
   newest = last_if w.way o w.newest;
-  associations = map (kept_ordered o) w.associations ++ map fresh (put_in w.way o);
+  associations = map (kept_ordered o) w.associations ++ map fresh (inbound_put w.way o);
 }
 
 -- the state after an act
-abbrev pub did : State → Act → State
-did s (Opened f n) = record { gateway = λ g. if g == f then opened (s.gateway g) else s.gateway g; ways = s.ways; keys = s.keys; spare = s.spare; serials = s.serials }
-did s (Cut f n) = record { gateway = λ g. if g == f then closed (s.gateway g) else s.gateway g; ways = map (way_cut (s.gateway f).queue) s.ways; keys = s.keys; spare = s.spare; serials = s.serials }
-did s (Answered f n i a) = record { gateway = λ g. if g == f then answered i (s.gateway g) else s.gateway g; ways = map (way_answered f (oldest (s.gateway f).queue) a) s.ways; keys = s.keys; spare = s.spare; serials = s.serials }
+abbrev pub did : ControllerState → ControllerAct → ControllerState
+did s (Opened f n) = record { gateway = λ g. if g == f then gateway_opened (s.gateway g) else s.gateway g; ways = s.ways; keys = s.keys; spare = s.spare; serials = s.serials }
+did s (Cut f n) = record { gateway = λ g. if g == f then gateway_cut (s.gateway g) else s.gateway g; ways = map (way_cut (s.gateway f).queue) s.ways; keys = s.keys; spare = s.spare; serials = s.serials }
+did s (Answered f n i a) = record { gateway = λ g. if g == f then gateway_answered i (s.gateway g) else s.gateway g; ways = map (way_answered f (oldest (s.gateway f).queue) a) s.ways; keys = s.keys; spare = s.spare; serials = s.serials }
 did s (Heard f n t) = record { gateway = s.gateway; ways = map (way_heard (s.gateway f).list f t) s.ways; keys = s.keys; spare = s.spare; serials = s.serials }
-did s (Ordered f n i o) = record { gateway = λ g. if g == f then ordered o (s.gateway g) else s.gateway g; ways = map (way_ordered o) s.ways; keys = s.keys; spare = used o s.spare; serials = if is_first o then s.serials + 1 else s.serials }
-did s (Accepted c) = record { gateway = λ g. gateway_told c g (s.gateway g); ways = map (way_told c) s.ways ++ map (fresh_way c) (born (length s.ways) c); keys = s.keys ++ key_of c; spare = s.spare ++ key_of c; serials = s.serials }
+did s (Ordered f n i o) = record { gateway = λ g. if g == f then gateway_ordered o (s.gateway g) else s.gateway g; ways = map (way_ordered o) s.ways; keys = s.keys; spare = keys_after o s.spare; serials = if is_inbound_put o then s.serials + 1 else s.serials }
+did s (Accepted c) = record { gateway = λ g. gateway_told c g (s.gateway g); ways = map (way_told c) s.ways ++ map (fresh_way c) (new_ways (length s.ways) c); keys = s.keys ++ key_of c; spare = s.spare ++ key_of c; serials = s.serials }
 did s (Refused w) = s
 
-abbrev pub did_all : State → List Act → State
+abbrev pub did_all : ControllerState → List ControllerAct → ControllerState
 did_all s [] = s
 did_all s (a ∷ more) = did_all (did s a) more

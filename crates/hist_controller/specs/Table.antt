@@ -2,10 +2,10 @@
 use Rattle.std.specs.Prelude.{ℕ, zero, suc, ◌+◌, ◌-◌, ◌<◌, false, ◌==◌, List, [], ◌∷◌, ◌++◌, Some, None, map, length, if◌then◌else◌}
 use Rattle.ikeless_tree.specs.declared.entry.SpdEntry.{SpdEntry}
 use Rattle.ikeless_tree.specs.declared.command.Peer.{Peer}
-use Rattle.hist_controller.specs.Acts.{Placed, SetPolicy, Act, Opened, Cut, Answered, Heard, Ordered, Accepted, Refused, Event, Told, Opens, Cuts, Answers, Notices}
-use Rattle.hist_controller.specs.Past.{oldest, used, key_of, is_first, born}
+use Rattle.hist_controller.specs.Acts.{PlacedCommand, SetPolicy, ControllerAct, Opened, Cut, Answered, Heard, Ordered, Accepted, Refused, ControllerEvent, Told, Opens, Cuts, Answers, Notices}
+use Rattle.hist_controller.specs.Past.{oldest, keys_after, key_of, is_inbound_put, new_ways}
 use Rattle.hist_controller.specs.Machine.{acts_of}
-use Rattle.hist_controller.specs.State.{KeptGateway, KeptWay, State, opened, closed, answered, ordered, way_told, fresh_way, way_cut, way_answered, way_heard, way_ordered}
+use Rattle.hist_controller.specs.State.{KeptGateway, KeptWay, ControllerState, gateway_opened, gateway_cut, gateway_answered, gateway_ordered, way_told, fresh_way, way_cut, way_answered, way_heard, way_ordered}
 
 pub record Table : Type 0 where
   pub gateways : List KeptGateway
@@ -28,28 +28,28 @@ change f k (x ∷ xs) = if f == 0 then k x ∷ xs else x ∷ change (f - 1) k xs
 abbrev pub listed : List SpdEntry → KeptGateway → KeptGateway
 listed l x = record { up = x.up; session = x.session; orders = x.orders; answers = x.answers; queue = x.queue; read = x.read; list = Some l }
 
-abbrev pub told_gates : Placed → List KeptGateway → List KeptGateway
+abbrev pub told_gates : PlacedCommand → List KeptGateway → List KeptGateway
 told_gates (SetPolicy f l) xs = change f (listed l) xs
 told_gates (_) xs = xs
 
-abbrev pub seen : Table → State
+abbrev pub seen : Table → ControllerState
 seen t = record { gateway = λ g. gateway_at g t.gateways; ways = t.ways; keys = t.keys; spare = t.spare; serials = t.serials }
 
-abbrev pub did_table : Table → Act → Table
-did_table s (Opened f n) = record { gateways = change f opened s.gateways; ways = s.ways; keys = s.keys; spare = s.spare; serials = s.serials }
-did_table s (Cut f n) = record { gateways = change f closed s.gateways; ways = map (way_cut (gateway_at f s.gateways).queue) s.ways; keys = s.keys; spare = s.spare; serials = s.serials }
-did_table s (Answered f n i a) = record { gateways = change f (answered i) s.gateways; ways = map (way_answered f (oldest (gateway_at f s.gateways).queue) a) s.ways; keys = s.keys; spare = s.spare; serials = s.serials }
+abbrev pub did_table : Table → ControllerAct → Table
+did_table s (Opened f n) = record { gateways = change f gateway_opened s.gateways; ways = s.ways; keys = s.keys; spare = s.spare; serials = s.serials }
+did_table s (Cut f n) = record { gateways = change f gateway_cut s.gateways; ways = map (way_cut (gateway_at f s.gateways).queue) s.ways; keys = s.keys; spare = s.spare; serials = s.serials }
+did_table s (Answered f n i a) = record { gateways = change f (gateway_answered i) s.gateways; ways = map (way_answered f (oldest (gateway_at f s.gateways).queue) a) s.ways; keys = s.keys; spare = s.spare; serials = s.serials }
 did_table s (Heard f n t) = record { gateways = s.gateways; ways = map (way_heard (gateway_at f s.gateways).list f t) s.ways; keys = s.keys; spare = s.spare; serials = s.serials }
-did_table s (Ordered f n i o) = record { gateways = change f (ordered o) s.gateways; ways = map (way_ordered o) s.ways; keys = s.keys; spare = used o s.spare; serials = if is_first o then s.serials + 1 else s.serials }
-did_table s (Accepted c) = record { gateways = told_gates c s.gateways; ways = map (way_told c) s.ways ++ map (fresh_way c) (born (length s.ways) c); keys = s.keys ++ key_of c; spare = s.spare ++ key_of c; serials = s.serials }
+did_table s (Ordered f n i o) = record { gateways = change f (gateway_ordered o) s.gateways; ways = map (way_ordered o) s.ways; keys = s.keys; spare = keys_after o s.spare; serials = if is_inbound_put o then s.serials + 1 else s.serials }
+did_table s (Accepted c) = record { gateways = told_gates c s.gateways; ways = map (way_told c) s.ways ++ map (fresh_way c) (new_ways (length s.ways) c); keys = s.keys ++ key_of c; spare = s.spare ++ key_of c; serials = s.serials }
 did_table s (Refused w) = s
 
 -- the act speaks of one of so many gateways
-abbrev pub fits_placed : ℕ → Placed → Type 0
+abbrev pub fits_placed : ℕ → PlacedCommand → Type 0
 fits_placed p (SetPolicy g l) = g < p
 fits_placed p (_) = Unit {0}
 
-abbrev pub Fits : ℕ → Act → Type 0
+abbrev pub Fits : ℕ → ControllerAct → Type 0
 Fits p (Opened g s) = g < p
 Fits p (Cut g s) = g < p
 Fits p (Answered g s n a) = g < p
@@ -58,19 +58,19 @@ Fits p (Ordered g s n o) = g < p
 Fits p (Accepted c) = fits_placed p c
 Fits p (Refused w) = Unit {0}
 
-abbrev pub AllFit : ℕ → List Act → Type 0
+abbrev pub AllFit : ℕ → List ControllerAct → Type 0
 AllFit p [] = Unit {0}
 AllFit p (a ∷ h) = Fits p a × AllFit p h
 
 -- the event speaks of one of so many gateways
-abbrev pub EventFits : ℕ → Event → Type 0
+abbrev pub EventFits : ℕ → ControllerEvent → Type 0
 EventFits p (Told c) = Unit {0}
 EventFits p (Opens g) = g < p
 EventFits p (Cuts g) = g < p
 EventFits p (Answers g a) = g < p
 EventFits p (Notices g t) = g < p
 
-abbrev pub AllEventsFit : ℕ → List Event → Type 0
+abbrev pub AllEventsFit : ℕ → List ControllerEvent → Type 0
 AllEventsFit p [] = Unit {0}
 AllEventsFit p (e ∷ es) = EventFits p e × AllEventsFit p es
 
@@ -82,10 +82,10 @@ shut_gateways (suc n) = shut ∷ shut_gateways n
 abbrev pub first_table : ℕ → Table
 first_table n = record { gateways = shut_gateways n; ways = []; keys = []; spare = []; serials = 0 }
 
-abbrev pub did_all_table : Table → List Act → Table
+abbrev pub did_all_table : Table → List ControllerAct → Table
 did_all_table t [] = t
 did_all_table t (a ∷ more) = did_all_table (did_table t a) more
 
 -- the table after an event
-abbrev pub next_table : List Peer → Table → Event → Table
+abbrev pub next_table : List Peer → Table → ControllerEvent → Table
 next_table ps t e = did_all_table t (acts_of ps (seen t) e)

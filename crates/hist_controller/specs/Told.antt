@@ -13,16 +13,16 @@ use Rattle.ikeless_tree.specs.declared.order.Order.TheVariants as tree
 use Rattle.hist_acts.specs.declared.act.Act.TheVariants as acts
 use Rattle.ikeless_tree.specs.declared.order as orders
 use Rattle.hist_acts.specs.declared.act as happened
-use Rattle.hist_controller.specs.Acts.{Association, in_name, out_name, Order, Read, Policy, PutIn, PutOut, RemoveIn, RemoveOut, Act, Opened, Cut, Answered, Heard, Ordered, Accepted, Refused}
+use Rattle.hist_controller.specs.Acts.{Association, in_name, out_name, ControllerOrder, Read, Policy, PutIn, PutOut, RemoveIn, RemoveOut, ControllerAct, Opened, Cut, Answered, Heard, Ordered, Accepted, Refused}
 
 -- the name and the address of the peer with this number; an unknown one has none
-abbrev pub name_of : List Peer → ℕ → List ℕ
-name_of [] g = []
-name_of (p ∷ ps) g = if g == 0 then p.name else name_of ps (g - 1)
+abbrev pub peer_name : List Peer → ℕ → List ℕ
+peer_name [] g = []
+peer_name (p ∷ ps) g = if g == 0 then p.name else peer_name ps (g - 1)
 
-abbrev pub address_of : List Peer → ℕ → Addr
-address_of [] g = V4 (0 ∷ 0 ∷ 0 ∷ 0 ∷ [])
-address_of (p ∷ ps) g = if g == 0 then p.address else address_of ps (g - 1)
+abbrev pub peer_address : List Peer → ℕ → Addr
+peer_address [] g = V4 (0 ∷ 0 ∷ 0 ∷ 0 ∷ [])
+peer_address (p ∷ ps) g = if g == 0 then p.address else peer_address ps (g - 1)
 
 -- any protocol and any ports between two prefixes
 abbrev pub between : Prefix → Prefix → Selector
@@ -38,8 +38,8 @@ in_entry ps x = record {
   window = x.way.tunnel.window;
   selector = between x.way.far x.way.near;
   key = x.key;
-  local = address_of ps x.way.receiver;
-  remote = address_of ps x.way.sender;
+  local = peer_address ps x.way.receiver;
+  remote = peer_address ps x.way.sender;
   df = df.Copy;
   hard = x.way.tunnel.hard;
   soft = x.way.tunnel.soft;
@@ -53,15 +53,15 @@ out_entry ps x = record {
   window = x.way.tunnel.window;
   selector = between x.way.near x.way.far;
   key = x.key;
-  local = address_of ps x.way.sender;
-  remote = address_of ps x.way.receiver;
+  local = peer_address ps x.way.sender;
+  remote = peer_address ps x.way.receiver;
   df = df.Copy;
   hard = x.way.tunnel.hard;
   soft = x.way.tunnel.soft;
 }
 
 -- an order as the gateway gets it
-abbrev pub order_told : List Peer → Order → orders.Order.Order
+abbrev pub order_told : List Peer → ControllerOrder → orders.Order.Order
 order_told ps Read = tree.Read
 order_told ps (Policy l) = tree.Policy l
 order_told ps (PutIn x) = tree.Put (in_entry ps x)
@@ -70,30 +70,30 @@ order_told ps (RemoveIn n) = tree.Remove (in_name n)
 order_told ps (RemoveOut n) = tree.Remove (out_name n)
 
 -- An act as a transcript has it. A transcript has no act for an accepted command: its block has no refusal.
-abbrev pub told : List Peer → Act → List happened.Act.Act
-told ps (Opened g s) = acts.Opened (name_of ps g) s ∷ []
-told ps (Cut g s) = acts.Cut (name_of ps g) s ∷ []
-told ps (Answered g s n a) = acts.Answered (name_of ps g) s n a ∷ []
-told ps (Heard g s t) = acts.Heard (name_of ps g) s t ∷ []
-told ps (Ordered g s n o) = acts.Order (name_of ps g) s n (order_told ps o) ∷ []
+abbrev pub told : List Peer → ControllerAct → List happened.Act.Act
+told ps (Opened g s) = acts.Opened (peer_name ps g) s ∷ []
+told ps (Cut g s) = acts.Cut (peer_name ps g) s ∷ []
+told ps (Answered g s n a) = acts.Answered (peer_name ps g) s n a ∷ []
+told ps (Heard g s t) = acts.Heard (peer_name ps g) s t ∷ []
+told ps (Ordered g s n o) = acts.Order (peer_name ps g) s n (order_told ps o) ∷ []
 told ps (Accepted c) = []
 told ps (Refused w) = acts.Refused w ∷ []
 
 -- acts, in their order
-abbrev pub all_told : List Peer → List Act → List happened.Act.Act
+abbrev pub all_told : List Peer → List ControllerAct → List happened.Act.Act
 all_told ps [] = []
 all_told ps (a ∷ more) = told ps a ++ all_told ps more
 
 -- a past, its newest act first
-abbrev pub past_told : List Peer → List Act → List happened.Act.Act
+abbrev pub past_told : List Peer → List ControllerAct → List happened.Act.Act
 past_told ps [] = []
 past_told ps (a ∷ h) = told ps a ++ past_told ps h
 
 -- peers of different numbers have different names
 abbrev pub Named : List Peer → Type 0
-Named ps = (f g : ℕ) → f < length ps → g < length ps → bytes_eq (name_of ps f) (name_of ps g) ≡ (g == f)
+Named ps = (f g : ℕ) → f < length ps → g < length ps → bytes_eq (peer_name ps f) (peer_name ps g) ≡ (g == f)
 
 -- no two of these peers have one name
-abbrev pub names_apart : List Peer → Bool
-names_apart [] = true
-names_apart (p ∷ ps) = list_all (λ q. not (bytes_eq p.name q.name)) ps && names_apart ps
+abbrev pub are_names_apart : List Peer → Bool
+are_names_apart [] = true
+are_names_apart (p ∷ ps) = list_all (λ q. not (bytes_eq p.name q.name)) ps && are_names_apart ps

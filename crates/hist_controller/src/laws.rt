@@ -7,102 +7,103 @@ ghost use Rattle.hist_acts.specs.Past as happened;
 ghost use Rattle.ikeless_tree.specs.Check.{is_key_length};
 ghost use Rattle.ikeless_tree.specs.declared.command.Peer.{Peer};
 ghost use Rattle.ikeless_tree.specs.declared.order.Answer.{Answer};
-ghost use Rattle.hist_controller.specs.Acts.{Way, Association, Order, PutIn, PutOut, RemoveIn, RemoveOut, Act, Answered, Event, in_name, out_name};
-ghost use Rattle.hist_controller.specs.Past.{after, is_open, session, orders, answers, ready, directions, keys, serials, queue, oldest, in_progress, left, lacks, PuttingIn, PuttingOut, RemovingIn, RemovingOut};
+ghost use Rattle.hist_controller.specs.Acts.{Way, Association, ControllerOrder, PutIn, PutOut, RemoveIn, RemoveOut, ControllerAct, Answered, ControllerEvent, in_name, out_name};
+ghost use Rattle.hist_acts.specs.Past.{after};
+ghost use Rattle.hist_controller.specs.Past.{is_open, openings, orders, answered, is_read, directions, keys, serials, queue, oldest, is_in_progress, left, is_unseen, PuttingIn, PuttingOut, RemovingIn, RemovingOut};
 ghost use Rattle.hist_controller.specs.State.{state_of, did};
 ghost use Rattle.hist_controller.specs.Machine.{acts_of, next, run, place};
-ghost use Rattle.hist_controller.specs.Law.{number_of, aes_part, tunnels, block, history, event_refusal, one_or_none, refusals_in};
-ghost use Rattle.hist_controller.specs.Clauses.{Has, IsPast, MayAll, NotIdle};
+ghost use Rattle.hist_controller.specs.Law.{peer_number, aes_part, tunnels, block, history, event_refusal, one_or_none, refusals_in};
+ghost use Rattle.hist_controller.specs.Clauses.{Has, IsControllerPast, ControllerMayActAll, NotIdle};
 ghost use Rattle.hist_controller.specs.Counts.{times, times_at, times_now, in_puts, out_puts, cause_count, KeysRight, ListsRight};
-ghost use Rattle.hist_controller.specs.Halves.{PlainAnswers, halves};
+ghost use Rattle.hist_controller.specs.Halves.{PlainAnswers, half_count};
 ghost use Rattle.hist_controller.specs.Numbers.{numbered};
-ghost use Rattle.hist_controller.specs.Orders.{AllBefore, Given, PutOf};
-ghost use Rattle.hist_controller.specs.Told.{name_of, order_told, all_told, past_told, Named, names_apart};
+ghost use Rattle.hist_controller.specs.Orders.{AllBefore, WasOrdered, PutOf};
+ghost use Rattle.hist_controller.specs.Told.{peer_name, order_told, all_told, past_told, Named, are_names_apart};
 ghost use Rattle.hist_controller.specs.Ever.{made, AllNotIdle};
 ghost use Rattle.hist_controller.specs.Table.{Table, first_table, did_table, next_table, seen, Fits, AllFit, EventFits, AllEventsFit};
 
 /// What is kept of a past, one act later, is what the act makes of what was kept.
 pub fn keeps()
-    ensures { (h : List Act) (a : Act) → state_of (a ∷ h) ≡ did (state_of h) a }
+    ensures { (h : List ControllerAct) (a : ControllerAct) → state_of (a ∷ h) ≡ did (state_of h) a }
 {}
 
 /// A step from what is kept of a past gives the one block that the past allows, and leaves what is kept of the past with
 /// that block.
 pub fn steps()
-    ensures acts { (ps : List Peer) (h : List Act) (e : Event) → acts_of ps (state_of h) e ≡ block ps h e }
-    ensures keeps { (ps : List Peer) (h : List Act) (e : Event) → state_of (after h (block ps h e)) ≡ next ps (state_of h) e }
+    ensures acts { (ps : List Peer) (h : List ControllerAct) (e : ControllerEvent) → acts_of ps (state_of h) e ≡ block ps h e }
+    ensures keeps { (ps : List Peer) (h : List ControllerAct) (e : ControllerEvent) → state_of (after h (block ps h e)) ≡ next ps (state_of h) e }
 {}
 
 /// The acts of a whole run are the one history of its events.
 pub fn runs()
-    ensures history { (ps : List Peer) (h : List Act) (es : List Event) → run ps (state_of h) es ≡ history ps h es }
-    ensures past { (h xs ys : List Act) → after h (xs ++ ys) ≡ after (after h xs) ys }
+    ensures history { (ps : List Peer) (h : List ControllerAct) (es : List ControllerEvent) → run ps (state_of h) es ≡ history ps h es }
+    ensures past { (h xs ys : List ControllerAct) → after h (xs ++ ys) ≡ after (after h xs) ys }
 {}
 
 /// Each act of a block may stand after the acts before it, and so each act of a history.
 pub fn follows_the_clauses()
-    ensures block { (ps : List Peer) (h : List Act) (e : Event) → MayAll (length ps) h (block ps h e) }
-    ensures more { (n : ℕ) (h xs : List Act) → IsPast n h → MayAll n h xs → IsPast n (after h xs) }
-    ensures history { (ps : List Peer) (es : List Event) → IsPast (length ps) (after [] (history ps [] es)) }
+    ensures block { (ps : List Peer) (h : List ControllerAct) (e : ControllerEvent) → ControllerMayActAll (length ps) h (block ps h e) }
+    ensures more { (n : ℕ) (h xs : List ControllerAct) → IsControllerPast n h → ControllerMayActAll n h xs → IsControllerPast n (after h xs) }
+    ensures history { (ps : List Peer) (es : List ControllerEvent) → IsControllerPast (length ps) (after [] (history ps [] es)) }
 {}
 
 /// A command is refused by the first reason that applies, once, and no event else.
 pub fn refuses_with_reason()
-    ensures { (ps : List Peer) (h : List Act) (e : Event) → refusals_in (block ps h e) ≡ one_or_none (event_refusal ps h e) }
+    ensures { (ps : List Peer) (h : List ControllerAct) (e : ControllerEvent) → refusals_in (block ps h e) ≡ one_or_none (event_refusal ps h e) }
 {}
 
 /// After each block a direction without a waiting order of its own has no order that is allowed, for any association that
 /// was ever put in it.
 pub fn is_never_idle()
-    ensures block { (ps : List Peer) (h : List Act) (e : Event) → IsPast (length ps) h → NotIdle h → NotIdle (after h (block ps h e)) }
-    ensures history { (ps : List Peer) (es : List Event) → NotIdle (after [] (history ps [] es)) }
-    ensures ever { (n : ℕ) (h : List Act) → IsPast n h → NotIdle h → AllNotIdle h }
+    ensures block { (ps : List Peer) (h : List ControllerAct) (e : ControllerEvent) → IsControllerPast (length ps) h → NotIdle h → NotIdle (after h (block ps h e)) }
+    ensures history { (ps : List Peer) (es : List ControllerEvent) → NotIdle (after [] (history ps [] es)) }
+    ensures ever { (n : ℕ) (h : List ControllerAct) → IsControllerPast n h → NotIdle h → AllNotIdle h }
 {}
 
 /// Each half is put once at most, with the key of its serial.
 pub fn puts_once()
-    ensures once { (n : ℕ) (h : List Act) → IsPast n h → (serial : ℕ) → (times PuttingIn serial h ≤ 1) × (times PuttingOut serial h ≤ 1) }
-    ensures keyed { (n : ℕ) (h : List Act) → IsPast n h → KeysRight h }
+    ensures once { (n : ℕ) (h : List ControllerAct) → IsControllerPast n h → (serial : ℕ) → (times PuttingIn serial h ≤ 1) × (times PuttingOut serial h ≤ 1) }
+    ensures keyed { (n : ℕ) (h : List ControllerAct) → IsControllerPast n h → KeysRight h }
 {}
 
 /// The inbound puts of a direction are no more than its causes, and its outbound puts no more than its inbound ones: at
 /// most two puts for each cause.
 pub fn puts_for_causes()
-    ensures { (n : ℕ) (h : List Act) → IsPast n h → (d : Way) → Has d (directions h) → (in_puts d h ≤ cause_count d h) × (out_puts d h ≤ in_puts d h) }
+    ensures { (n : ℕ) (h : List ControllerAct) → IsControllerPast n h → (d : Way) → Has d (directions h) → (in_puts d h ≤ cause_count d h) × (out_puts d h ≤ in_puts d h) }
 {}
 
 /// A half is ordered removed once at most in each session of its gateway, and not more often than sessions were opened.
 pub fn removes_once()
-    ensures outbound { (n : ℕ) (h : List Act) → IsPast n h → (serial g : ℕ) → (times_now RemovingOut serial g h ≤ 1) × (times_at RemovingOut serial g h ≤ session g h) }
-    ensures inbound { (n : ℕ) (h : List Act) → IsPast n h → (serial g : ℕ) → (times_now RemovingIn serial g h ≤ 1) × (times_at RemovingIn serial g h ≤ session g h) }
+    ensures outbound { (n : ℕ) (h : List ControllerAct) → IsControllerPast n h → (serial g : ℕ) → (times_now RemovingOut serial g h ≤ 1) × (times_at RemovingOut serial g h ≤ openings g h) }
+    ensures inbound { (n : ℕ) (h : List ControllerAct) → IsControllerPast n h → (serial g : ℕ) → (times_now RemovingIn serial g h ≤ 1) × (times_at RemovingIn serial g h ≤ openings g h) }
 {}
 
 /// What stood before each order, in words of orders and answers alone.
 pub fn stands_before()
-    ensures { (n : ℕ) (h : List Act) → IsPast n h → AllBefore h }
+    ensures { (n : ℕ) (h : List ControllerAct) → IsControllerPast n h → AllBefore h }
 {}
 
 /// Inbound halves are put at the receiver and outbound ones at the sender of a direction, after their inbound half; one
 /// serial is of one association; and a half is removed where it was put.
 pub fn has_homes()
-    ensures inbound { (n : ℕ) (h : List Act) → IsPast n h → (g : ℕ) (x : Association) → Given (PutIn x) g h → (g ≡ x.way.receiver) × Has x.way (directions h) × (x.serial ≤ serials h) }
-    ensures outbound { (n : ℕ) (h : List Act) → IsPast n h → (g : ℕ) (x : Association) → Given (PutOut x) g h → (g ≡ x.way.sender) × Given (PutIn x) x.way.receiver h }
-    ensures one { (n : ℕ) (h : List Act) → IsPast n h → (f g : ℕ) (x y : Association) → Given (PutIn x) f h → Given (PutIn y) g h → x.serial ≡ y.serial → x ≡ y }
-    ensures in_removal { (n : ℕ) (h : List Act) → IsPast n h → (g serial : ℕ) → Given (RemoveIn serial) g h → PutOf PutIn serial g h }
-    ensures out_removal { (n : ℕ) (h : List Act) → IsPast n h → (g serial : ℕ) → Given (RemoveOut serial) g h → PutOf PutOut serial g h }
+    ensures inbound { (n : ℕ) (h : List ControllerAct) → IsControllerPast n h → (g : ℕ) (x : Association) → WasOrdered (PutIn x) g h → (g ≡ x.way.receiver) × Has x.way (directions h) × (x.serial ≤ serials h) }
+    ensures outbound { (n : ℕ) (h : List ControllerAct) → IsControllerPast n h → (g : ℕ) (x : Association) → WasOrdered (PutOut x) g h → (g ≡ x.way.sender) × WasOrdered (PutIn x) x.way.receiver h }
+    ensures one { (n : ℕ) (h : List ControllerAct) → IsControllerPast n h → (f g : ℕ) (x y : Association) → WasOrdered (PutIn x) f h → WasOrdered (PutIn y) g h → x.serial ≡ y.serial → x ≡ y }
+    ensures in_removal { (n : ℕ) (h : List ControllerAct) → IsControllerPast n h → (g serial : ℕ) → WasOrdered (RemoveIn serial) g h → PutOf PutIn serial g h }
+    ensures out_removal { (n : ℕ) (h : List ControllerAct) → IsControllerPast n h → (g serial : ℕ) → WasOrdered (RemoveOut serial) g h → PutOf PutOut serial g h }
 {}
 
 /// The two gateways of a direction are known and differ.
 pub fn knows_its_gateways()
-    ensures { (n : ℕ) (h : List Act) → IsPast n h → (d : Way) → Has d (directions h) → (d.sender < n) × (d.receiver < n) × ((d.sender == d.receiver) ≡ false) }
+    ensures { (n : ℕ) (h : List ControllerAct) → IsControllerPast n h → (d : Way) → Has d (directions h) → (d.sender < n) × (d.receiver < n) × ((d.sender == d.receiver) ≡ false) }
 {}
 
 /// No two accepted keys have one AES key, whether they were used or not; each has an AES key and a salt; there are no more
 /// of them than the limit says, and no more serials than keys.
 pub fn accepts_fresh_keys()
-    ensures apart { (n : ℕ) (h : List Act) → IsPast n h → (i j : ℕ) (a b : List ℕ) → place i (keys h) ≡ Some a → place j (keys h) ≡ Some b → aes_part a ≡ aes_part b → i ≡ j }
-    ensures long { (n : ℕ) (h : List Act) → IsPast n h → list_all (λ k. is_key_length (length k)) (keys h) ≡ true }
-    ensures few { (n : ℕ) (h : List Act) → IsPast n h → (serials h ≤ length (keys h)) × (length (keys h) ≤ 1048576) }
+    ensures apart { (n : ℕ) (h : List ControllerAct) → IsControllerPast n h → (i j : ℕ) (a b : List ℕ) → place i (keys h) ≡ Some a → place j (keys h) ≡ Some b → aes_part a ≡ aes_part b → i ≡ j }
+    ensures long { (n : ℕ) (h : List ControllerAct) → IsControllerPast n h → list_all (λ k. is_key_length (length k)) (keys h) ≡ true }
+    ensures few { (n : ℕ) (h : List ControllerAct) → IsControllerPast n h → (serials h ≤ length (keys h)) × (length (keys h) ≤ 1048576) }
 {}
 
 /// Different halves have different names; and where no two peers have one name, a name tells the number.
@@ -110,48 +111,48 @@ pub fn names_differ()
     ensures inbound { (m n : ℕ) → m < 2 ^ 64 → n < 2 ^ 64 → in_name m ≡ in_name n → m ≡ n }
     ensures outbound { (m n : ℕ) → m < 2 ^ 64 → n < 2 ^ 64 → out_name m ≡ out_name n → m ≡ n }
     ensures both { (m n : ℕ) → in_name m ≡ out_name n → ⊥ }
-    ensures peers { (ps : List Peer) → names_apart ps ≡ true → Named ps }
-    ensures number { (ps : List Peer) → names_apart ps ≡ true → (g : ℕ) → g < length ps → number_of (name_of ps g) ps ≡ g }
+    ensures peers { (ps : List Peer) → are_names_apart ps ≡ true → Named ps }
+    ensures number { (ps : List Peer) → are_names_apart ps ≡ true → (g : ℕ) → g < length ps → peer_number (peer_name ps g) ps ≡ g }
 {}
 
 /// An ordered list of policies is the last one accepted for its gateway, so the lists never go back.
 pub fn orders_newest_lists()
-    ensures { (n : ℕ) (h : List Act) → IsPast n h → ListsRight h }
+    ensures { (n : ℕ) (h : List ControllerAct) → IsControllerPast n h → ListsRight h }
 {}
 
 /// Where each put is answered with 201 or refused, a direction has two associations left at most, and so a gateway 4,096
 /// halves; and no more tunnels count than the limit says.
 pub fn has_few_halves()
-    ensures left { (n : ℕ) (h : List Act) → IsPast n h → PlainAnswers h → (d : Way) → length (left d h) ≤ 2 }
-    ensures tunnels { (n : ℕ) (h : List Act) → IsPast n h → tunnels h (directions h) ≤ 1024 }
-    ensures halves { (n : ℕ) (h : List Act) → IsPast n h → PlainAnswers h → (g : ℕ) → halves g h (directions h) ≤ 4096 }
+    ensures left { (n : ℕ) (h : List ControllerAct) → IsControllerPast n h → PlainAnswers h → (d : Way) → length (left d h) ≤ 2 }
+    ensures tunnels { (n : ℕ) (h : List ControllerAct) → IsControllerPast n h → tunnels h (directions h) ≤ 1024 }
+    ensures halves { (n : ℕ) (h : List ControllerAct) → IsControllerPast n h → PlainAnswers h → (g : ℕ) → half_count g h (directions h) ≤ 4096 }
 {}
 
 /// The order that is answered is the one with the number and session of the answer; and the causes that speak of the
 /// associations left say the same of all that were ever put.
 pub fn reads_plainly()
-    ensures number { (p g s n : ℕ) (a : Answer) (h : List Act) → IsPast p (Answered g s n a ∷ h) → numbered g s n h ≡ oldest (queue g h) }
-    ensures progress { (n : ℕ) (h : List Act) → IsPast n h → (d : Way) → list_any (in_progress h) (made d h) ≡ list_any (in_progress h) (left d h) }
-    ensures reading { (n : ℕ) (h : List Act) → IsPast n h → (d : Way) (g : ℕ) (names : List (List ℕ)) → list_any (lacks h d g names) (made d h) ≡ list_any (lacks h d g names) (left d h) }
+    ensures number { (p g s n : ℕ) (a : Answer) (h : List ControllerAct) → IsControllerPast p (Answered g s n a ∷ h) → numbered g s n h ≡ oldest (queue g h) }
+    ensures progress { (n : ℕ) (h : List ControllerAct) → IsControllerPast n h → (d : Way) → list_any (is_in_progress h) (made d h) ≡ list_any (is_in_progress h) (left d h) }
+    ensures reading { (n : ℕ) (h : List ControllerAct) → IsControllerPast n h → (d : Way) (g : ℕ) (names : List (List ℕ)) → list_any (is_unseen h d g names) (made d h) ≡ list_any (is_unseen h d g names) (left d h) }
 {}
 
 /// A list of gateways can stand for what is kept, where each event speaks of a known gateway.
 pub fn fits_a_table()
     ensures first { (n : ℕ) → seen (first_table n) ≡ state_of [] }
-    ensures act { (t : Table) (a : Act) → Fits (length t.gateways) a → seen (did_table t a) ≡ did (seen t) a }
-    ensures step { (ps : List Peer) (t : Table) (h : List Act) (e : Event) → IsPast (length ps) h → AllFit (length ps) h → length t.gateways ≡ length ps → seen t ≡ state_of h → EventFits (length ps) e →
+    ensures act { (t : Table) (a : ControllerAct) → Fits (length t.gateways) a → seen (did_table t a) ≡ did (seen t) a }
+    ensures step { (ps : List Peer) (t : Table) (h : List ControllerAct) (e : ControllerEvent) → IsControllerPast (length ps) h → AllFit (length ps) h → length t.gateways ≡ length ps → seen t ≡ state_of h → EventFits (length ps) e →
         (seen (next_table ps t e) ≡ state_of (after h (block ps h e))) × (length (next_table ps t e).gateways ≡ length ps) × AllFit (length ps) (after h (block ps h e)) }
-    ensures history { (ps : List Peer) (es : List Event) → AllEventsFit (length ps) es → AllFit (length ps) (after [] (history ps [] es)) }
+    ensures history { (ps : List Peer) (es : List ControllerEvent) → AllEventsFit (length ps) es → AllFit (length ps) (after [] (history ps [] es)) }
 {}
 
 /// The controller's words of its sessions say the same as the words of the transcript in which its acts are told, where the
 /// peers have different names.
 pub fn tells_a_transcript()
-    ensures past { (ps : List Peer) (h xs : List Act) → past_told ps (after h xs) ≡ happened.after (past_told ps h) (all_told ps xs) }
-    ensures openings { (ps : List Peer) (h : List Act) → Named ps → AllFit (length ps) h → (g : ℕ) → g < length ps → sessions.openings (name_of ps g) (past_told ps h) ≡ session g h }
-    ensures open { (ps : List Peer) (h : List Act) → Named ps → AllFit (length ps) h → (g : ℕ) → g < length ps → sessions.is_open (name_of ps g) (past_told ps h) ≡ is_open g h }
-    ensures orders { (ps : List Peer) (n : ℕ) (h : List Act) → IsPast n h → Named ps → AllFit (length ps) h → (g : ℕ) → g < length ps → sessions.orders (name_of ps g) (session g h) (past_told ps h) ≡ orders g h }
-    ensures answered { (ps : List Peer) (n : ℕ) (h : List Act) → IsPast n h → Named ps → AllFit (length ps) h → (g : ℕ) → g < length ps → sessions.answered (name_of ps g) (session g h) (past_told ps h) ≡ answers g h }
-    ensures read { (ps : List Peer) (n : ℕ) (h : List Act) → IsPast n h → Named ps → AllFit (length ps) h → (g : ℕ) → g < length ps → sessions.is_read (name_of ps g) (past_told ps h) ≡ ready g h }
-    ensures order { (ps : List Peer) (h : List Act) → Named ps → AllFit (length ps) h → (g s n : ℕ) → g < length ps → sessions.order_at (name_of ps g) s n (past_told ps h) ≡ option_map (order_told ps) (numbered g s n h) }
+    ensures past { (ps : List Peer) (h xs : List ControllerAct) → past_told ps (after h xs) ≡ happened.after (past_told ps h) (all_told ps xs) }
+    ensures openings { (ps : List Peer) (h : List ControllerAct) → Named ps → AllFit (length ps) h → (g : ℕ) → g < length ps → sessions.openings (peer_name ps g) (past_told ps h) ≡ openings g h }
+    ensures open { (ps : List Peer) (h : List ControllerAct) → Named ps → AllFit (length ps) h → (g : ℕ) → g < length ps → sessions.is_open (peer_name ps g) (past_told ps h) ≡ is_open g h }
+    ensures orders { (ps : List Peer) (n : ℕ) (h : List ControllerAct) → IsControllerPast n h → Named ps → AllFit (length ps) h → (g : ℕ) → g < length ps → sessions.orders (peer_name ps g) (openings g h) (past_told ps h) ≡ orders g h }
+    ensures answered { (ps : List Peer) (n : ℕ) (h : List ControllerAct) → IsControllerPast n h → Named ps → AllFit (length ps) h → (g : ℕ) → g < length ps → sessions.answered (peer_name ps g) (openings g h) (past_told ps h) ≡ answered g h }
+    ensures read { (ps : List Peer) (n : ℕ) (h : List ControllerAct) → IsControllerPast n h → Named ps → AllFit (length ps) h → (g : ℕ) → g < length ps → sessions.is_read (peer_name ps g) (past_told ps h) ≡ is_read g h }
+    ensures order { (ps : List Peer) (h : List ControllerAct) → Named ps → AllFit (length ps) h → (g s n : ℕ) → g < length ps → sessions.order_at (peer_name ps g) s n (past_told ps h) ≡ option_map (order_told ps) (numbered g s n h) }
 {}

@@ -28,17 +28,17 @@ use Rattle.hist_acts.specs.declared.act.Act.TheVariants as acts
 use Rattle.hist_acts.specs.Past.{force, clock}
 use Rattle.hist_acts.specs.Sessions as sessions
 use Rattle.hist_halves.specs.Sealed.{by_spi, number_of}
-use Rattle.hist_halves.specs.Halves.{live, sent, taken}
+use Rattle.hist_halves.specs.Halves.{live, sent, numbers_taken}
 use Rattle.hist_gateway.specs.Uses.{counts}
-use Rattle.hist_gateway.specs.Stands.{acquire_stands, overflow_given, soft_given, bad_spi_stands}
+use Rattle.hist_gateway.specs.Stands.{does_acquire_stand, was_overflow_given, was_soft_given, does_bad_spi_stand}
 use Rattle.hist_gateway.specs.Rows.{tree_of}
 use Rattle.hist_gateway.specs.Datagram.{datagram, flow_of}
 use Rattle.hist_gateway.specs.Look.{is_reached, expiry, given_by, goings, expiries, look, tells}
-use Rattle.hist_gateway.specs.Let.{newest, unless, sends, by_half, by_action, by_entry, by_view, let_acts}
+use Rattle.hist_gateway.specs.Let.{newest, unless, send_acts, let_by_half, let_by_action, let_by_entry, let_by_view, let_acts}
 use Rattle.hist_gateway.specs.Arrive as arrive
 use Rattle.hist_gateway.specs.Handle.{Fault, answer_of, change_acts, requests}
 use Rattle.hist_gateway.specs.Block.{Gateway, Let, Arrive, Clock, Handle, gw_block}
-use Rattle.hist_gateway.specs.Answers.{answers_let, answers_arrival, is_answer, is_answered_by, has_one_answer}
+use Rattle.hist_gateway.specs.Answers.{is_let_answer, is_arrival_answer, is_answer, is_answered_by, has_one_answer}
 
 abbrev some : List Act → Bool
 some xs = list_any is_answer xs
@@ -71,8 +71,8 @@ some-goings g h (e ∷ es) =
 some-expiries : (g : List ℕ) (h : List Act) (es : List SadEntry) → some (expiries g h es) ≡ false
 some-expiries g h [] = refl
 some-expiries g h (e ∷ es) =
-    let ns : List Notice = expiry e (counts g e.name h) (soft_given g e.name h) in
-    some-append (given_by g (sessions.taken g h) ns) (expiries g h es) (some-given g (sessions.taken g h) ns) (some-expiries g h es)
+    let ns : List Notice = expiry e (counts g e.name h) (was_soft_given g e.name h) in
+    some-append (given_by g (sessions.session_taken g h) ns) (expiries g h es) (some-given g (sessions.session_taken g h) ns) (some-expiries g h es)
 
 pub some-look : (g : List ℕ) (h : List Act) (es : List SadEntry) → some (look g h es) ≡ false
 some-look g h es = some-append (goings g h es) (expiries g h es) (some-goings g h es) (some-expiries g h es)
@@ -86,91 +86,91 @@ pick : (fits : Act → Bool) (b : Bool) (xs ys : List Act) → is_answered_by fi
 pick fits true xs ys p q = p
 pick fits false xs ys p q = q
 
-out-half : (q : ℕ) (g o : List ℕ) (h : List Act) (v : Packet) (p : SpdEntry) (found : Option SadEntry) → is_answered_by answers_let (by_half g q h o v p found) ≡ true
+out-half : (q : ℕ) (g o : List ℕ) (h : List Act) (v : Packet) (p : SpdEntry) (found : Option SadEntry) → is_answered_by is_let_answer (let_by_half g q h o v p found) ≡ true
 out-half q g o h v p None =
-    let ns : List Act = unless (acquire_stands g p.name h) (tells g h (notices.Acquire p.name (flow_of v))) in
-    first-of answers_let (acts.Drop g why.NoSa) ns refl (some-unless (acquire_stands g p.name h) (tells g h (notices.Acquire p.name (flow_of v))) refl)
+    let ns : List Act = unless (does_acquire_stand g p.name h) (tells g h (notices.Acquire p.name (flow_of v))) in
+    first-of is_let_answer (acts.Drop g why.NoSa) ns refl (some-unless (does_acquire_stand g p.name h) (tells g h (notices.Acquire p.name (flow_of v))) refl)
 out-half q g o h v p (Some e) =
-    let ns : List Act = unless (overflow_given g e.name h) (tells g h (notices.SeqOverflow e.name)) in
+    let ns : List Act = unless (was_overflow_given g e.name h) (tells g h (notices.SeqOverflow e.name)) in
     let n : ℕ = sent g e.name h + 1 in
     let a : Act = acts.Sent g e.name n (datagram e n v o) in
-    pick answers_let (nat_le q (sent g e.name h)) (acts.Drop g why.SeqLimit ∷ ns) (sends g h e n (datagram e n v o))
-    (first-of answers_let (acts.Drop g why.SeqLimit) ns refl (some-unless (overflow_given g e.name h) (tells g h (notices.SeqOverflow e.name)) refl))
-    (first-of answers_let a (look g (a ∷ h) (e ∷ [])) refl (some-look g (a ∷ h) (e ∷ [])))
+    pick is_let_answer (nat_le q (sent g e.name h)) (acts.Drop g why.SeqLimit ∷ ns) (send_acts g h e n (datagram e n v o))
+    (first-of is_let_answer (acts.Drop g why.SeqLimit) ns refl (some-unless (was_overflow_given g e.name h) (tells g h (notices.SeqOverflow e.name)) refl))
+    (first-of is_let_answer a (look g (a ∷ h) (e ∷ [])) refl (some-look g (a ∷ h) (e ∷ [])))
 
-out-action : (q : ℕ) (g o : List ℕ) (h : List Act) (v : Packet) (p : SpdEntry) (a : Action) → is_answered_by answers_let (by_action g q h o v p a) ≡ true
+out-action : (q : ℕ) (g o : List ℕ) (h : List Act) (v : Packet) (p : SpdEntry) (a : Action) → is_answered_by is_let_answer (let_by_action g q h o v p a) ≡ true
 out-action q g o h v p actions.Protect = out-half q g o h v p (newest p.reqid v (live g h))
 out-action q g o h v p actions.Bypass = refl
 out-action q g o h v p actions.Discard = refl
 
-out-entry : (q : ℕ) (g o : List ℕ) (h : List Act) (v : Packet) (p : Option SpdEntry) → is_answered_by answers_let (by_entry g q h o v p) ≡ true
+out-entry : (q : ℕ) (g o : List ℕ) (h : List Act) (v : Packet) (p : Option SpdEntry) → is_answered_by is_let_answer (let_by_entry g q h o v p) ≡ true
 out-entry q g o h v None = refl
 out-entry q g o h v (Some p) = out-action q g o h v p p.action
 
-out-view : (q : ℕ) (g o : List ℕ) (h : List Act) (r : Result Packet NotPacket) → is_answered_by answers_let (by_view g q h o r) ≡ true
+out-view : (q : ℕ) (g o : List ℕ) (h : List Act) (r : Result Packet NotPacket) → is_answered_by is_let_answer (let_by_view g q h o r) ≡ true
 out-view q g o h (Err fault) = refl
 out-view q g o h (Ok v) =
-    pick answers_let (nat_lt 65000 (length o)) (acts.Drop g why.TooLong ∷ []) (by_entry g q h o v (first_entry (force g h) Out v)) refl
+    pick is_let_answer (nat_lt 65000 (length o)) (acts.Drop g why.TooLong ∷ []) (let_by_entry g q h o v (first_entry (force g h) Out v)) refl
     (out-entry q g o h v (first_entry (force g h) Out v))
 
-pub one-let : (c : Gateway) (h : List Act) (o : List ℕ) → has_one_answer answers_let (gw_block c h (Let o)) ≡ true
+pub one-let : (c : Gateway) (h : List Act) (o : List ℕ) → has_one_answer is_let_answer (gw_block c h (Let o)) ≡ true
 unfolding let_acts
 one-let c h o = out-view c.seq_last c.name o (acts.Let c.name o ∷ h) (view_of o)
 
 -- ---- a datagram from outside
 
-fits-if : (b : Bool) (x y : Act) → answers_arrival x ≡ true → answers_arrival y ≡ true → answers_arrival (if b then x else y) ≡ true
+fits-if : (b : Bool) (x y : Act) → is_arrival_answer x ≡ true → is_arrival_answer y ≡ true → is_arrival_answer (if b then x else y) ≡ true
 fits-if true x y p q = p
 fits-if false x y p q = q
 
-fits-inner : (g : List ℕ) (e : SadEntry) (n next : ℕ) (p : List ℕ) (r : Result Packet NotPacket) → answers_arrival (arrive.by_inner g e n next p r) ≡ true
+fits-inner : (g : List ℕ) (e : SadEntry) (n next : ℕ) (p : List ℕ) (r : Result Packet NotPacket) → is_arrival_answer (arrive.by_inner g e n next p r) ≡ true
 fits-inner g e n next p (Err fault) = refl
 fits-inner g e n next p (Ok v) =
     fits-if (not (arrive.is_told_version next p)) (acts.Drop g why.Inner) (if holds_packet e.selector In v then acts.Gave g e.name n p else acts.Drop g why.Selector) refl
     (fits-if (holds_packet e.selector In v) (acts.Gave g e.name n p) (acts.Drop g why.Selector) refl refl)
 
-fits-packet : (g : List ℕ) (e : SadEntry) (n : ℕ) (p : Option esp.Packet) → answers_arrival (arrive.by_packet g e n p) ≡ true
+fits-packet : (g : List ℕ) (e : SadEntry) (n : ℕ) (p : Option esp.Packet) → is_arrival_answer (arrive.by_packet g e n p) ≡ true
 fits-packet g e n None = refl
 fits-packet g e n (Some p) = fits-if (p.next == 59) (acts.Drop g why.Dummy) (arrive.by_inner g e n p.next p.octets (view_of p.octets)) refl (fits-inner g e n p.next p.octets (view_of p.octets))
 
-in-text : (g : List ℕ) (h : List Act) (e : SadEntry) (n : ℕ) (x : Option (List ℕ)) → is_answered_by answers_arrival (arrive.by_text g h e n x) ≡ true
+in-text : (g : List ℕ) (h : List Act) (e : SadEntry) (n : ℕ) (x : Option (List ℕ)) → is_answered_by is_arrival_answer (arrive.by_text g h e n x) ≡ true
 in-text g h e n None = refl
 in-text g h e n (Some x) =
     let a : Act = arrive.by_packet g e n (esp.packet_of x) in
-    first-of answers_arrival a (look g (a ∷ h) (e ∷ [])) (fits-packet g e n (esp.packet_of x)) (some-look g (a ∷ h) (e ∷ []))
+    first-of is_arrival_answer a (look g (a ∷ h) (e ∷ [])) (fits-packet g e n (esp.packet_of x)) (some-look g (a ∷ h) (e ∷ []))
 
-in-verdict : (g b : List ℕ) (h : List Act) (e : SadEntry) (n : ℕ) (w : Verdict) → is_answered_by answers_arrival (arrive.by_verdict g h b e n w) ≡ true
+in-verdict : (g b : List ℕ) (h : List Act) (e : SadEntry) (n : ℕ) (w : Verdict) → is_answered_by is_arrival_answer (arrive.by_verdict g h b e n w) ≡ true
 in-verdict g b h e n verdicts.Zero = refl
 in-verdict g b h e n verdicts.Old = refl
 in-verdict g b h e n verdicts.Seen = refl
 in-verdict g b h e n verdicts.Fresh = in-text g h e n (esp.opened (keying e.spi e.key) b)
 
-in-half : (g b : List ℕ) (h : List Act) (found : Option SadEntry) → is_answered_by answers_arrival (arrive.by_half g h b found) ≡ true
+in-half : (g b : List ℕ) (h : List Act) (found : Option SadEntry) → is_answered_by is_arrival_answer (arrive.arrive_by_half g h b found) ≡ true
 in-half g b h None =
-    let ns : List Act = unless (bad_spi_stands g (spi_of b) h) (tells g h (notices.BadSpi (spi_of b))) in
-    first-of answers_arrival (acts.Drop g why.BadSpi) ns refl (some-unless (bad_spi_stands g (spi_of b) h) (tells g h (notices.BadSpi (spi_of b))) refl)
+    let ns : List Act = unless (does_bad_spi_stand g (spi_of b) h) (tells g h (notices.BadSpi (spi_of b))) in
+    first-of is_arrival_answer (acts.Drop g why.BadSpi) ns refl (some-unless (does_bad_spi_stand g (spi_of b) h) (tells g h (notices.BadSpi (spi_of b))) refl)
 in-half g b h (Some e) =
-    let n : ℕ = number_of e (taken g e.name h) b in
-    in-verdict g b h e n (verdict_over e.window (taken g e.name h) n)
+    let n : ℕ = number_of e (numbers_taken g e.name h) b in
+    in-verdict g b h e n (verdict_over e.window (numbers_taken g e.name h) n)
 
-in-action : (g o : List ℕ) (a : Action) → answers_arrival (arrive.by_action g o a) ≡ true
+in-action : (g o : List ℕ) (a : Action) → is_arrival_answer (arrive.arrive_by_action g o a) ≡ true
 in-action g o actions.Protect = refl
 in-action g o actions.Bypass = refl
 in-action g o actions.Discard = refl
 
-in-entry : (g o : List ℕ) (p : Option SpdEntry) → answers_arrival (arrive.by_entry g o p) ≡ true
+in-entry : (g o : List ℕ) (p : Option SpdEntry) → is_arrival_answer (arrive.arrive_by_entry g o p) ≡ true
 in-entry g o None = refl
 in-entry g o (Some p) = in-action g o p.action
 
-in-view : (g o : List ℕ) (own : Addr) (h : List Act) (r : Result Packet NotPacket) → is_answered_by answers_arrival (arrive.by_view g own h o r) ≡ true
+in-view : (g o : List ℕ) (own : Addr) (h : List Act) (r : Result Packet NotPacket) → is_answered_by is_arrival_answer (arrive.arrive_by_view g own h o r) ≡ true
 in-view g o own h (Err fault) = refl
 in-view g o own h (Ok v) =
-    pick answers_arrival (arrive.is_sealed_for own v) (arrive.esp_acts g h v.payload) (arrive.by_entry g o (first_entry (force g h) In v) ∷ [])
-    (pick answers_arrival (nat_lt (length v.payload) 34) (arrive.drops g why.Short) (arrive.by_half g h v.payload (by_spi (spi_of v.payload) (live g h))) refl
+    pick is_arrival_answer (arrive.is_sealed_for own v) (arrive.esp_acts g h v.payload) (arrive.arrive_by_entry g o (first_entry (force g h) In v) ∷ [])
+    (pick is_arrival_answer (nat_lt (length v.payload) 34) (arrive.drops g why.Short) (arrive.arrive_by_half g h v.payload (by_spi (spi_of v.payload) (live g h))) refl
     (in-half g v.payload h (by_spi (spi_of v.payload) (live g h))))
-    (first-of answers_arrival (arrive.by_entry g o (first_entry (force g h) In v)) [] (in-entry g o (first_entry (force g h) In v)) refl)
+    (first-of is_arrival_answer (arrive.arrive_by_entry g o (first_entry (force g h) In v)) [] (in-entry g o (first_entry (force g h) In v)) refl)
 
-pub one-arrive : (c : Gateway) (h : List Act) (o : List ℕ) → has_one_answer answers_arrival (gw_block c h (Arrive o)) ≡ true
+pub one-arrive : (c : Gateway) (h : List Act) (o : List ℕ) → has_one_answer is_arrival_answer (gw_block c h (Arrive o)) ≡ true
 unfolding arrive.arrive_acts
 one-arrive c h o = in-view c.name o c.address (acts.Arrived c.name o ∷ h) (view_of o)
 
@@ -190,5 +190,5 @@ none-change g r (changes.Gone name) = refl
 pub none-handle : (c : Gateway) (h : List Act) (request : Result Ask Fault) → list_any is_answer (gw_block c h (Handle request)) ≡ false
 none-handle c h (Ok ask) =
     let r : table.Outcome = table.reply (tree_of c.name h) ask in
-    some-append (change_acts c.name r r.change) (acts.Handled c.name (sessions.taken c.name h) (requests c.name h + 1) (answer_of r) ∷ []) (none-change c.name r r.change) refl
+    some-append (change_acts c.name r r.change) (acts.Handled c.name (sessions.session_taken c.name h) (requests c.name h + 1) (answer_of r) ∷ []) (none-change c.name r r.change) refl
 none-handle c h (Err fault) = refl

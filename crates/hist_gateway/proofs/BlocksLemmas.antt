@@ -28,16 +28,16 @@ use Rattle.hist_acts.specs.declared.act.Act.TheVariants as acts
 use Rattle.hist_acts.specs.Past.{force, clock}
 use Rattle.hist_acts.specs.Sessions as sessions
 use Rattle.hist_halves.specs.Sealed.{by_spi, esp_of, payload_of, is_inbound, is_opened}
-use Rattle.hist_halves.specs.Halves.{live, sent, taken}
+use Rattle.hist_halves.specs.Halves.{live, sent, numbers_taken}
 use Rattle.hist_gateway.specs.Uses.{arrival, octets_in, counts, is_for}
-use Rattle.hist_gateway.specs.Stands.{overflow_given, soft_given}
+use Rattle.hist_gateway.specs.Stands.{was_overflow_given, was_soft_given}
 use Rattle.hist_gateway.specs.Rows.{row_of, tree_of}
 use Rattle.hist_gateway.specs.Datagram.{datagram, flow_of}
 use Rattle.hist_gateway.specs.Look.{is_reached, expiry, given_by, goings, expiries, look, tells}
-use Rattle.hist_gateway.specs.Let.{seals, newer, newest, unless, sends, by_half, by_action, by_entry, by_view, let_acts}
+use Rattle.hist_gateway.specs.Let.{may_seal, newer, newest, unless, send_acts, let_by_half, let_by_action, let_by_entry, let_by_view, let_acts}
 use Rattle.hist_gateway.specs.Arrive as arrive
 use Rattle.hist_gateway.specs.Handle.{Fault, handle_acts, reply_acts, requests}
-use Rattle.hist_gateway.specs.Block.{Gateway, Event, Let, Arrive, Clock, Handle, Session_taken, gw_block, clock_acts}
+use Rattle.hist_gateway.specs.Block.{Gateway, GatewayEvent, Let, Arrive, Clock, Handle, Session_taken, gw_block, clock_acts}
 use Rattle.hist_gateway.specs.State.{Half, half_of, state_of, sent_under, given_under, opened_under, send, take_number}
 use Rattle.hist_gateway.specs.Uses.{number_in}
 use Rattle.hist_gateway.specs.Machine.{goings_of, expiries_of, look_of, newer_of, newest_of, sends_of, out_by_half, out_by_action, out_by_entry, out_by_view, uses_of, in_by_text, in_by_verdict, in_by_half, half_by_spi, in_esp, in_by_view, row_from, tree_from, handles, ticks, acts_of}
@@ -50,11 +50,11 @@ goings-is : (g : List ℕ) (h : List Act) (es : List SadEntry) → goings_of g (
 goings-is g h [] = refl
 goings-is g h (e ∷ es) = ap (λ t. if is_reached e.hard (counts g e.name h) then acts.Gone g e.name gone.Hard ∷ t else t) (goings-is g h es)
 
-expiries-is : (g : List ℕ) (h : List Act) (es : List SadEntry) → expiries_of g (sessions.taken g h) (clock h) (map (half_of g h) es) ≡ expiries g h es
+expiries-is : (g : List ℕ) (h : List Act) (es : List SadEntry) → expiries_of g (sessions.session_taken g h) (clock h) (map (half_of g h) es) ≡ expiries g h es
 expiries-is g h [] = refl
-expiries-is g h (e ∷ es) = ap (λ t. given_by g (sessions.taken g h) (expiry e (counts g e.name h) (soft_given g e.name h)) ++ t) (expiries-is g h es)
+expiries-is g h (e ∷ es) = ap (λ t. given_by g (sessions.session_taken g h) (expiry e (counts g e.name h) (was_soft_given g e.name h)) ++ t) (expiries-is g h es)
 
-pub look-is : (g : List ℕ) (h : List Act) (es : List SadEntry) → look_of g (sessions.taken g h) (clock h) (map (half_of g h) es) ≡ look g h es
+pub look-is : (g : List ℕ) (h : List Act) (es : List SadEntry) → look_of g (sessions.session_taken g h) (clock h) (map (half_of g h) es) ≡ look g h es
 look-is g h es = rw (goings-is g h es, expiries-is g h es) refl
 
 -- ---- a packet from inside
@@ -66,7 +66,7 @@ newer-is f g h r v e false = refl
 
 newest-step : (g : List ℕ) (h : List Act) (r : ℕ) (v : Packet) (e : SadEntry) (found : Option SadEntry) →
     newer_of r v (half_of g h e) (option_map (half_of g h) found) ≡ option_map (half_of g h) (newer r v e found)
-newest-step g h r v e None = newer-is (half_of g h) g h r v e (seals r v e)
+newest-step g h r v e None = newer-is (half_of g h) g h r v e (may_seal r v e)
 newest-step g h r v e (Some x) = refl
 
 newest-is : (g : List ℕ) (h : List Act) (r : ℕ) (v : Packet) (es : List SadEntry) →
@@ -74,33 +74,33 @@ newest-is : (g : List ℕ) (h : List Act) (r : ℕ) (v : Packet) (es : List SadE
 newest-is g h r v [] = refl
 newest-is g h r v (e ∷ es) = rw (newest-is g h r v es) (newest-step g h r v e (newest r v es))
 
-sends-is : (g : List ℕ) (h : List Act) (e : SadEntry) (n : ℕ) (d : List ℕ) → sends_of g (state_of g h) (half_of g h e) n d ≡ sends g h e n d
+sends-is : (g : List ℕ) (h : List Act) (e : SadEntry) (n : ℕ) (d : List ℕ) → sends_of g (state_of g h) (half_of g h e) n d ≡ send_acts g h e n d
 sends-is g h e n d =
     let a : Act = acts.Sent g e.name n d in
     let own = sent-split g g e.name d n h e true (same-refl g) (same-refl e.name) in
     let under : sent_under e.name (clock h) (octets_in (Some d)) (half_of g h e) ≡ send (clock h) (octets_in (Some d)) (half_of g h e) = rw (same-refl e.name) refl in
     let l = look-is g (a ∷ h) (e ∷ []) in
-    let p = ap (λ x. a ∷ look_of g (sessions.taken g h) (clock h) (x ∷ [])) (own ∙ under) in
+    let p = ap (λ x. a ∷ look_of g (sessions.session_taken g h) (clock h) (x ∷ [])) (own ∙ under) in
     sym p ∙ ap (λ t. a ∷ t) l
 
 out-half : (g o : List ℕ) (q : ℕ) (h : List Act) (v : Packet) (p : SpdEntry) (found : Option SadEntry) →
-    out_by_half g q (state_of g h) o v p (option_map (half_of g h) found) ≡ by_half g q h o v p found
+    out_by_half g q (state_of g h) o v p (option_map (half_of g h) found) ≡ let_by_half g q h o v p found
 out-half g o q h v p None =
     ap (λ b. acts.Drop g why.NoSa ∷ unless b (tells g h (notices.Acquire p.name (flow_of v)))) (acquires-is g p.name h)
 out-half g o q h v p (Some e) =
-    ap (λ t. if nat_le q (sent g e.name h) then acts.Drop g why.SeqLimit ∷ unless (overflow_given g e.name h) (tells g h (notices.SeqOverflow e.name)) else t)
+    ap (λ t. if nat_le q (sent g e.name h) then acts.Drop g why.SeqLimit ∷ unless (was_overflow_given g e.name h) (tells g h (notices.SeqOverflow e.name)) else t)
     (sends-is g h e (sent g e.name h + 1) (datagram e (sent g e.name h + 1) v o))
 
-out-action : (g o : List ℕ) (q : ℕ) (h : List Act) (v : Packet) (p : SpdEntry) (a : Action) → out_by_action g q (state_of g h) o v p a ≡ by_action g q h o v p a
+out-action : (g o : List ℕ) (q : ℕ) (h : List Act) (v : Packet) (p : SpdEntry) (a : Action) → out_by_action g q (state_of g h) o v p a ≡ let_by_action g q h o v p a
 out-action g o q h v p actions.Protect = rw (newest-is g h p.reqid v (live g h)) (out-half g o q h v p (newest p.reqid v (live g h)))
 out-action g o q h v p actions.Bypass = refl
 out-action g o q h v p actions.Discard = refl
 
-out-entry : (g o : List ℕ) (q : ℕ) (h : List Act) (v : Packet) (p : Option SpdEntry) → out_by_entry g q (state_of g h) o v p ≡ by_entry g q h o v p
+out-entry : (g o : List ℕ) (q : ℕ) (h : List Act) (v : Packet) (p : Option SpdEntry) → out_by_entry g q (state_of g h) o v p ≡ let_by_entry g q h o v p
 out-entry g o q h v None = refl
 out-entry g o q h v (Some p) = out-action g o q h v p p.action
 
-out-view : (g o : List ℕ) (q : ℕ) (h : List Act) (r : Result Packet NotPacket) → out_by_view g q (state_of g h) o r ≡ by_view g q h o r
+out-view : (g o : List ℕ) (q : ℕ) (h : List Act) (r : Result Packet NotPacket) → out_by_view g q (state_of g h) o r ≡ let_by_view g q h o r
 out-view g o q h (Err fault) = refl
 out-view g o q h (Ok v) =
     ap (λ t. if nat_lt 65000 (length o) then acts.Drop g why.TooLong ∷ [] else t) (out-entry g o q h v (first_entry (force g h) Out v))
@@ -115,31 +115,31 @@ let-is g o q h = out-view g o q (acts.Let g o ∷ h) (view_of o)
 abbrev UseAct : List ℕ → SadEntry → ℕ → Act → Type 0
 UseAct g e n a = ((p : List ℕ) × (a ≡ acts.Gave g e.name n p)) ⊎ ((w : DropWhy) × (a ≡ acts.Drop g w) × (is_opened w ≡ true))
 
-look-after : (g o : List ℕ) (h : List Act) (e : SadEntry) (n : ℕ) (a : Act) → sessions.taken g (a ∷ h) ≡ sessions.taken g h → clock (a ∷ h) ≡ clock h →
-    look_of g (sessions.taken g h) (clock h) (half_of g (a ∷ h) e ∷ []) ≡ look_of g (sessions.taken g h) (clock h) (take_number (clock h) (octets_in (Some o)) n (half_of g h e) ∷ []) →
-    uses_of g (state_of g h) o (half_of g h e) n a ≡ arrive.uses g h e a
+look-after : (g o : List ℕ) (h : List Act) (e : SadEntry) (n : ℕ) (a : Act) → sessions.session_taken g (a ∷ h) ≡ sessions.session_taken g h → clock (a ∷ h) ≡ clock h →
+    look_of g (sessions.session_taken g h) (clock h) (half_of g (a ∷ h) e ∷ []) ≡ look_of g (sessions.session_taken g h) (clock h) (take_number (clock h) (octets_in (Some o)) n (half_of g h e) ∷ []) →
+    uses_of g (state_of g h) o (half_of g h e) n a ≡ arrive.use_acts g h e a
 look-after g o h e n a session now same =
     let l = look-is g (a ∷ h) (e ∷ []) in
-    let m : look_of g (sessions.taken g h) (clock h) (half_of g (a ∷ h) e ∷ []) ≡ look g (a ∷ h) (e ∷ []) = ap (λ t. look_of g t (clock h) (half_of g (a ∷ h) e ∷ [])) (sym session) ∙ (ap (λ t. look_of g (sessions.taken g (a ∷ h)) t (half_of g (a ∷ h) e ∷ [])) (sym now) ∙ l) in
+    let m : look_of g (sessions.session_taken g h) (clock h) (half_of g (a ∷ h) e ∷ []) ≡ look g (a ∷ h) (e ∷ []) = ap (λ t. look_of g t (clock h) (half_of g (a ∷ h) e ∷ [])) (sym session) ∙ (ap (λ t. look_of g (sessions.session_taken g (a ∷ h)) t (half_of g (a ∷ h) e ∷ [])) (sym now) ∙ l) in
     ap (λ t. a ∷ t) (sym same ∙ m)
 
 gave-look : (g o p : List ℕ) (h : List Act) (e : SadEntry) (n : ℕ) → arrival g h ≡ Some o →
-    uses_of g (state_of g h) o (half_of g h e) n (acts.Gave g e.name n p) ≡ arrive.uses g h e (acts.Gave g e.name n p)
+    uses_of g (state_of g h) o (half_of g h e) n (acts.Gave g e.name n p) ≡ arrive.use_acts g h e (acts.Gave g e.name n p)
 gave-look g o p h e n came =
     let own = gave-split g g e.name p n h e true (same-refl g) (same-refl e.name) in
     let under : given_under e.name (clock h) (octets_in (arrival g h)) n (half_of g h e) ≡ take_number (clock h) (octets_in (Some o)) n (half_of g h e) = rw (same-refl e.name, came) refl in
-    look-after g o h e n (acts.Gave g e.name n p) refl refl (ap (λ x. look_of g (sessions.taken g h) (clock h) (x ∷ [])) (own ∙ under))
+    look-after g o h e n (acts.Gave g e.name n p) refl refl (ap (λ x. look_of g (sessions.session_taken g h) (clock h) (x ∷ [])) (own ∙ under))
 
 drop-look : (g o : List ℕ) (h : List Act) (e : SadEntry) (n : ℕ) (w : DropWhy) → arrival g h ≡ Some o → is_for e.name (live g h) (Some o) ≡ true → is_opened w ≡ true →
-    uses_of g (state_of g h) o (half_of g h e) n (acts.Drop g w) ≡ arrive.uses g h e (acts.Drop g w)
+    uses_of g (state_of g h) o (half_of g h e) n (acts.Drop g w) ≡ arrive.use_acts g h e (acts.Drop g w)
 drop-look g o h e n w came mine op =
     let mine-now : is_for e.name (live g h) (arrival g h) ≡ true = rw came mine in
     let own = opened-split g g w h e true (same-refl g) op mine-now in
     let under : opened_under (live g h) (arrival g h) (clock h) (half_of g h e) ≡ take_number (clock h) (octets_in (Some o)) (number_in (Some o)) (half_of g h e) = rw (came, mine) refl in
-    look-after g o h e n (acts.Drop g w) refl refl (ap (λ x. look_of g (sessions.taken g h) (clock h) (x ∷ [])) (own ∙ under))
+    look-after g o h e n (acts.Drop g w) refl refl (ap (λ x. look_of g (sessions.session_taken g h) (clock h) (x ∷ [])) (own ∙ under))
 
 use-look : (g o : List ℕ) (h : List Act) (e : SadEntry) (n : ℕ) (a : Act) → arrival g h ≡ Some o → is_for e.name (live g h) (Some o) ≡ true → UseAct g e n a →
-    uses_of g (state_of g h) o (half_of g h e) n a ≡ arrive.uses g h e a
+    uses_of g (state_of g h) o (half_of g h e) n a ≡ arrive.use_acts g h e a
 use-look g o h e n a came mine (inl (p, is)) = rw is (gave-look g o p h e n came)
 use-look g o h e n a came mine (inr (w, is, op)) = rw is (drop-look g o h e n w came mine op)
 
@@ -179,16 +179,16 @@ in-verdict g o b h e n verdicts.Fresh came mine = in-text g o h e n (esp.opened 
 
 -- a window's verdict is that over all numbers taken
 abbrev pub Judges : Type 0
-Judges = (size : ℕ) (taken : List ℕ) (s : ℕ) → judged (fold marked (no_marks size) taken) s ≡ verdict_over size taken s
+Judges = (size : ℕ) (numbers_taken : List ℕ) (s : ℕ) → judged (fold marked (no_marks size) numbers_taken) s ≡ verdict_over size numbers_taken s
 
 -- the found half is the one that the datagram is for
 in-found : (g o b : List ℕ) (h : List Act) (found : Option SadEntry) → Judges → arrival g h ≡ Some o → esp_of o ≡ b → by_spi (spi_of b) (live g h) ≡ found →
-    in_by_half g (state_of g h) o b (option_map (half_of g h) found) ≡ arrive.by_half g h b found
+    in_by_half g (state_of g h) o b (option_map (half_of g h) found) ≡ arrive.arrive_by_half g h b found
 in-found g o b h None judges came same found = refl
 in-found g o b h (Some e) judges came same found =
     let mine : is_for e.name (live g h) (Some o) ≡ true = rw (same, found) (same-refl e.name) in
-    ap (λ w. in_by_verdict g (state_of g h) o b (half_of g h e) (seq_of b) w) (judges e.window (taken g e.name h) (seq_of b))
-    ∙ in-verdict g o b h e (seq_of b) (verdict_over e.window (taken g e.name h) (seq_of b)) came mine
+    ap (λ w. in_by_verdict g (state_of g h) o b (half_of g h e) (seq_of b) w) (judges e.window (numbers_taken g e.name h) (seq_of b))
+    ∙ in-verdict g o b h e (seq_of b) (verdict_over e.window (numbers_taken g e.name h) (seq_of b)) came mine
 
 spi-step : (g : List ℕ) (h : List Act) (e : SadEntry) (found : Option SadEntry) (rest : Option Half) (b : Bool) → rest ≡ option_map (half_of g h) found →
     (if b then Some (half_of g h e) else rest) ≡ option_map (half_of g h) (if b then Some e else found)
@@ -206,10 +206,10 @@ in-esp g o b h judges came same =
     (ap (λ x. in_by_half g (state_of g h) o b x) (spi-is g h (spi_of b) (live g h)) ∙ in-found g o b h (by_spi (spi_of b) (live g h)) judges came same refl)
 
 in-view : (g o : List ℕ) (own : Addr) (h : List Act) (r : Result Packet NotPacket) → Judges → arrival g h ≡ Some o → view_of o ≡ r →
-    in_by_view g own (state_of g h) o r ≡ arrive.by_view g own h o r
+    in_by_view g own (state_of g h) o r ≡ arrive.arrive_by_view g own h o r
 in-view g o own h (Err fault) judges came seen = refl
 in-view g o own h (Ok v) judges came seen =
-    ap (λ t. if arrive.is_sealed_for own v then t else arrive.by_entry g o (first_entry (force g h) In v) ∷ []) (in-esp g o v.payload h judges came (ap payload_of seen))
+    ap (λ t. if arrive.is_sealed_for own v then t else arrive.arrive_by_entry g o (first_entry (force g h) In v) ∷ []) (in-esp g o v.payload h judges came (ap payload_of seen))
 
 arrive-is : (g o : List ℕ) (own : Addr) (h : List Act) → Judges → in_by_view g own (state_of g h) o (view_of o) ≡ arrive.arrive_acts g own (acts.Arrived g o ∷ h) o
 unfolding arrive.arrive_acts
@@ -221,10 +221,10 @@ clock-now : (t now : ℕ) → max (max t now) now ≡ max t now
 clock-now t now = omega arith
 
 clock-look : (g : List ℕ) (t : ℕ) (h : List Act) →
-    look_of g (sessions.taken g h) (max t (clock h)) (map (half_of g h) (live g h)) ≡ look g (acts.Now (max t (clock h)) ∷ h) (live g h)
+    look_of g (sessions.session_taken g h) (max t (clock h)) (map (half_of g h) (live g h)) ≡ look g (acts.Now (max t (clock h)) ∷ h) (live g h)
 clock-look g t h =
     let l = look-is g (acts.Now (max t (clock h)) ∷ h) (live g h) in
-    ap (λ now. look_of g (sessions.taken g h) now (map (half_of g h) (live g h))) (sym (clock-now t (clock h))) ∙ l
+    ap (λ now. look_of g (sessions.session_taken g h) now (map (half_of g h) (live g h))) (sym (clock-now t (clock h))) ∙ l
 
 clock-is : (g : List ℕ) (t : ℕ) (h : List Act) → ticks g (state_of g h) t ≡ clock_acts g (acts.Now (max t (clock h)) ∷ h) (nat_lt (clock h) t)
 clock-is g t h = ap (λ x. if nat_lt (clock h) t then x else []) (clock-look g t h)
@@ -243,8 +243,8 @@ row-with e c top = record { entry = e; state = record { current = c; top = top }
 
 pub row-is : (g : List ℕ) (h : List Act) (e : SadEntry) → row_from (clock h) (half_of g h e) ≡ row_of g h e
 row-is g h e =
-    let t = top-is (no_marks e.window) (taken g e.name h) in
-    ap (λ top. row-with e (counts g e.name h) (if is_inbound e.name then top else sent g e.name h)) (t ∙ max-zero (greatest (taken g e.name h)))
+    let t = top-is (no_marks e.window) (numbers_taken g e.name h) in
+    ap (λ top. row-with e (counts g e.name h) (if is_inbound e.name then top else sent g e.name h)) (t ∙ max-zero (greatest (numbers_taken g e.name h)))
 
 rows-are : (g : List ℕ) (h : List Act) (es : List SadEntry) → map (row_from (clock h)) (map (half_of g h) es) ≡ map (row_of g h) es
 rows-are g h [] = refl
@@ -253,13 +253,13 @@ rows-are g h (e ∷ es) = let r = row-is g h e in let ih = rows-are g h es in cc
 tree-is : (g : List ℕ) (h : List Act) → tree_from (state_of g h) ≡ tree_of g h
 tree-is g h = let r = rows-are g h (live g h) in cc
 
-handle-is : (g : List ℕ) (h : List Act) (request : Result Ask Fault) → handles g (state_of g h) request ≡ handle_acts g (sessions.taken g h) (requests g h + 1) h request
-handle-is g h (Ok ask) = ap (λ t. reply_acts g (sessions.taken g h) (requests g h + 1) (reply t ask)) (tree-is g h)
+handle-is : (g : List ℕ) (h : List Act) (request : Result Ask Fault) → handles g (state_of g h) request ≡ handle_acts g (sessions.session_taken g h) (requests g h + 1) h request
+handle-is g h (Ok ask) = ap (λ t. reply_acts g (sessions.session_taken g h) (requests g h + 1) (reply t ask)) (tree-is g h)
 handle-is g h (Err fault) = refl
 
 -- ---- the whole
 
-pub acts-are : Judges → (c : Gateway) (h : List Act) (e : Event) → acts_of c (state_of c.name h) e ≡ gw_block c h e
+pub acts-are : Judges → (c : Gateway) (h : List Act) (e : GatewayEvent) → acts_of c (state_of c.name h) e ≡ gw_block c h e
 acts-are judges c h (Let o) = ap (λ t. acts.Let c.name o ∷ t) (let-is c.name o c.seq_last h)
 acts-are judges c h (Arrive o) = ap (λ t. acts.Arrived c.name o ∷ t) (arrive-is c.name o c.address h judges)
 acts-are judges c h (Clock t) = ap (λ x. acts.Now (max t (clock h)) ∷ x) (clock-is c.name t h)

@@ -11,9 +11,9 @@ use Rattle.hist_acts.specs.declared.act.Act.TheVariants as acts
 use Rattle.hist_acts.specs.Past.{after}
 use Rattle.hist_halves.specs.Sealed.{is_inbound, by_spi}
 use Rattle.hist_halves.specs.Halves.{is_half, live, put_of, without}
-use Rattle.hist_gateway.specs.Let.{seals, newer, newest}
+use Rattle.hist_gateway.specs.Let.{may_seal, newer, newest}
 use Rattle.hist_gateway.specs.Block.{Gateway}
-use Rattle.hist_gateway.specs.May.{has_half, AllMay, IsLawful, IsInstallable, AreInstalled, are_apart, has_inbound_spi, have_own_spis, ArePut, AreHalves, IsHalfFor, IsHalfOf}
+use Rattle.hist_gateway.specs.May.{has_half, GatewayMayActAll, IsGatewayPast, IsInstallable, AreInstalled, are_apart, has_inbound_spi, are_spis_apart, ArePut, AreHalves, IsHalfFor, IsHalfOf}
 use Rattle.hist_gateway.proofs.KeepsLemmas.{same-refl, same-sym}
 use Rattle.hist_gateway.proofs.ReadingsLemmas.{any-end, live-is, without-half}
 
@@ -77,17 +77,17 @@ spi-without x spi (e ∷ es) p =
     let q = or-parts (is_inbound e.name && (e.spi == spi)) (has_inbound_spi spi es) p in spi-kept x spi e es (bytes_eq e.name x) refl q.0 (spi-without x spi es q.1)
 
 own-kept : (x : List ℕ) (e : SadEntry) (es : List SadEntry) (b i : Bool) → bytes_eq e.name x ≡ b → is_inbound e.name ≡ i →
-    (is_inbound e.name && has_inbound_spi e.spi es) ≡ false → have_own_spis (without x es) ≡ true → have_own_spis (without x (e ∷ es)) ≡ true
+    (is_inbound e.name && has_inbound_spi e.spi es) ≡ false → are_spis_apart (without x es) ≡ true → are_spis_apart (without x (e ∷ es)) ≡ true
 own-kept x e es true i own inb new ih = rw own ih
 own-kept x e es false true own inb new ih =
     let free : has_inbound_spi e.spi es ≡ false = subst (λ b. (b && has_inbound_spi e.spi es) ≡ false) inb new in
     rw (own, inb, spi-without x e.spi es free) ih
 own-kept x e es false false own inb new ih = rw (own, inb) ih
 
-own-without : (x : List ℕ) (es : List SadEntry) → have_own_spis es ≡ true → have_own_spis (without x es) ≡ true
+own-without : (x : List ℕ) (es : List SadEntry) → are_spis_apart es ≡ true → are_spis_apart (without x es) ≡ true
 own-without x [] p = refl
 own-without x (e ∷ es) p =
-    let q = and-both (not (is_inbound e.name && has_inbound_spi e.spi es)) (have_own_spis es) p in
+    let q = and-both (not (is_inbound e.name && has_inbound_spi e.spi es)) (are_spis_apart es) p in
     own-kept x e es (bytes_eq e.name x) (is_inbound e.name) refl refl (not-true (is_inbound e.name && has_inbound_spi e.spi es) q.0) (own-without x es q.1)
 
 fewer-kept : (x : List ℕ) (n : ℕ) (e : SadEntry) (es : List SadEntry) (b : Bool) → bytes_eq e.name x ≡ b → length (e ∷ es) ≤ n →
@@ -132,7 +132,7 @@ own-one false = refl
 own-step : (x e : SadEntry) (es : List SadEntry) (i j : Bool) → is_inbound e.name ≡ i → is_inbound x.name ≡ j →
     has_inbound_spi e.spi (es ++ x ∷ []) ≡ ((is_inbound x.name && (x.spi == e.spi)) || has_inbound_spi e.spi es) →
     (is_inbound e.name && has_inbound_spi e.spi es) ≡ false → (is_inbound x.name && has_inbound_spi x.spi (e ∷ es)) ≡ false →
-    ((is_inbound x.name && has_inbound_spi x.spi es) ≡ false → have_own_spis (es ++ x ∷ []) ≡ true) → have_own_spis (e ∷ es ++ x ∷ []) ≡ true
+    ((is_inbound x.name && has_inbound_spi x.spi es) ≡ false → are_spis_apart (es ++ x ∷ []) ≡ true) → are_spis_apart (e ∷ es ++ x ∷ []) ≡ true
 own-step x e es true true inb inx m old new rest =
     let old' : has_inbound_spi e.spi es ≡ false = subst (λ b. (b && has_inbound_spi e.spi es) ≡ false) inb old in
     let new' : ((is_inbound e.name && (e.spi == x.spi)) || has_inbound_spi x.spi es) ≡ false = subst (λ b. (b && has_inbound_spi x.spi (e ∷ es)) ≡ false) inx new in
@@ -151,10 +151,10 @@ own-step x e es false true inb inx m old new rest =
     rw inb (rest (rw (inx, q.1) refl))
 own-step x e es false false inb inx m old new rest = rw inb (rest (rw inx refl))
 
-own-more : (x : SadEntry) (es : List SadEntry) → (is_inbound x.name && has_inbound_spi x.spi es) ≡ false → have_own_spis es ≡ true → have_own_spis (es ++ x ∷ []) ≡ true
+own-more : (x : SadEntry) (es : List SadEntry) → (is_inbound x.name && has_inbound_spi x.spi es) ≡ false → are_spis_apart es ≡ true → are_spis_apart (es ++ x ∷ []) ≡ true
 own-more x [] new p = own-one (is_inbound x.name)
 own-more x (e ∷ es) new p =
-    let r = and-both (not (is_inbound e.name && has_inbound_spi e.spi es)) (have_own_spis es) p in
+    let r = and-both (not (is_inbound e.name && has_inbound_spi e.spi es)) (are_spis_apart es) p in
     let m = any-end (λ (z : SadEntry). is_inbound z.name && (z.spi == e.spi)) es x in
     own-step x e es (is_inbound e.name) (is_inbound x.name) refl refl m (not-true (is_inbound e.name && has_inbound_spi e.spi es) r.0) new (λ q. own-more x es q r.1)
 
@@ -257,24 +257,24 @@ found-put g h p (x ∷ es) e are f = found-put-step g h p x es e (p x) refl are 
 
 -- the newest half for a packet
 newest-step : (g : List ℕ) (h : List Act) (r : ℕ) (v : Packet) (x : SadEntry) (es : List SadEntry) (e : SadEntry) (found : Option SadEntry) → newest r v es ≡ found →
-    (b : Bool) → seals r v x ≡ b → ArePut g h (x ∷ es) → newer r v x found ≡ Some e →
-    (newest r v es ≡ Some e → (seals r v e ≡ true) × (has_half e.name es ≡ true) × (put_of g e.name h ≡ Some e)) →
-    (seals r v e ≡ true) × (has_half e.name (x ∷ es) ≡ true) × (put_of g e.name h ≡ Some e)
+    (b : Bool) → may_seal r v x ≡ b → ArePut g h (x ∷ es) → newer r v x found ≡ Some e →
+    (newest r v es ≡ Some e → (may_seal r v e ≡ true) × (has_half e.name es ≡ true) × (put_of g e.name h ≡ Some e)) →
+    (may_seal r v e ≡ true) × (has_half e.name (x ∷ es) ≡ true) × (put_of g e.name h ≡ Some e)
 newest-step g h r v x es e (Some y) new b own are f rest =
     let n = rest (new ∙ f) in
     (n.0, or-right (bytes_eq x.name e.name) (has_half e.name es) n.1, n.2)
 newest-step g h r v x es e None new true own are f rest =
     let is : Some x ≡ Some e = subst (λ b. (if b then Some x else None) ≡ Some e) own f in
     let same : x ≡ e = cc in
-    (subst (λ z. seals r v z ≡ true) same own, ap (λ z. bytes_eq z.name e.name || has_half e.name es) same ∙ rw (same-refl e.name) refl, subst (λ z. put_of g z.name h ≡ Some z) same are.0)
+    (subst (λ z. may_seal r v z ≡ true) same own, ap (λ z. bytes_eq z.name e.name || has_half e.name es) same ∙ rw (same-refl e.name) refl, subst (λ z. put_of g z.name h ≡ Some z) same are.0)
 newest-step g h r v x es e None new false own are f rest =
     let is : None ≡ Some e = subst (λ b. (if b then Some x else None) ≡ Some e) own f in
     cc
 
 newest-has : (g : List ℕ) (h : List Act) (r : ℕ) (v : Packet) (es : List SadEntry) (e : SadEntry) → ArePut g h es → newest r v es ≡ Some e →
-    (seals r v e ≡ true) × (has_half e.name es ≡ true) × (put_of g e.name h ≡ Some e)
+    (may_seal r v e ≡ true) × (has_half e.name es ≡ true) × (put_of g e.name h ≡ Some e)
 newest-has g h r v [] e are f = cc
-newest-has g h r v (x ∷ es) e are f = newest-step g h r v x es e (newest r v es) refl (seals r v x) refl are f (newest-has g h r v es e are.1)
+newest-has g h r v (x ∷ es) e are f = newest-step g h r v x es e (newest r v es) refl (may_seal r v x) refl are f (newest-has g h r v es e are.1)
 
 pub half-for : (g : List ℕ) (h : List Act) (r : ℕ) (v : Packet) (e : SadEntry) → AreInstalled g h → newest r v (live g h) ≡ Some e → IsHalfFor g h r v e
 half-for g h r v e l f =
@@ -294,6 +294,6 @@ half-of-spi g h spi e l f =
 
 -- ---- histories
 
-pub lawful-after : (q : Gateway) (h xs : List Act) → IsLawful q h → AllMay q h xs → IsLawful q (after h xs)
+pub lawful-after : (q : Gateway) (h xs : List Act) → IsGatewayPast q h → GatewayMayActAll q h xs → IsGatewayPast q (after h xs)
 lawful-after q h [] l m = l
 lawful-after q h (a ∷ xs) l m = lawful-after q (a ∷ h) xs (m.0, l) m.1

@@ -9,9 +9,9 @@ use Rattle.hist_acts.specs.declared.act.Act.{Act}
 use Rattle.hist_acts.specs.declared.act.Act.TheVariants as acts
 use Rattle.hist_acts.specs.Past.{clock}
 use Rattle.hist_halves.specs.Sealed.{esp_of, is_opened}
-use Rattle.hist_halves.specs.Halves.{is_half, live, taken, without}
+use Rattle.hist_halves.specs.Halves.{is_half, live, numbers_taken, without}
 use Rattle.hist_gateway.specs.Uses.{arrival, is_for, octets_in, octets_used, times_used, cut}
-use Rattle.hist_gateway.specs.State.{Half, State, half_of, state_of, quiet, with_halves, did, did_at, is_at, fresh, sent_under, given_under, opened_under, note, hush, gone_from, window_of}
+use Rattle.hist_gateway.specs.State.{Half, GatewayState, half_of, state_of, quiet, with_halves, did, did_at, is_at, fresh, sent_under, given_under, opened_under, note, hush, gone_from, window_of}
 use Rattle.hist_gateway.specs.May.{has_half, IsNewHalf}
 use Rattle.std.proofs.lemmas.Slice.Eq.{bytes_eq-Decides}
 use Rattle.std.proofs.lemmas.List.Sums.{fold-append}
@@ -20,7 +20,7 @@ use Rattle.ikeless_tree.specs.declared.reply.GoneWhy.{GoneWhy}
 use Rattle.esp_frame.specs.Esp.{seq_of, spi_of}
 use Rattle.hist_halves.specs.Sealed.{by_spi}
 use Rattle.hist_halves.specs.Halves.{number_if, arrival_number}
-use Rattle.hist_gateway.specs.Uses.{names_half}
+use Rattle.hist_gateway.specs.Uses.{is_named_half}
 use Rattle.ikeless_tree.specs.declared.order.Answer.{Answer}
 use Rattle.ikeless_tree.specs.declared.order.Notice.TheVariants as notices
 use Rattle.hist_gateway.specs.Stands.{with_spi, bad_spis}
@@ -99,7 +99,7 @@ pub gave-split : (g f y o : List ℕ) (n : ℕ) (h : List Act) (e : SadEntry) (b
 gave-split g f y o n h e true at own =
     let p = cut-more 18446744073709551615 (octets_used g e.name h) (octets_in (arrival g h)) in
     let q = cut-more 4294967295 (times_used g e.name h) 1 in
-    let r = window-end e.window n (taken g e.name h) in
+    let r = window-end e.window n (numbers_taken g e.name h) in
     rw (at, own) cc
 gave-split g f y o n h e false at own = rw (at, own) refl
 
@@ -111,7 +111,7 @@ abbrev pub number_for : List ℕ → List SadEntry → Option (List ℕ) → Opt
 number_for x es o = if is_for x es o then Some (number_in o) else None
 
 found-number : (x numbers o : List ℕ) (found : Option SadEntry) →
-    number_if x numbers (esp_of o) found ≡ (if names_half x found then Some (seq_of (esp_of o)) else None)
+    number_if x numbers (esp_of o) found ≡ (if is_named_half x found then Some (seq_of (esp_of o)) else None)
 found-number x numbers o None = refl
 found-number x numbers o (Some e) = refl
 
@@ -131,9 +131,9 @@ pub opened-split : (g f : List ℕ) (w : DropWhy) (h : List Act) (e : SadEntry) 
 opened-split g f w h e true at op own =
     let p = cut-more 18446744073709551615 (octets_used g e.name h) (octets_in (arrival g h)) in
     let q = cut-more 4294967295 (times_used g e.name h) 1 in
-    let r = window-end e.window (number_in (arrival g h)) (taken g e.name h) in
-    rw (number-is g e.name (taken g e.name h) h, at, op, own) cc
-opened-split g f w h e false at op own = rw (number-is g e.name (taken g e.name h) h, at, op, own) refl
+    let r = window-end e.window (number_in (arrival g h)) (numbers_taken g e.name h) in
+    rw (number-is g e.name (numbers_taken g e.name h) h, at, op, own) cc
+opened-split g f w h e false at op own = rw (number-is g e.name (numbers_taken g e.name h) h, at, op, own) refl
 
 dropped-half : (g f : List ℕ) (w : DropWhy) (h : List Act) (e : SadEntry) → (bytes_eq f g && is_opened w) ≡ false →
     half_of g (acts.Drop f w ∷ h) e ≡ half_of g h e
@@ -209,7 +209,7 @@ entries-kept g h (e ∷ es) = let ih = entries-kept g h es in cc
 -- ---- the state
 
 -- an act of this gateway, or of another
-pub did-away : (g : List ℕ) (s : State) (a : Act) → is_at g a ≡ false → quiet s ≡ did g s a
+pub did-away : (g : List ℕ) (s : GatewayState) (a : Act) → is_at g a ≡ false → quiet s ≡ did g s a
 did-away g s a at = if-false (is_at g a) (did_at s a) (quiet s) at
 
 keeps-boot : (g f : List ℕ) (h : List Act) (b : Bool) → bytes_eq f g ≡ b → state_of g (acts.Boot f ∷ h) ≡ did g (state_of g h) (acts.Boot f)

@@ -31,19 +31,19 @@ use Rattle.hist_acts.specs.declared.act.Act.TheVariants as acts
 use Rattle.hist_acts.specs.Past.{after, force, clock}
 use Rattle.hist_acts.specs.Sessions as sessions
 use Rattle.hist_halves.specs.Sealed.{is_inbound, is_opened, by_spi, number_of}
-use Rattle.hist_halves.specs.Halves.{live, sent, taken}
+use Rattle.hist_halves.specs.Halves.{live, sent, numbers_taken}
 use Rattle.hist_gateway.specs.Uses.{counts}
-use Rattle.hist_gateway.specs.Stands.{acquire_stands, overflow_given, soft_given, bad_spi_stands}
+use Rattle.hist_gateway.specs.Stands.{does_acquire_stand, was_overflow_given, was_soft_given, does_bad_spi_stand}
 use Rattle.hist_gateway.specs.Rows.{row_of, tree_of}
 use Rattle.hist_gateway.specs.Datagram.{fault_why, datagram, flow_of}
 use Rattle.hist_gateway.specs.Look.{is_reached, expiry, given_by, goings, expiries, look, tells}
-use Rattle.hist_gateway.specs.Let.{newest, unless, sends, by_half, by_action, by_entry, by_view, let_acts}
+use Rattle.hist_gateway.specs.Let.{newest, unless, send_acts, let_by_half, let_by_action, let_by_entry, let_by_view, let_acts}
 use Rattle.hist_gateway.specs.Arrive as arrive
 use Rattle.hist_gateway.specs.Handle.{Fault, answer_of, handle_acts, change_acts, requests}
-use Rattle.hist_gateway.specs.Block.{Gateway, Event, Let, Arrive, Clock, Handle, Session_taken, gw_block, clock_acts}
+use Rattle.hist_gateway.specs.Block.{Gateway, GatewayEvent, Let, Arrive, Clock, Handle, Session_taken, gw_block, clock_acts}
 use Rattle.ikeless_tree.specs.declared.association.SadRow.{SadRow}
 use Rattle.hist_gateway.proofs.KeepsLemmas.{same-is}
-use Rattle.hist_gateway.specs.May.{IsInstallable, IsNewHalf, AreNewHalves, MayInstall, AreInstalled, LetBefore, OpensArrival, MayDrop, MayFollow, AllMay, IsLawful, IsNumbered, AreNumbered, is_boot}
+use Rattle.hist_gateway.specs.May.{IsInstallable, IsNewHalf, AreNewHalves, MayInstall, AreInstalled, LetBefore, OpensArrival, GatewayMayDrop, GatewayMayAct, GatewayMayActAll, IsGatewayPast, IsNumbered, AreNumbered, is_boot}
 
 -- ---- acts that say nothing of their past
 
@@ -59,15 +59,15 @@ says (acts.Opened f s) = true
 says (acts.Handled f s k a) = true
 says _ = false
 
-plain-gone : (q : Gateway) (h : List Act) (f x : List ℕ) (w : GoneWhy) → not (is_hard w) ≡ false → MayFollow q h (acts.Gone f x w)
+plain-gone : (q : Gateway) (h : List Act) (f x : List ℕ) (w : GoneWhy) → not (is_hard w) ≡ false → GatewayMayAct q h (acts.Gone f x w)
 plain-gone q h f x gone.Removed e = cc
 plain-gone q h f x gone.Hard e = tt
 
-plain-drop : (q : Gateway) (h : List Act) (f : List ℕ) (b : Bool) → b ≡ false → MayDrop q h f b
+plain-drop : (q : Gateway) (h : List Act) (f : List ℕ) (b : Bool) → b ≡ false → GatewayMayDrop q h f b
 plain-drop q h f true e = cc
 plain-drop q h f false e = tt
 
-plain : (q : Gateway) (h : List Act) (a : Act) → says a ≡ false → MayFollow q h a
+plain : (q : Gateway) (h : List Act) (a : Act) → says a ≡ false → GatewayMayAct q h a
 plain q h (acts.Clear f o) e = cc
 plain q h (acts.Sent f x n d) e = cc
 plain q h (acts.Gave f x n p) e = cc
@@ -86,7 +86,7 @@ or-parts : (a b : Bool) → (a || b) ≡ false → (a ≡ false) × (b ≡ false
 or-parts true b e = cc
 or-parts false b e = (refl, e)
 
-all-plain : (q : Gateway) (h xs : List Act) → some-says xs ≡ false → AllMay q h xs
+all-plain : (q : Gateway) (h xs : List Act) → some-says xs ≡ false → GatewayMayActAll q h xs
 all-plain q h [] e = tt
 all-plain q h (a ∷ xs) e = let p = or-parts (says a) (some-says xs) e in (plain q h a p.0, all-plain q (a ∷ h) xs p.1)
 
@@ -116,35 +116,35 @@ says-goings g h (e ∷ es) =
 says-expiries : (g : List ℕ) (h : List Act) (es : List SadEntry) → some-says (expiries g h es) ≡ false
 says-expiries g h [] = refl
 says-expiries g h (e ∷ es) =
-    let ns : List Notice = expiry e (counts g e.name h) (soft_given g e.name h) in
-    says-append (given_by g (sessions.taken g h) ns) (expiries g h es) (says-given g (sessions.taken g h) ns) (says-expiries g h es)
+    let ns : List Notice = expiry e (counts g e.name h) (was_soft_given g e.name h) in
+    says-append (given_by g (sessions.session_taken g h) ns) (expiries g h es) (says-given g (sessions.session_taken g h) ns) (says-expiries g h es)
 
 says-look : (g : List ℕ) (h : List Act) (es : List SadEntry) → some-says (look g h es) ≡ false
 says-look g h es = says-append (goings g h es) (expiries g h es) (says-goings g h es) (says-expiries g h es)
 
 -- ---- a packet from inside
 
-may-if : (q : Gateway) (h : List Act) (b : Bool) (xs ys : List Act) → (b ≡ true → AllMay q h xs) → (b ≡ false → AllMay q h ys) → AllMay q h (if b then xs else ys)
+may-if : (q : Gateway) (h : List Act) (b : Bool) (xs ys : List Act) → (b ≡ true → GatewayMayActAll q h xs) → (b ≡ false → GatewayMayActAll q h ys) → GatewayMayActAll q h (if b then xs else ys)
 may-if q h true xs ys p r = p refl
 may-if q h false xs ys p r = r refl
 
 may-half : (q : Gateway) (g o : List ℕ) (h : List Act) (v : Packet) (p : SpdEntry) (found : Option SadEntry) →
-    LetBefore h g o v p actions.Protect → newest p.reqid v (live g h) ≡ found → AllMay q h (by_half g q.seq_last h o v p found)
+    LetBefore h g o v p actions.Protect → newest p.reqid v (live g h) ≡ found → GatewayMayActAll q h (let_by_half g q.seq_last h o v p found)
 may-half q g o h v p None let_before new =
-    all-plain q h (by_half g q.seq_last h o v p None) (says-unless (acquire_stands g p.name h) (tells g h (notices.Acquire p.name (flow_of v))) refl)
+    all-plain q h (let_by_half g q.seq_last h o v p None) (says-unless (does_acquire_stand g p.name h) (tells g h (notices.Acquire p.name (flow_of v))) refl)
 may-half q g o h v p (Some e) let_before new =
-    let limit : List Act = acts.Drop g why.SeqLimit ∷ unless (overflow_given g e.name h) (tells g h (notices.SeqOverflow e.name)) in
+    let limit : List Act = acts.Drop g why.SeqLimit ∷ unless (was_overflow_given g e.name h) (tells g h (notices.SeqOverflow e.name)) in
     let n : ℕ = sent g e.name h + 1 in
     let d : List ℕ = datagram e n v o in
-    may-if q h (nat_le q.seq_last (sent g e.name h)) limit (sends g h e n d)
-    (λ _. all-plain q h limit (says-unless (overflow_given g e.name h) (tells g h (notices.SeqOverflow e.name)) refl))
+    may-if q h (nat_le q.seq_last (sent g e.name h)) limit (send_acts g h e n d)
+    (λ _. all-plain q h limit (says-unless (was_overflow_given g e.name h) (tells g h (notices.SeqOverflow e.name)) refl))
     (λ below. (
       record { octets = o; packet = v; entry = p; half = e; let_before = let_before; newest = new; name = refl; number = refl; in_limit = below; datagram = refl },
       all-plain q (acts.Sent g e.name n d ∷ h) (look g (acts.Sent g e.name n d ∷ h) (e ∷ [])) (says-look g (acts.Sent g e.name n d ∷ h) (e ∷ [])),
     ))
 
 may-action : (q : Gateway) (g o : List ℕ) (h older : List Act) (v : Packet) (p : SpdEntry) (a : Action) → h ≡ acts.Let g o ∷ older → view_of o ≡ Ok v →
-    first_entry (force g h) Out v ≡ Some p → p.action ≡ a → AllMay q h (by_action g q.seq_last h o v p a)
+    first_entry (force g h) Out v ≡ Some p → p.action ≡ a → GatewayMayActAll q h (let_by_action g q.seq_last h o v p a)
 may-action q g o h older v p actions.Protect before seen first act =
     may-half q g o h v p (newest p.reqid v (live g h)) (record { older = older; before = before; view = seen; first = first; action = act }) refl
 may-action q g o h older v p actions.Bypass before seen first act =
@@ -152,30 +152,30 @@ may-action q g o h older v p actions.Bypass before seen first act =
 may-action q g o h older v p actions.Discard before seen first act = (tt, tt)
 
 may-entry : (q : Gateway) (g o : List ℕ) (h older : List Act) (v : Packet) (p : Option SpdEntry) → h ≡ acts.Let g o ∷ older → view_of o ≡ Ok v →
-    first_entry (force g h) Out v ≡ p → AllMay q h (by_entry g q.seq_last h o v p)
+    first_entry (force g h) Out v ≡ p → GatewayMayActAll q h (let_by_entry g q.seq_last h o v p)
 may-entry q g o h older v None before seen first = (tt, tt)
 may-entry q g o h older v (Some p) before seen first = may-action q g o h older v p p.action before seen first refl
 
-may-fault : (q : Gateway) (h : List Act) (g : List ℕ) (fault : NotPacket) → MayFollow q h (acts.Drop g (fault_why fault))
+may-fault : (q : Gateway) (h : List Act) (g : List ℕ) (fault : NotPacket) → GatewayMayAct q h (acts.Drop g (fault_why fault))
 may-fault q h g faults.Short = tt
 may-fault q h g faults.Version = tt
 may-fault q h g faults.Length = tt
 may-fault q h g faults.HeaderSum = tt
 may-fault q h g faults.Fragment = tt
 
-may-view : (q : Gateway) (g o : List ℕ) (h older : List Act) (r : Result Packet NotPacket) → h ≡ acts.Let g o ∷ older → view_of o ≡ r → AllMay q h (by_view g q.seq_last h o r)
+may-view : (q : Gateway) (g o : List ℕ) (h older : List Act) (r : Result Packet NotPacket) → h ≡ acts.Let g o ∷ older → view_of o ≡ r → GatewayMayActAll q h (let_by_view g q.seq_last h o r)
 may-view q g o h older (Err fault) before seen = (may-fault q h g fault, tt)
 may-view q g o h older (Ok v) before seen =
-    may-if q h (nat_lt 65000 (length o)) (acts.Drop g why.TooLong ∷ []) (by_entry g q.seq_last h o v (first_entry (force g h) Out v)) (λ _. (tt, tt))
+    may-if q h (nat_lt 65000 (length o)) (acts.Drop g why.TooLong ∷ []) (let_by_entry g q.seq_last h o v (first_entry (force g h) Out v)) (λ _. (tt, tt))
     (λ _. may-entry q g o h older v (first_entry (force g h) Out v) before seen refl)
 
-pub may-let : (q : Gateway) (g o : List ℕ) (h : List Act) → AllMay q (acts.Let g o ∷ h) (let_acts g q.seq_last (acts.Let g o ∷ h) o)
+pub may-let : (q : Gateway) (g o : List ℕ) (h : List Act) → GatewayMayActAll q (acts.Let g o ∷ h) (let_acts g q.seq_last (acts.Let g o ∷ h) o)
 unfolding let_acts
 may-let q g o h = may-view q g o (acts.Let g o ∷ h) h (view_of o) refl refl
 
 -- ---- a datagram from outside
 
-follow-if : (q : Gateway) (h : List Act) (b : Bool) (x y : Act) → (b ≡ true → MayFollow q h x) → (b ≡ false → MayFollow q h y) → MayFollow q h (if b then x else y)
+follow-if : (q : Gateway) (h : List Act) (b : Bool) (x y : Act) → (b ≡ true → GatewayMayAct q h x) → (b ≡ false → GatewayMayAct q h y) → GatewayMayAct q h (if b then x else y)
 follow-if q h true x y p r = p refl
 follow-if q h false x y p r = r refl
 
@@ -184,8 +184,8 @@ not-false true e = refl
 not-false false e = cc
 
 may-inner : (q : Gateway) (h : List Act) (g : List ℕ) (came : OpensArrival q h g) (n : ℕ) (p : List ℕ) (next : ℕ) (r : Result Packet NotPacket) →
-    n ≡ number_of came.half (taken g came.half.name h) came.outer.payload → esp.packet_of came.text ≡ Some (record { next = next; octets = p }) → view_of p ≡ r →
-    MayFollow q h (arrive.by_inner g came.half n next p r)
+    n ≡ number_of came.half (numbers_taken g came.half.name h) came.outer.payload → esp.packet_of came.text ≡ Some (record { next = next; octets = p }) → view_of p ≡ r →
+    GatewayMayAct q h (arrive.by_inner g came.half n next p r)
 may-inner q h g came n p next (Err fault) number packet seen = came
 may-inner q h g came n p next (Ok w) number packet seen =
     let e : SadEntry = came.half in
@@ -195,7 +195,7 @@ may-inner q h g came n p next (Ok w) number packet seen =
     (λ _. came))
 
 may-packet : (q : Gateway) (h : List Act) (g : List ℕ) (came : OpensArrival q h g) (n : ℕ) (p : Option esp.Packet) →
-    n ≡ number_of came.half (taken g came.half.name h) came.outer.payload → esp.packet_of came.text ≡ p → MayFollow q h (arrive.by_packet g came.half n p)
+    n ≡ number_of came.half (numbers_taken g came.half.name h) came.outer.payload → esp.packet_of came.text ≡ p → GatewayMayAct q h (arrive.by_packet g came.half n p)
 may-packet q h g came n None number packet = came
 may-packet q h g came n (Some p) number packet =
     follow-if q h (p.next == 59) (acts.Drop g why.Dummy) (arrive.by_inner g came.half n p.next p.octets (view_of p.octets)) (λ _. came)
@@ -203,19 +203,19 @@ may-packet q h g came n (Some p) number packet =
 
 may-text : (q : Gateway) (h older : List Act) (g o : List ℕ) (v : Packet) (e : SadEntry) (x : Option (List ℕ)) → h ≡ acts.Arrived g o ∷ older → view_of o ≡ Ok v →
     arrive.is_sealed_for q.address v ≡ true → by_spi (spi_of v.payload) (live g h) ≡ Some e →
-    verdict_over e.window (taken g e.name h) (number_of e (taken g e.name h) v.payload) ≡ verdicts.Fresh → esp.opened (keying e.spi e.key) v.payload ≡ x →
-    AllMay q h (arrive.by_text g h e (number_of e (taken g e.name h) v.payload) x)
+    verdict_over e.window (numbers_taken g e.name h) (number_of e (numbers_taken g e.name h) v.payload) ≡ verdicts.Fresh → esp.opened (keying e.spi e.key) v.payload ≡ x →
+    GatewayMayActAll q h (arrive.by_text g h e (number_of e (numbers_taken g e.name h) v.payload) x)
 may-text q h older g o v e None before seen own spi fresh op = (tt, tt)
 may-text q h older g o v e (Some x) before seen own spi fresh op =
-    let n : ℕ = number_of e (taken g e.name h) v.payload in
+    let n : ℕ = number_of e (numbers_taken g e.name h) v.payload in
     let a : Act = arrive.by_packet g e n (esp.packet_of x) in
     let came : OpensArrival q h g = record { older = older; octets = o; outer = v; half = e; text = x; before = before; view = seen; own = own; spi = spi; fresh = fresh; opened = op } in
     (may-packet q h g came n (esp.packet_of x) refl refl, all-plain q (a ∷ h) (look g (a ∷ h) (e ∷ [])) (says-look g (a ∷ h) (e ∷ [])))
 
 may-verdict : (q : Gateway) (h older : List Act) (g o : List ℕ) (v : Packet) (e : SadEntry) (w : Verdict) → h ≡ acts.Arrived g o ∷ older → view_of o ≡ Ok v →
     arrive.is_sealed_for q.address v ≡ true → by_spi (spi_of v.payload) (live g h) ≡ Some e →
-    verdict_over e.window (taken g e.name h) (number_of e (taken g e.name h) v.payload) ≡ w →
-    AllMay q h (arrive.by_verdict g h v.payload e (number_of e (taken g e.name h) v.payload) w)
+    verdict_over e.window (numbers_taken g e.name h) (number_of e (numbers_taken g e.name h) v.payload) ≡ w →
+    GatewayMayActAll q h (arrive.by_verdict g h v.payload e (number_of e (numbers_taken g e.name h) v.payload) w)
 may-verdict q h older g o v e verdicts.Zero before seen own spi judged = (tt, tt)
 may-verdict q h older g o v e verdicts.Old before seen own spi judged = (tt, tt)
 may-verdict q h older g o v e verdicts.Seen before seen own spi judged = (tt, tt)
@@ -223,34 +223,34 @@ may-verdict q h older g o v e verdicts.Fresh before seen own spi judged =
     may-text q h older g o v e (esp.opened (keying e.spi e.key) v.payload) before seen own spi judged refl
 
 may-found : (q : Gateway) (h older : List Act) (g o : List ℕ) (v : Packet) (found : Option SadEntry) → h ≡ acts.Arrived g o ∷ older → view_of o ≡ Ok v →
-    arrive.is_sealed_for q.address v ≡ true → by_spi (spi_of v.payload) (live g h) ≡ found → AllMay q h (arrive.by_half g h v.payload found)
+    arrive.is_sealed_for q.address v ≡ true → by_spi (spi_of v.payload) (live g h) ≡ found → GatewayMayActAll q h (arrive.arrive_by_half g h v.payload found)
 may-found q h older g o v None before seen own spi =
-    all-plain q h (arrive.by_half g h v.payload None) (says-unless (bad_spi_stands g (spi_of v.payload) h) (tells g h (notices.BadSpi (spi_of v.payload))) refl)
+    all-plain q h (arrive.arrive_by_half g h v.payload None) (says-unless (does_bad_spi_stand g (spi_of v.payload) h) (tells g h (notices.BadSpi (spi_of v.payload))) refl)
 may-found q h older g o v (Some e) before seen own spi =
-    may-verdict q h older g o v e (verdict_over e.window (taken g e.name h) (number_of e (taken g e.name h) v.payload)) before seen own spi refl
+    may-verdict q h older g o v e (verdict_over e.window (numbers_taken g e.name h) (number_of e (numbers_taken g e.name h) v.payload)) before seen own spi refl
 
 pass-action : (q : Gateway) (h older : List Act) (g o : List ℕ) (v : Packet) (p : SpdEntry) (a : Action) → h ≡ acts.Arrived g o ∷ older → view_of o ≡ Ok v →
-    first_entry (force g h) In v ≡ Some p → p.action ≡ a → MayFollow q h (arrive.by_action g o a)
+    first_entry (force g h) In v ≡ Some p → p.action ≡ a → GatewayMayAct q h (arrive.arrive_by_action g o a)
 pass-action q h older g o v p actions.Protect before seen first act = tt
 pass-action q h older g o v p actions.Bypass before seen first act =
     record { older = older; packet = v; entry = p; before = before; view = seen; first = first; action = act }
 pass-action q h older g o v p actions.Discard before seen first act = tt
 
 pass-entry : (q : Gateway) (h older : List Act) (g o : List ℕ) (v : Packet) (p : Option SpdEntry) → h ≡ acts.Arrived g o ∷ older → view_of o ≡ Ok v →
-    first_entry (force g h) In v ≡ p → MayFollow q h (arrive.by_entry g o p)
+    first_entry (force g h) In v ≡ p → GatewayMayAct q h (arrive.arrive_by_entry g o p)
 pass-entry q h older g o v None before seen first = tt
 pass-entry q h older g o v (Some p) before seen first = pass-action q h older g o v p p.action before seen first refl
 
 may-arrived : (q : Gateway) (h older : List Act) (g o : List ℕ) (r : Result Packet NotPacket) → h ≡ acts.Arrived g o ∷ older → view_of o ≡ r →
-    AllMay q h (arrive.by_view g q.address h o r)
+    GatewayMayActAll q h (arrive.arrive_by_view g q.address h o r)
 may-arrived q h older g o (Err fault) before seen = (may-fault q h g fault, tt)
 may-arrived q h older g o (Ok v) before seen =
-    may-if q h (arrive.is_sealed_for q.address v) (arrive.esp_acts g h v.payload) (arrive.by_entry g o (first_entry (force g h) In v) ∷ [])
-    (λ own. may-if q h (nat_lt (length v.payload) 34) (arrive.drops g why.Short) (arrive.by_half g h v.payload (by_spi (spi_of v.payload) (live g h))) (λ _. (tt, tt))
+    may-if q h (arrive.is_sealed_for q.address v) (arrive.esp_acts g h v.payload) (arrive.arrive_by_entry g o (first_entry (force g h) In v) ∷ [])
+    (λ own. may-if q h (nat_lt (length v.payload) 34) (arrive.drops g why.Short) (arrive.arrive_by_half g h v.payload (by_spi (spi_of v.payload) (live g h))) (λ _. (tt, tt))
     (λ _. may-found q h older g o v (by_spi (spi_of v.payload) (live g h)) before seen own refl))
     (λ _. (pass-entry q h older g o v (first_entry (force g h) In v) before seen refl, tt))
 
-pub may-arrive : (q : Gateway) (g o : List ℕ) (h : List Act) → AllMay q (acts.Arrived g o ∷ h) (arrive.arrive_acts g q.address (acts.Arrived g o ∷ h) o)
+pub may-arrive : (q : Gateway) (g o : List ℕ) (h : List Act) → GatewayMayActAll q (acts.Arrived g o ∷ h) (arrive.arrive_acts g q.address (acts.Arrived g o ∷ h) o)
 unfolding arrive.arrive_acts
 may-arrive q g o h = may-arrived q (acts.Arrived g o ∷ h) h g o (view_of o) refl refl
 
@@ -264,7 +264,7 @@ length-map : (f : SadEntry → SadRow) (es : List SadEntry) → length (map f es
 length-map f [] = refl
 length-map f (e ∷ es) = ap (λ n. suc n) (length-map f es)
 
-may-change : (q : Gateway) (g : List ℕ) (h : List Act) (r : table.Outcome) (c : Change) → table.Fits (tree_of g h) c → AllMay q h (change_acts g r c)
+may-change : (q : Gateway) (g : List ℕ) (h : List Act) (r : table.Outcome) (c : Change) → table.Fits (tree_of g h) c → GatewayMayActAll q h (change_acts g r c)
 may-change q g h r changes.Nothing fits = tt
 may-change q g h r changes.Spd fits = (tt, tt)
 may-change q g h r (changes.Put e) fits =
@@ -280,13 +280,13 @@ may-change q g h r (changes.Put e) fits =
     )
 may-change q g h r (changes.Gone name) fits = let there = any-map (table.is_row name) (row_of g h) (live g h) in (sym there ∙ fits, tt)
 
-may-append : (q : Gateway) (h xs : List Act) (a : Act) → MayFollow q (after h xs) a → AllMay q h xs → AllMay q h (xs ++ a ∷ [])
+may-append : (q : Gateway) (h xs : List Act) (a : Act) → GatewayMayAct q (after h xs) a → GatewayMayActAll q h xs → GatewayMayActAll q h (xs ++ a ∷ [])
 may-append q h [] a last m = (last, tt)
 may-append q h (x ∷ xs) a last m = (m.0, may-append q (x ∷ h) xs a last m.1)
 
 -- a change is none of sessions and requests
 same-session : (g : List ℕ) (h : List Act) (r : table.Outcome) (c : Change) →
-    (sessions.taken g h ≡ sessions.taken g (after h (change_acts g r c))) × (requests g h + 1 ≡ requests g (after h (change_acts g r c)) + 1)
+    (sessions.session_taken g h ≡ sessions.session_taken g (after h (change_acts g r c))) × (requests g h + 1 ≡ requests g (after h (change_acts g r c)) + 1)
 same-session g h r changes.Nothing = (refl, refl)
 same-session g h r changes.Spd = (refl, refl)
 same-session g h r (changes.Put e) = (refl, refl)
@@ -296,54 +296,54 @@ same-session g h r (changes.Gone name) = (refl, refl)
 abbrev pub AllFit : Type 0
 AllFit = (t : Tree) (a : Ask) → table.Fits t (table.reply t a).change
 
-may-handle : (q : Gateway) (g : List ℕ) (h : List Act) (request : Result Ask Fault) → AllFit → AllMay q h (handle_acts g (sessions.taken g h) (requests g h + 1) h request)
+may-handle : (q : Gateway) (g : List ℕ) (h : List Act) (request : Result Ask Fault) → AllFit → GatewayMayActAll q h (handle_acts g (sessions.session_taken g h) (requests g h + 1) h request)
 may-handle q g h (Ok ask) fits =
     let r : table.Outcome = table.reply (tree_of g h) ask in
-    may-append q h (change_acts g r r.change) (acts.Handled g (sessions.taken g h) (requests g h + 1) (answer_of r)) (same-session g h r r.change)
+    may-append q h (change_acts g r r.change) (acts.Handled g (sessions.session_taken g h) (requests g h + 1) (answer_of r)) (same-session g h r r.change)
     (may-change q g h r r.change (fits (tree_of g h) ask))
 may-handle q g h (Err fault) fits = ((refl, refl), tt)
 
 -- ---- the whole
 
-may-clock : (q : Gateway) (g : List ℕ) (h : List Act) (raised : Bool) → AllMay q h (clock_acts g h raised)
+may-clock : (q : Gateway) (g : List ℕ) (h : List Act) (raised : Bool) → GatewayMayActAll q h (clock_acts g h raised)
 may-clock q g h true = all-plain q h (look g h (live g h)) (says-look g h (live g h))
 may-clock q g h false = tt
 
-pub may-block : AllFit → (c : Gateway) (h : List Act) (e : Event) → AllMay c h (gw_block c h e)
+pub may-block : AllFit → (c : Gateway) (h : List Act) (e : GatewayEvent) → GatewayMayActAll c h (gw_block c h e)
 may-block fits c h (Let o) = (tt, may-let c c.name o h)
 may-block fits c h (Arrive o) = (tt, may-arrive c c.name o h)
 may-block fits c h (Clock t) = (tt, may-clock c c.name (acts.Now (max t (clock h)) ∷ h) (nat_lt (clock h) t))
 may-block fits c h (Handle request) = may-handle c c.name h request fits
 may-block fits c h Session_taken = (refl, tt)
 
-may-install : (q : Gateway) (g : List ℕ) (h : List Act) (a : Act) → MayFollow q h a → MayInstall g h a
+may-install : (q : Gateway) (g : List ℕ) (h : List Act) (a : Act) → GatewayMayAct q h a → MayInstall g h a
 may-install q g h (acts.Put f e) may = λ at. subst (λ n. IsInstallable (live n h) e) (same-is f g at) may
 may-install q g h a may = tt
 
-pub installed : (q : Gateway) (g : List ℕ) (h xs : List Act) → AllMay q h xs → AreInstalled g h → AreInstalled g (after h xs)
+pub installed : (q : Gateway) (g : List ℕ) (h xs : List Act) → GatewayMayActAll q h xs → AreInstalled g h → AreInstalled g (after h xs)
 installed q g h [] may are = are
 installed q g h (a ∷ xs) may are = installed q g (a ∷ h) xs may.1 (may-install q g h a may.0, are)
 
-pub lawful-installed : (q : Gateway) (g : List ℕ) (h : List Act) → IsLawful q h → AreInstalled g h
+pub lawful-installed : (q : Gateway) (g : List ℕ) (h : List Act) → IsGatewayPast q h → AreInstalled g h
 lawful-installed q g [] l = tt
 lawful-installed q g (a ∷ h) l = (may-install q g h a l.0, lawful-installed q g h l.1)
 
-new-half : (q : Gateway) (g : List ℕ) (h : List Act) (a : Act) → MayFollow q h a → IsNewHalf g h a
+new-half : (q : Gateway) (g : List ℕ) (h : List Act) (a : Act) → GatewayMayAct q h a → IsNewHalf g h a
 new-half q g h (acts.Put f e) may = λ at. (may-install q g h (acts.Put f e) may at).name
 new-half q g h a may = tt
 
-pub new-halves : (q : Gateway) (g : List ℕ) (h xs : List Act) → AllMay q h xs → AreNewHalves g h xs
+pub new-halves : (q : Gateway) (g : List ℕ) (h xs : List Act) → GatewayMayActAll q h xs → AreNewHalves g h xs
 new-halves q g h [] may = tt
 new-halves q g h (a ∷ xs) may = (new-half q g h a may.0, new-halves q g (a ∷ h) xs may.1)
 
 -- ---- sessions
 
-may-number : (q : Gateway) (g : List ℕ) (h : List Act) (a : Act) → MayFollow q h a → is_boot a ≡ false → IsNumbered g h a
+may-number : (q : Gateway) (g : List ℕ) (h : List Act) (a : Act) → GatewayMayAct q h a → is_boot a ≡ false → IsNumbered g h a
 may-number q g h (acts.Opened f s) may away = λ at. subst (λ n. s ≡ sessions.openings n h + 1) (same-is f g at) may
-may-number q g h (acts.Handled f s k a) may away = λ at. subst (λ n. s ≡ sessions.taken n h) (same-is f g at) may.0
+may-number q g h (acts.Handled f s k a) may away = λ at. subst (λ n. s ≡ sessions.session_taken n h) (same-is f g at) may.0
 may-number q g h (acts.Boot f) may away = cc
 may-number q g h a may away = tt
 
-pub lawful-numbered : (q : Gateway) (g : List ℕ) (h : List Act) → IsLawful q h → list_any is_boot h ≡ false → AreNumbered g h
+pub lawful-numbered : (q : Gateway) (g : List ℕ) (h : List Act) → IsGatewayPast q h → list_any is_boot h ≡ false → AreNumbered g h
 lawful-numbered q g [] l away = tt
 lawful-numbered q g (a ∷ h) l away = let p = or-parts (is_boot a) (list_any is_boot h) away in (may-number q g h a l.0 p.0, lawful-numbered q g h l.1 p.1)

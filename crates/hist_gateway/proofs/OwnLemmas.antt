@@ -27,17 +27,17 @@ use Rattle.hist_acts.specs.declared.act.Act.TheVariants as acts
 use Rattle.hist_acts.specs.Past.{after, force}
 use Rattle.hist_acts.specs.Sessions as sessions
 use Rattle.hist_halves.specs.Sealed.{by_spi, number_of}
-use Rattle.hist_halves.specs.Halves.{live, sent, taken}
+use Rattle.hist_halves.specs.Halves.{live, sent, numbers_taken}
 use Rattle.hist_gateway.specs.Uses.{counts}
-use Rattle.hist_gateway.specs.Stands.{acquire_stands, overflow_given, soft_given, bad_spi_stands}
+use Rattle.hist_gateway.specs.Stands.{does_acquire_stand, was_overflow_given, was_soft_given, does_bad_spi_stand}
 use Rattle.hist_gateway.specs.Rows.{tree_of}
 use Rattle.hist_gateway.specs.Datagram.{fault_why, datagram, flow_of}
 use Rattle.hist_gateway.specs.Look.{is_reached, expiry, given_by, goings, expiries, look, tells}
-use Rattle.hist_gateway.specs.Let.{newest, unless, sends, by_half, by_action, by_entry, by_view, let_acts}
+use Rattle.hist_gateway.specs.Let.{newest, unless, send_acts, let_by_half, let_by_action, let_by_entry, let_by_view, let_acts}
 use Rattle.hist_gateway.specs.Arrive as arrive
 use Rattle.hist_gateway.specs.Handle.{Fault, answer_of, fault_answer, handle_acts, change_acts, requests}
-use Rattle.hist_gateway.specs.Block.{Gateway, Event, Let, Arrive, Clock, Handle, Session_taken, gw_block}
-use Rattle.hist_gateway.specs.Answers.{is_strange, are_strange, reads_clock}
+use Rattle.hist_gateway.specs.Block.{Gateway, GatewayEvent, Let, Arrive, Clock, Handle, Session_taken, gw_block}
+use Rattle.hist_gateway.specs.Answers.{is_strange, are_strange, is_clock_reading}
 use Rattle.std.specs.Str.{bytes_eq}
 use Rattle.ikeless_tree.specs.declared.reply.DropWhy.{DropWhy}
 use Rattle.hist_gateway.specs.State.{state_of, quiet, is_at}
@@ -70,7 +70,7 @@ own-given g s [] = refl
 own-given g s (n ∷ ns) = own-first g (acts.Notice g s n) (given_by g s ns) (mine g) (own-given g s ns)
 
 own-tells : (g : List ℕ) (h : List Act) (n : Notice) → own g (tells g h n)
-own-tells g h n = own-first g (acts.Notice g (sessions.taken g h) n) [] (mine g) refl
+own-tells g h n = own-first g (acts.Notice g (sessions.session_taken g h) n) [] (mine g) refl
 
 own-goings : (g : List ℕ) (h : List Act) (es : List SadEntry) → own g (goings g h es)
 own-goings g h [] = refl
@@ -81,8 +81,8 @@ own-goings g h (e ∷ es) =
 own-expiries : (g : List ℕ) (h : List Act) (es : List SadEntry) → own g (expiries g h es)
 own-expiries g h [] = refl
 own-expiries g h (e ∷ es) =
-    let ns : List Notice = expiry e (counts g e.name h) (soft_given g e.name h) in
-    own-append g (given_by g (sessions.taken g h) ns) (expiries g h es) (own-given g (sessions.taken g h) ns) (own-expiries g h es)
+    let ns : List Notice = expiry e (counts g e.name h) (was_soft_given g e.name h) in
+    own-append g (given_by g (sessions.session_taken g h) ns) (expiries g h es) (own-given g (sessions.session_taken g h) ns) (own-expiries g h es)
 
 own-look : (g : List ℕ) (h : List Act) (es : List SadEntry) → own g (look g h es)
 own-look g h es = own-append g (goings g h es) (expiries g h es) (own-goings g h es) (own-expiries g h es)
@@ -92,31 +92,31 @@ own-drop g w xs p = own-first g (acts.Drop g w) xs (mine g) p
 
 -- ---- a packet from inside
 
-own-half : (q : ℕ) (g o : List ℕ) (h : List Act) (v : Packet) (p : SpdEntry) (found : Option SadEntry) → own g (by_half g q h o v p found)
+own-half : (q : ℕ) (g o : List ℕ) (h : List Act) (v : Packet) (p : SpdEntry) (found : Option SadEntry) → own g (let_by_half g q h o v p found)
 own-half q g o h v p None =
     let ns : List Act = tells g h (notices.Acquire p.name (flow_of v)) in
-    own-drop g why.NoSa (unless (acquire_stands g p.name h) ns) (own-unless g (acquire_stands g p.name h) ns (own-tells g h (notices.Acquire p.name (flow_of v))))
+    own-drop g why.NoSa (unless (does_acquire_stand g p.name h) ns) (own-unless g (does_acquire_stand g p.name h) ns (own-tells g h (notices.Acquire p.name (flow_of v))))
 own-half q g o h v p (Some e) =
     let ns : List Act = tells g h (notices.SeqOverflow e.name) in
     let n : ℕ = sent g e.name h + 1 in
     let a : Act = acts.Sent g e.name n (datagram e n v o) in
-    own-if g (nat_le q (sent g e.name h)) (acts.Drop g why.SeqLimit ∷ unless (overflow_given g e.name h) ns) (sends g h e n (datagram e n v o))
-    (own-drop g why.SeqLimit (unless (overflow_given g e.name h) ns) (own-unless g (overflow_given g e.name h) ns (own-tells g h (notices.SeqOverflow e.name))))
+    own-if g (nat_le q (sent g e.name h)) (acts.Drop g why.SeqLimit ∷ unless (was_overflow_given g e.name h) ns) (send_acts g h e n (datagram e n v o))
+    (own-drop g why.SeqLimit (unless (was_overflow_given g e.name h) ns) (own-unless g (was_overflow_given g e.name h) ns (own-tells g h (notices.SeqOverflow e.name))))
     (own-first g a (look g (a ∷ h) (e ∷ [])) (mine g) (own-look g (a ∷ h) (e ∷ [])))
 
-own-action : (q : ℕ) (g o : List ℕ) (h : List Act) (v : Packet) (p : SpdEntry) (a : Action) → own g (by_action g q h o v p a)
+own-action : (q : ℕ) (g o : List ℕ) (h : List Act) (v : Packet) (p : SpdEntry) (a : Action) → own g (let_by_action g q h o v p a)
 own-action q g o h v p actions.Protect = own-half q g o h v p (newest p.reqid v (live g h))
 own-action q g o h v p actions.Bypass = own-first g (acts.Clear g o) [] (mine g) refl
 own-action q g o h v p actions.Discard = own-drop g why.Discard [] refl
 
-own-entry : (q : ℕ) (g o : List ℕ) (h : List Act) (v : Packet) (p : Option SpdEntry) → own g (by_entry g q h o v p)
+own-entry : (q : ℕ) (g o : List ℕ) (h : List Act) (v : Packet) (p : Option SpdEntry) → own g (let_by_entry g q h o v p)
 own-entry q g o h v None = own-drop g why.NoPolicy [] refl
 own-entry q g o h v (Some p) = own-action q g o h v p p.action
 
-own-view : (q : ℕ) (g o : List ℕ) (h : List Act) (r : Result Packet NotPacket) → own g (by_view g q h o r)
+own-view : (q : ℕ) (g o : List ℕ) (h : List Act) (r : Result Packet NotPacket) → own g (let_by_view g q h o r)
 own-view q g o h (Err fault) = own-drop g (fault_why fault) [] refl
 own-view q g o h (Ok v) =
-    own-if g (nat_lt 65000 (length o)) (acts.Drop g why.TooLong ∷ []) (by_entry g q h o v (first_entry (force g h) Out v)) (own-drop g why.TooLong [] refl)
+    own-if g (nat_lt 65000 (length o)) (acts.Drop g why.TooLong ∷ []) (let_by_entry g q h o v (first_entry (force g h) Out v)) (own-drop g why.TooLong [] refl)
     (own-entry q g o h v (first_entry (force g h) Out v))
 
 own-let : (q : ℕ) (g o : List ℕ) (h : List Act) → own g (let_acts g q h o)
@@ -151,30 +151,30 @@ own-verdict g b h e n verdicts.Old = own-drop g why.Old [] refl
 own-verdict g b h e n verdicts.Seen = own-drop g why.Seen [] refl
 own-verdict g b h e n verdicts.Fresh = own-text g h e n (esp.opened (keying e.spi e.key) b)
 
-own-found : (g b : List ℕ) (h : List Act) (found : Option SadEntry) → own g (arrive.by_half g h b found)
+own-found : (g b : List ℕ) (h : List Act) (found : Option SadEntry) → own g (arrive.arrive_by_half g h b found)
 own-found g b h None =
     let ns : List Act = tells g h (notices.BadSpi (spi_of b)) in
-    own-drop g why.BadSpi (unless (bad_spi_stands g (spi_of b) h) ns) (own-unless g (bad_spi_stands g (spi_of b) h) ns (own-tells g h (notices.BadSpi (spi_of b))))
+    own-drop g why.BadSpi (unless (does_bad_spi_stand g (spi_of b) h) ns) (own-unless g (does_bad_spi_stand g (spi_of b) h) ns (own-tells g h (notices.BadSpi (spi_of b))))
 own-found g b h (Some e) =
-    let n : ℕ = number_of e (taken g e.name h) b in
-    own-verdict g b h e n (verdict_over e.window (taken g e.name h) n)
+    let n : ℕ = number_of e (numbers_taken g e.name h) b in
+    own-verdict g b h e n (verdict_over e.window (numbers_taken g e.name h) n)
 
-one-action : (g o : List ℕ) (a : Action) → is_strange g (arrive.by_action g o a) ≡ false
+one-action : (g o : List ℕ) (a : Action) → is_strange g (arrive.arrive_by_action g o a) ≡ false
 one-action g o actions.Protect = mine g
 one-action g o actions.Bypass = mine g
 one-action g o actions.Discard = mine g
 
-one-entry : (g o : List ℕ) (p : Option SpdEntry) → is_strange g (arrive.by_entry g o p) ≡ false
+one-entry : (g o : List ℕ) (p : Option SpdEntry) → is_strange g (arrive.arrive_by_entry g o p) ≡ false
 one-entry g o None = mine g
 one-entry g o (Some p) = one-action g o p.action
 
-own-seen : (g o : List ℕ) (address : Addr) (h : List Act) (r : Result Packet NotPacket) → own g (arrive.by_view g address h o r)
+own-seen : (g o : List ℕ) (address : Addr) (h : List Act) (r : Result Packet NotPacket) → own g (arrive.arrive_by_view g address h o r)
 own-seen g o address h (Err fault) = own-drop g (fault_why fault) [] refl
 own-seen g o address h (Ok v) =
-    own-if g (arrive.is_sealed_for address v) (arrive.esp_acts g h v.payload) (arrive.by_entry g o (first_entry (force g h) In v) ∷ [])
-    (own-if g (nat_lt (length v.payload) 34) (arrive.drops g why.Short) (arrive.by_half g h v.payload (by_spi (spi_of v.payload) (live g h))) (own-drop g why.Short [] refl)
+    own-if g (arrive.is_sealed_for address v) (arrive.esp_acts g h v.payload) (arrive.arrive_by_entry g o (first_entry (force g h) In v) ∷ [])
+    (own-if g (nat_lt (length v.payload) 34) (arrive.drops g why.Short) (arrive.arrive_by_half g h v.payload (by_spi (spi_of v.payload) (live g h))) (own-drop g why.Short [] refl)
     (own-found g v.payload h (by_spi (spi_of v.payload) (live g h))))
-    (own-first g (arrive.by_entry g o (first_entry (force g h) In v)) [] (one-entry g o (first_entry (force g h) In v)) refl)
+    (own-first g (arrive.arrive_by_entry g o (first_entry (force g h) In v)) [] (one-entry g o (first_entry (force g h) In v)) refl)
 
 own-arrive : (g o : List ℕ) (address : Addr) (h : List Act) → own g (arrive.arrive_acts g address h o)
 unfolding arrive.arrive_acts
@@ -196,12 +196,12 @@ own-handle g s k h (Err fault) = own-first g (acts.Handled g s k (fault_answer f
 
 -- ---- what another gateway keeps
 
-own-block : (c : Gateway) (h : List Act) (e : Event) → reads_clock e ≡ false → own c.name (gw_block c h e)
+own-block : (c : Gateway) (h : List Act) (e : GatewayEvent) → is_clock_reading e ≡ false → own c.name (gw_block c h e)
 own-block c h (Let o) away = own-first c.name (acts.Let c.name o) (let_acts c.name c.seq_last (acts.Let c.name o ∷ h) o) (mine c.name) (own-let c.seq_last c.name o (acts.Let c.name o ∷ h))
 own-block c h (Arrive o) away =
     own-first c.name (acts.Arrived c.name o) (arrive.arrive_acts c.name c.address (acts.Arrived c.name o ∷ h) o) (mine c.name) (own-arrive c.name o c.address (acts.Arrived c.name o ∷ h))
 own-block c h (Clock t) away = cc
-own-block c h (Handle request) away = own-handle c.name (sessions.taken c.name h) (requests c.name h + 1) h request
+own-block c h (Handle request) away = own-handle c.name (sessions.session_taken c.name h) (requests c.name h + 1) h request
 own-block c h Session_taken away = own-first c.name (acts.Opened c.name (sessions.openings c.name h + 1)) [] (mine c.name) refl
 
 not-true : (b : Bool) → not b ≡ false → b ≡ true
@@ -243,6 +243,6 @@ stays g x h (a ∷ xs) other m =
     let d = did-away x (state_of x h) a away in
     stays g x (a ∷ h) xs other parts.1 ∙ ap quiet (k ∙ sym d)
 
-pub stays-elsewhere : (c : Gateway) (x : List ℕ) (h : List Act) (e : Event) → bytes_eq c.name x ≡ false → reads_clock e ≡ false →
+pub stays-elsewhere : (c : Gateway) (x : List ℕ) (h : List Act) (e : GatewayEvent) → bytes_eq c.name x ≡ false → is_clock_reading e ≡ false →
     quiet (state_of x (after h (gw_block c h e))) ≡ quiet (state_of x h)
 stays-elsewhere c x h e other away = stays c.name x h (gw_block c h e) other (own-block c h e away)

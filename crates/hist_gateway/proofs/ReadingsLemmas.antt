@@ -12,8 +12,8 @@ use Rattle.hist_acts.specs.Past.{force}
 use Rattle.hist_halves.specs.Sealed.{is_inbound, is_opened}
 use Rattle.replay_win.specs.Marks.{is_among}
 use Rattle.hist_gateway.specs.Uses.{arrival, is_for, number_in, was_taken}
-use Rattle.hist_halves.specs.Halves.{is_half, live, is_live, taken, with_number, without}
-use Rattle.hist_gateway.specs.Stands.{has_reqid, is_acquire_of, acquire_stands, soft_given, soft_stands, overflow_given, overflow_stands}
+use Rattle.hist_halves.specs.Halves.{is_half, live, is_live, numbers_taken, with_number, without}
+use Rattle.hist_gateway.specs.Stands.{has_reqid, is_acquire_of, does_acquire_stand, was_soft_given, does_soft_stand, was_overflow_given, does_overflow_stand}
 use Rattle.hist_gateway.specs.State.{acquires, unwanted, with_acquire}
 use Rattle.hist_gateway.specs.May.{has_half}
 use Rattle.hist_gateway.proofs.KeepsLemmas.{number-is, same-is}
@@ -107,22 +107,22 @@ notice-is name (notices.Expire x b c) ps = refl
 notice-is name (notices.SeqOverflow x) ps = refl
 notice-is name (notices.BadSpi k) ps = refl
 
-acquires-notice : (g name f : List ℕ) (n : Notice) (h : List Act) (b : Bool) → bytes_eq f g ≡ b → among name (acquires g h) ≡ acquire_stands g name h →
-    among name (if bytes_eq f g then with_acquire n (acquires g h) else acquires g h) ≡ ((bytes_eq f g && is_acquire_of name n) || acquire_stands g name h)
+acquires-notice : (g name f : List ℕ) (n : Notice) (h : List Act) (b : Bool) → bytes_eq f g ≡ b → among name (acquires g h) ≡ does_acquire_stand g name h →
+    among name (if bytes_eq f g then with_acquire n (acquires g h) else acquires g h) ≡ ((bytes_eq f g && is_acquire_of name n) || does_acquire_stand g name h)
 acquires-notice g name f n h true at ih = rw (at, sym ih) (notice-is name n (acquires g h))
 acquires-notice g name f n h false at ih = rw at ih
 
-acquires-clear : (g name f : List ℕ) (h : List Act) (b : Bool) → bytes_eq f g ≡ b → among name (acquires g h) ≡ acquire_stands g name h →
-    among name (if bytes_eq f g then [] else acquires g h) ≡ (not (bytes_eq f g) && acquire_stands g name h)
+acquires-clear : (g name f : List ℕ) (h : List Act) (b : Bool) → bytes_eq f g ≡ b → among name (acquires g h) ≡ does_acquire_stand g name h →
+    among name (if bytes_eq f g then [] else acquires g h) ≡ (not (bytes_eq f g) && does_acquire_stand g name h)
 acquires-clear g name f h true at ih = rw at refl
 acquires-clear g name f h false at ih = rw at ih
 
-acquires-put : (g name : List ℕ) (r : ℕ) (h : List Act) (b : Bool) (c : Bool) → b ≡ c → among name (acquires g h) ≡ acquire_stands g name h →
-    among name (if b then unwanted r (force g h) (acquires g h) else acquires g h) ≡ (not (b && has_reqid name r (force g h)) && acquire_stands g name h)
+acquires-put : (g name : List ℕ) (r : ℕ) (h : List Act) (b : Bool) (c : Bool) → b ≡ c → among name (acquires g h) ≡ does_acquire_stand g name h →
+    among name (if b then unwanted r (force g h) (acquires g h) else acquires g h) ≡ (not (b && has_reqid name r (force g h)) && does_acquire_stand g name h)
 acquires-put g name r h true c at ih = rw (sym ih) (unwanted-is name r (force g h) (acquires g h))
 acquires-put g name r h false c at ih = ih
 
-pub acquires-is : (g name : List ℕ) (h : List Act) → among name (acquires g h) ≡ acquire_stands g name h
+pub acquires-is : (g name : List ℕ) (h : List Act) → among name (acquires g h) ≡ does_acquire_stand g name h
 acquires-is g name [] = refl
 acquires-is g name (acts.Notice f s n ∷ h) = acquires-notice g name f n h (bytes_eq f g) refl (acquires-is g name h)
 acquires-is g name (acts.Policy f list ∷ h) = acquires-clear g name f h (bytes_eq f g) refl (acquires-is g name h)
@@ -150,19 +150,19 @@ taken-drop true true s n ns = among-end s n ns
 taken-drop true false s n ns = refl
 taken-drop false i s n ns = refl
 
-pub taken-is : (g x : List ℕ) (s : ℕ) (h : List Act) → is_among s (taken g x h) ≡ was_taken g x s h
+pub taken-is : (g x : List ℕ) (s : ℕ) (h : List Act) → is_among s (numbers_taken g x h) ≡ was_taken g x s h
 taken-is g x s [] = refl
-taken-is g x s (acts.Put f e ∷ h) = rw (sym (taken-is g x s h)) (taken-put (is_half f e.name g x) s (taken g x h))
-taken-is g x s (acts.Gave f y n o ∷ h) = rw (sym (taken-is g x s h)) (taken-gave (is_half f y g x) s n (taken g x h))
+taken-is g x s (acts.Put f e ∷ h) = rw (sym (taken-is g x s h)) (taken-put (is_half f e.name g x) s (numbers_taken g x h))
+taken-is g x s (acts.Gave f y n o ∷ h) = rw (sym (taken-is g x s h)) (taken-gave (is_half f y g x) s n (numbers_taken g x h))
 taken-is g x s (acts.Drop f w ∷ h) =
-    rw (sym (taken-is g x s h), number-is g x (taken g x h) h)
-    (taken-drop (bytes_eq f g && is_opened w) (is_for x (live g h) (arrival g h)) s (number_in (arrival g h)) (taken g x h))
+    rw (sym (taken-is g x s h), number-is g x (numbers_taken g x h) h)
+    (taken-drop (bytes_eq f g && is_opened w) (is_for x (live g h) (arrival g h)) s (number_in (arrival g h)) (numbers_taken g x h))
 taken-is g x s (a ∷ h) = taken-is g x s h
 
 -- ---- notices of a live half
 
-pub soft-is : (g x : List ℕ) (h : List Act) → is_live g x h ≡ true → soft_stands g x h ≡ soft_given g x h
+pub soft-is : (g x : List ℕ) (h : List Act) → is_live g x h ≡ true → does_soft_stand g x h ≡ was_soft_given g x h
 soft-is g x h l = rw l refl
 
-pub overflow-is : (g x : List ℕ) (h : List Act) → is_live g x h ≡ true → overflow_stands g x h ≡ overflow_given g x h
+pub overflow-is : (g x : List ℕ) (h : List Act) → is_live g x h ≡ true → does_overflow_stand g x h ≡ was_overflow_given g x h
 overflow-is g x h l = rw l refl

@@ -8,10 +8,10 @@ use Rattle.hist_acts.specs.declared.act.Act.TheVariants as acts
 use Rattle.hist_acts.specs.Past.{after}
 use Rattle.ikeless_tree.specs.declared.association.SadEntry.{SadEntry}
 use Rattle.hist_halves.specs.Sealed.{number_of}
-use Rattle.hist_halves.specs.Halves.{is_half, sent, taken}
-use Rattle.hist_gateway.specs.Block.{Gateway, Event, gw_block, gw_history}
-use Rattle.hist_gateway.specs.May.{MayFollow, IsLawful}
-use Rattle.hist_gateway.specs.Safe.{numbers, Safe}
+use Rattle.hist_halves.specs.Halves.{is_half, sent, numbers_taken}
+use Rattle.hist_gateway.specs.Block.{Gateway, GatewayEvent, gw_block, gw_history}
+use Rattle.hist_gateway.specs.May.{GatewayMayAct, IsGatewayPast}
+use Rattle.hist_gateway.specs.Safe.{numbers, IsGatewaySafe}
 use Rattle.hist_gateway.proofs.KeepsLemmas.{same-is}
 use Rattle.hist_gateway.proofs.MayLemmas.{AllFit, may-block}
 use Rattle.hist_gateway.proofs.StepsLemmas.{after-append}
@@ -51,7 +51,7 @@ same-sent h f y g x n e own =
 
 record Good (h : List Act) : Type 0 where
   pub few : (g x : List ℕ) → AllUpTo (sent g x h) (numbers g x h)
-  pub safe : Safe h
+  pub safe : IsGatewaySafe h
 
 -- ---- a number that is fresh was not taken
 
@@ -66,7 +66,7 @@ fresh-is size ns s e = fresh-by size (greatest ns) s (is_among s ns) (s == 0) (i
 
 -- ---- each act
 
-good : (q : Gateway) (h : List Act) (a : Act) → MayFollow q h a → Good h → Good (a ∷ h)
+good : (q : Gateway) (h : List Act) (a : Act) → GatewayMayAct q h a → Good h → Good (a ∷ h)
 good q h (acts.Clear f o) m k = record { few = k.few; safe = (m, k.safe) }
 good q h (acts.Pass f o) m k = record { few = k.few; safe = (m, k.safe) }
 good q h (acts.Put f e) m k = record { few = λ g x. few-put (is_half f e.name g x) (sent g x h) (numbers g x h) (k.few g x); safe = (tt, k.safe) }
@@ -77,28 +77,28 @@ good q h (acts.Sent f y n o) m k = record {
 good q h (acts.Gave f y n o) m k =
     let e : SadEntry = m.opens.half in
     let b : List ℕ = m.opens.outer.payload in
-    let own : verdict_over e.window (taken f y h) (number_of e (taken f y h) b) ≡ verdicts.Fresh = subst (λ x. verdict_over e.window (taken f x h) (number_of e (taken f x h) b) ≡ verdicts.Fresh) (sym m.name) m.opens.fresh in
-    let fresh : verdict_over e.window (taken f y h) n ≡ verdicts.Fresh = subst (λ s. verdict_over e.window (taken f y h) s ≡ verdicts.Fresh) (sym m.number) own in
-    record { few = k.few; safe = (fresh-is e.window (taken f y h) n fresh, k.safe) }
+    let own : verdict_over e.window (numbers_taken f y h) (number_of e (numbers_taken f y h) b) ≡ verdicts.Fresh = subst (λ x. verdict_over e.window (numbers_taken f x h) (number_of e (numbers_taken f x h) b) ≡ verdicts.Fresh) (sym m.name) m.opens.fresh in
+    let fresh : verdict_over e.window (numbers_taken f y h) n ≡ verdicts.Fresh = subst (λ s. verdict_over e.window (numbers_taken f y h) s ≡ verdicts.Fresh) (sym m.number) own in
+    record { few = k.few; safe = (fresh-is e.window (numbers_taken f y h) n fresh, k.safe) }
 good q h a m k = record { few = k.few; safe = (tt, k.safe) }
 
-good-lawful : (q : Gateway) (h : List Act) → IsLawful q h → Good h
+good-lawful : (q : Gateway) (h : List Act) → IsGatewayPast q h → Good h
 good-lawful q [] l = record { few = λ g x. tt; safe = tt }
 good-lawful q (a ∷ h) l = good q h a l.0 (good-lawful q h l.1)
 
-pub safe-lawful : (q : Gateway) (h : List Act) → IsLawful q h → Safe h
+pub safe-lawful : (q : Gateway) (h : List Act) → IsGatewayPast q h → IsGatewaySafe h
 safe-lawful q h l = (good-lawful q h l).safe
 
-pub lawful-block : AllFit → (c : Gateway) (h : List Act) (e : Event) → IsLawful c h → IsLawful c (after h (gw_block c h e))
+pub lawful-block : AllFit → (c : Gateway) (h : List Act) (e : GatewayEvent) → IsGatewayPast c h → IsGatewayPast c (after h (gw_block c h e))
 lawful-block fits c h e l = lawful-after c h (gw_block c h e) l (may-block fits c h e)
 
-lawful-on : AllFit → (c : Gateway) (h : List Act) (es : List Event) → IsLawful c h → IsLawful c (after h (gw_history c h es))
+lawful-on : AllFit → (c : Gateway) (h : List Act) (es : List GatewayEvent) → IsGatewayPast c h → IsGatewayPast c (after h (gw_history c h es))
 lawful-on fits c h [] l = l
 lawful-on fits c h (e ∷ es) l =
     rw (after-append h (gw_block c h e) (gw_history c (after h (gw_block c h e)) es)) (lawful-on fits c (after h (gw_block c h e)) es (lawful-block fits c h e l))
 
-pub lawful-history : AllFit → (c : Gateway) (es : List Event) → IsLawful c (after [] (gw_history c [] es))
+pub lawful-history : AllFit → (c : Gateway) (es : List GatewayEvent) → IsGatewayPast c (after [] (gw_history c [] es))
 lawful-history fits c es = lawful-on fits c [] es tt
 
-pub safe-history : AllFit → (c : Gateway) (es : List Event) → Safe (after [] (gw_history c [] es))
+pub safe-history : AllFit → (c : Gateway) (es : List GatewayEvent) → IsGatewaySafe (after [] (gw_history c [] es))
 safe-history fits c es = safe-lawful c (after [] (gw_history c [] es)) (lawful-history fits c es)

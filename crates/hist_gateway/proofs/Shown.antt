@@ -34,7 +34,7 @@ use Rattle.hist_acts.specs.declared.act.Act.TheVariants as acts
 use Rattle.hist_gateway.specs.Datagram.{datagram, flow_of}
 use Rattle.hist_gateway.specs.Let.{let_acts}
 use Rattle.hist_gateway.specs.Arrive as arrive
-use Rattle.hist_gateway.specs.Block.{Gateway, Event, Let, Arrive, Clock, Handle, Session_taken, gw_block, gw_history}
+use Rattle.hist_gateway.specs.Block.{Gateway, GatewayEvent, Let, Arrive, Clock, Handle, Session_taken, gw_block, gw_history}
 
 -- ---- who and what
 
@@ -143,7 +143,7 @@ packet_back = 69 ∷ 0 ∷ 0 ∷ 32 ∷ 0 ∷ 0 ∷ 64 ∷ 0 ∷ 64 ∷ 17 ∷ 3
 abbrev inward : Action → List SpdEntry
 inward act = policy (codes "c1") In 0 act (between ten_one ten_two) ∷ []
 
-abbrev replaced_by : Action → Event
+abbrev replaced_by : Action → GatewayEvent
 replaced_by act = Handle (Ok (asks.PutSpd (inward act)))
 
 shown_in : gw_history gateway_a [] (Arrive packet_back ∷ replaced_by actions.Bypass ∷ Arrive packet_back ∷ replaced_by actions.Protect ∷ Arrive packet_back

@@ -83,6 +83,6 @@ pub tree-after : AllFit → AllMake → (c : Gateway) (h : List Act) (ask : Ask)
     tree_of c.name (after h (gw_block c h (Handle (Ok ask)))) ≡ (table.reply (tree_of c.name h) ask).tree
 tree-after fits makes c h ask =
     let r : table.Outcome = table.reply (tree_of c.name h) ask in
-    let last : List Act = acts.Handled c.name (sessions.taken c.name h) (requests c.name h + 1) (answer_of r) ∷ [] in
+    let last : List Act = acts.Handled c.name (sessions.session_taken c.name h) (requests c.name h + 1) (answer_of r) ∷ [] in
     ap (tree_of c.name) (after-append h (change_acts c.name r r.change) last)
     ∙ tree-change c.name h r r.change (fits (tree_of c.name h) ask) (makes (tree_of c.name h) ask)

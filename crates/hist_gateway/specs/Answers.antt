@@ -4,21 +4,21 @@ use Rattle.std.specs.Str.{bytes_eq}
 use Rattle.std.specs.List.{list_any}
 use Rattle.hist_acts.specs.declared.act.Act.{Act}
 use Rattle.hist_acts.specs.declared.act.Act.TheVariants as acts
-use Rattle.hist_gateway.specs.Block.{Event, Clock}
+use Rattle.hist_gateway.specs.Block.{GatewayEvent, Clock}
 
 -- a packet from inside leaves in clear or sealed, or is dropped
-abbrev pub answers_let : Act → Bool
-answers_let (acts.Clear f o) = true
-answers_let (acts.Sent f x n o) = true
-answers_let (acts.Drop f w) = true
-answers_let _ = false
+abbrev pub is_let_answer : Act → Bool
+is_let_answer (acts.Clear f o) = true
+is_let_answer (acts.Sent f x n o) = true
+is_let_answer (acts.Drop f w) = true
+is_let_answer _ = false
 
 -- a datagram from outside is given opened or passes in clear, or is dropped
-abbrev pub answers_arrival : Act → Bool
-answers_arrival (acts.Gave f x n o) = true
-answers_arrival (acts.Pass f o) = true
-answers_arrival (acts.Drop f w) = true
-answers_arrival _ = false
+abbrev pub is_arrival_answer : Act → Bool
+is_arrival_answer (acts.Gave f x n o) = true
+is_arrival_answer (acts.Pass f o) = true
+is_arrival_answer (acts.Drop f w) = true
+is_arrival_answer _ = false
 
 abbrev pub is_answer : Act → Bool
 is_answer (acts.Clear f o) = true
@@ -60,6 +60,6 @@ is_strange g _ = true
 abbrev pub are_strange : List ℕ → List Act → Bool
 are_strange g xs = list_any (is_strange g) xs
 
-abbrev pub reads_clock : Event → Bool
-reads_clock (Clock t) = true
-reads_clock _ = false
+abbrev pub is_clock_reading : GatewayEvent → Bool
+is_clock_reading (Clock t) = true
+is_clock_reading _ = false

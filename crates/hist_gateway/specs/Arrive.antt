@@ -24,8 +24,8 @@ use Rattle.hist_acts.specs.declared.act.Act.TheVariants as acts
 use Rattle.hist_acts.specs.Gateways.{is_same_address}
 use Rattle.hist_acts.specs.Past.{force}
 use Rattle.hist_halves.specs.Sealed.{by_spi, number_of}
-use Rattle.hist_halves.specs.Halves.{live, taken}
-use Rattle.hist_gateway.specs.Stands.{bad_spi_stands}
+use Rattle.hist_halves.specs.Halves.{live, numbers_taken}
+use Rattle.hist_gateway.specs.Stands.{does_bad_spi_stand}
 use Rattle.hist_gateway.specs.Datagram.{fault_why}
 use Rattle.hist_gateway.specs.Look.{look, tells}
 use Rattle.hist_gateway.specs.Let.{unless}
@@ -36,8 +36,8 @@ drops g w = acts.Drop g w ∷ []
 -- ---- what was found inside
 
 -- an answer after which the half is looked at
-abbrev pub uses : List ℕ → List Act → SadEntry → Act → List Act
-uses g h e a = a ∷ look g (a ∷ h) (e ∷ [])
+abbrev pub use_acts : List ℕ → List Act → SadEntry → Act → List Act
+use_acts g h e a = a ∷ look g (a ∷ h) (e ∷ [])
 
 -- the inner octets are a packet of the version that the next header tells
 abbrev pub is_told_version : ℕ → List ℕ → Bool
@@ -59,7 +59,7 @@ by_packet g e n (Some p) = if p.next == 59 then acts.Drop g why.Dummy else by_in
 -- the text that the octets open to; its number is taken, whatever is found in it
 abbrev pub by_text : List ℕ → List Act → SadEntry → ℕ → Option (List ℕ) → List Act
 by_text g h e n None = drops g why.Auth
-by_text g h e n (Some x) = uses g h e (by_packet g e n (esp.packet_of x))
+by_text g h e n (Some x) = use_acts g h e (by_packet g e n (esp.packet_of x))
 
 abbrev pub by_verdict : List ℕ → List Act → List ℕ → SadEntry → ℕ → Verdict → List Act
 by_verdict g h b e n verdicts.Zero = drops g why.Zero
@@ -68,35 +68,35 @@ by_verdict g h b e n verdicts.Seen = drops g why.Seen
 by_verdict g h b e n verdicts.Fresh = by_text g h e n (esp.opened (keying e.spi e.key) b)
 
 abbrev pub by_number : List ℕ → List Act → List ℕ → SadEntry → ℕ → List Act
-by_number g h b e n = by_verdict g h b e n (verdict_over e.window (taken g e.name h) n)
+by_number g h b e n = by_verdict g h b e n (verdict_over e.window (numbers_taken g e.name h) n)
 
-abbrev pub by_half : List ℕ → List Act → List ℕ → Option SadEntry → List Act
-by_half g h b None = acts.Drop g why.BadSpi ∷ unless (bad_spi_stands g (spi_of b) h) (tells g h (notices.BadSpi (spi_of b)))
-by_half g h b (Some e) = by_number g h b e (number_of e (taken g e.name h) b)
+abbrev pub arrive_by_half : List ℕ → List Act → List ℕ → Option SadEntry → List Act
+arrive_by_half g h b None = acts.Drop g why.BadSpi ∷ unless (does_bad_spi_stand g (spi_of b) h) (tells g h (notices.BadSpi (spi_of b)))
+arrive_by_half g h b (Some e) = by_number g h b e (number_of e (numbers_taken g e.name h) b)
 
 -- the acts for ESP octets
 abbrev pub esp_acts : List ℕ → List Act → List ℕ → List Act
-esp_acts g h b = if nat_lt (length b) 34 then drops g why.Short else by_half g h b (by_spi (spi_of b) (live g h))
+esp_acts g h b = if nat_lt (length b) 34 then drops g why.Short else arrive_by_half g h b (by_spi (spi_of b) (live g h))
 
 -- ---- what comes in clear
 
-abbrev pub by_action : List ℕ → List ℕ → Action → Act
-by_action g o actions.Protect = acts.Drop g why.ClearRefused
-by_action g o actions.Bypass = acts.Pass g o
-by_action g o actions.Discard = acts.Drop g why.Discard
+abbrev pub arrive_by_action : List ℕ → List ℕ → Action → Act
+arrive_by_action g o actions.Protect = acts.Drop g why.ClearRefused
+arrive_by_action g o actions.Bypass = acts.Pass g o
+arrive_by_action g o actions.Discard = acts.Drop g why.Discard
 
-abbrev pub by_entry : List ℕ → List ℕ → Option SpdEntry → Act
-by_entry g o None = acts.Drop g why.NoPolicy
-by_entry g o (Some p) = by_action g o p.action
+abbrev pub arrive_by_entry : List ℕ → List ℕ → Option SpdEntry → Act
+arrive_by_entry g o None = acts.Drop g why.NoPolicy
+arrive_by_entry g o (Some p) = arrive_by_action g o p.action
 
 -- the datagram is ESP for the gateway's own address
 abbrev pub is_sealed_for : Addr → Packet → Bool
 is_sealed_for own v = (v.proto == 50) && is_same_address v.dst own
 
-abbrev pub by_view : List ℕ → Addr → List Act → List ℕ → Result Packet NotPacket → List Act
-by_view g own h o (Err fault) = drops g (fault_why fault)
-by_view g own h o (Ok v) = if is_sealed_for own v then esp_acts g h v.payload else by_entry g o (first_entry (force g h) In v) ∷ []
+abbrev pub arrive_by_view : List ℕ → Addr → List Act → List ℕ → Result Packet NotPacket → List Act
+arrive_by_view g own h o (Err fault) = drops g (fault_why fault)
+arrive_by_view g own h o (Ok v) = if is_sealed_for own v then esp_acts g h v.payload else arrive_by_entry g o (first_entry (force g h) In v) ∷ []
 
 -- the acts at gateway g with its own address for the datagram o
 unfoldable pub arrive_acts : List ℕ → Addr → List Act → List ℕ → List Act
-arrive_acts g own h o = by_view g own h o (view_of o)
+arrive_acts g own h o = arrive_by_view g own h o (view_of o)

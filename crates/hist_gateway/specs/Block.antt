@@ -20,26 +20,26 @@ pub record Gateway : Type 0 where
 
 -- What comes to a gateway: a packet from inside, a datagram from outside, a reading of the clock, a request that was read or
 -- the fault of one that wasn't, and a session.
-pub data Event : Type 0 where
-  Let : (octets : List ℕ) → Event
-  Arrive : (octets : List ℕ) → Event
-  Clock : (now : ℕ) → Event
-  Handle : (request : Result Ask Fault) → Event
-  Session_taken : Event
+pub data GatewayEvent : Type 0 where
+  Let : (octets : List ℕ) → GatewayEvent
+  Arrive : (octets : List ℕ) → GatewayEvent
+  Clock : (now : ℕ) → GatewayEvent
+  Handle : (request : Result Ask Fault) → GatewayEvent
+  Session_taken : GatewayEvent
 
 -- the live halves are looked at where the reading raised the clock
 abbrev pub clock_acts : List ℕ → List Act → Bool → List Act
 clock_acts g h raised = if raised then look g h (live g h) else []
 
 -- the block of an event after a past
-abbrev pub gw_block : Gateway → List Act → Event → List Act
+abbrev pub gw_block : Gateway → List Act → GatewayEvent → List Act
 gw_block c h (Let o) = acts.Let c.name o ∷ let_acts c.name c.seq_last (acts.Let c.name o ∷ h) o
 gw_block c h (Arrive o) = acts.Arrived c.name o ∷ arrive_acts c.name c.address (acts.Arrived c.name o ∷ h) o
 gw_block c h (Clock t) = acts.Now (max t (clock h)) ∷ clock_acts c.name (acts.Now (max t (clock h)) ∷ h) (nat_lt (clock h) t)
-gw_block c h (Handle request) = handle_acts c.name (sessions.taken c.name h) (requests c.name h + 1) h request
+gw_block c h (Handle request) = handle_acts c.name (sessions.session_taken c.name h) (requests c.name h + 1) h request
 gw_block c h Session_taken = acts.Opened c.name (sessions.openings c.name h + 1) ∷ []
 
 -- the acts of these events after a past
-abbrev pub gw_history : Gateway → List Act → List Event → List Act
+abbrev pub gw_history : Gateway → List Act → List GatewayEvent → List Act
 gw_history c h [] = []
 gw_history c h (e ∷ es) = gw_block c h e ++ gw_history c (after h (gw_block c h e)) es

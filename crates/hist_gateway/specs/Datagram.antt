@@ -30,13 +30,13 @@ fault_why faults.Fragment = why.Fragment
 fault_why _ = why.Malformed
 
 -- the DF bit of the outer header (RFC 4301 section 8.1)
-abbrev pub outer_df : Df → Packet → Bool
-outer_df dfs.Clear v = false
-outer_df dfs.Set v = true
-outer_df dfs.Copy v = v.df
+abbrev pub has_outer_df : Df → Packet → Bool
+has_outer_df dfs.Clear v = false
+has_outer_df dfs.Set v = true
+has_outer_df dfs.Copy v = v.df
 
 abbrev pub outer_of : SadEntry → ℕ → Packet → ℕ → Outer
-outer_of e n v size = record { src = e.local; dst = e.remote; df = outer_df e.df v; id = n % 65536; payload = size }
+outer_of e n v size = record { src = e.local; dst = e.remote; df = has_outer_df e.df v; id = n % 65536; payload = size }
 
 abbrev pub wrapped : SadEntry → ℕ → Packet → List ℕ → List ℕ
 wrapped e n v b = outer_header (outer_of e n v (length b)) ++ b

@@ -15,17 +15,17 @@ use Rattle.hist_acts.specs.declared.act.Act.TheVariants as acts
 use Rattle.hist_acts.specs.Past.{force}
 use Rattle.hist_halves.specs.Sealed.{is_inbound}
 use Rattle.hist_halves.specs.Halves.{live, sent}
-use Rattle.hist_gateway.specs.Stands.{acquire_stands, overflow_given}
+use Rattle.hist_gateway.specs.Stands.{does_acquire_stand, was_overflow_given}
 use Rattle.hist_gateway.specs.Datagram.{fault_why, datagram, flow_of}
 use Rattle.hist_gateway.specs.Look.{look, tells}
 
 -- an outbound half with this reqid whose selector holds the packet
-abbrev pub seals : ℕ → Packet → SadEntry → Bool
-seals reqid v e = not (is_inbound e.name) && ((e.reqid == reqid) && holds_packet e.selector Out v)
+abbrev pub may_seal : ℕ → Packet → SadEntry → Bool
+may_seal reqid v e = not (is_inbound e.name) && ((e.reqid == reqid) && holds_packet e.selector Out v)
 
 abbrev pub newer : ℕ → Packet → SadEntry → Option SadEntry → Option SadEntry
 newer reqid v e (Some x) = Some x
-newer reqid v e None = if seals reqid v e then Some e else None
+newer reqid v e None = if may_seal reqid v e then Some e else None
 
 -- the newest such half
 abbrev pub newest : ℕ → Packet → List SadEntry → Option SadEntry
@@ -37,28 +37,28 @@ unless true xs = []
 unless false xs = xs
 
 -- a datagram is sent under the half, and the half is looked at
-abbrev pub sends : List ℕ → List Act → SadEntry → ℕ → List ℕ → List Act
-sends g h e n d = acts.Sent g e.name n d ∷ look g (acts.Sent g e.name n d ∷ h) (e ∷ [])
+abbrev pub send_acts : List ℕ → List Act → SadEntry → ℕ → List ℕ → List Act
+send_acts g h e n d = acts.Sent g e.name n d ∷ look g (acts.Sent g e.name n d ∷ h) (e ∷ [])
 
-abbrev pub by_half : List ℕ → ℕ → List Act → List ℕ → Packet → SpdEntry → Option SadEntry → List Act
-by_half g seq_last h o v p None = acts.Drop g why.NoSa ∷ unless (acquire_stands g p.name h) (tells g h (notices.Acquire p.name (flow_of v)))
-by_half g seq_last h o v p (Some e) =
-    if nat_le seq_last (sent g e.name h) then acts.Drop g why.SeqLimit ∷ unless (overflow_given g e.name h) (tells g h (notices.SeqOverflow e.name))
-    else sends g h e (sent g e.name h + 1) (datagram e (sent g e.name h + 1) v o)
+abbrev pub let_by_half : List ℕ → ℕ → List Act → List ℕ → Packet → SpdEntry → Option SadEntry → List Act
+let_by_half g seq_last h o v p None = acts.Drop g why.NoSa ∷ unless (does_acquire_stand g p.name h) (tells g h (notices.Acquire p.name (flow_of v)))
+let_by_half g seq_last h o v p (Some e) =
+    if nat_le seq_last (sent g e.name h) then acts.Drop g why.SeqLimit ∷ unless (was_overflow_given g e.name h) (tells g h (notices.SeqOverflow e.name))
+    else send_acts g h e (sent g e.name h + 1) (datagram e (sent g e.name h + 1) v o)
 
-abbrev pub by_action : List ℕ → ℕ → List Act → List ℕ → Packet → SpdEntry → Action → List Act
-by_action g seq_last h o v p actions.Protect = by_half g seq_last h o v p (newest p.reqid v (live g h))
-by_action g seq_last h o v p actions.Bypass = acts.Clear g o ∷ []
-by_action g seq_last h o v p actions.Discard = acts.Drop g why.Discard ∷ []
+abbrev pub let_by_action : List ℕ → ℕ → List Act → List ℕ → Packet → SpdEntry → Action → List Act
+let_by_action g seq_last h o v p actions.Protect = let_by_half g seq_last h o v p (newest p.reqid v (live g h))
+let_by_action g seq_last h o v p actions.Bypass = acts.Clear g o ∷ []
+let_by_action g seq_last h o v p actions.Discard = acts.Drop g why.Discard ∷ []
 
-abbrev pub by_entry : List ℕ → ℕ → List Act → List ℕ → Packet → Option SpdEntry → List Act
-by_entry g seq_last h o v None = acts.Drop g why.NoPolicy ∷ []
-by_entry g seq_last h o v (Some p) = by_action g seq_last h o v p p.action
+abbrev pub let_by_entry : List ℕ → ℕ → List Act → List ℕ → Packet → Option SpdEntry → List Act
+let_by_entry g seq_last h o v None = acts.Drop g why.NoPolicy ∷ []
+let_by_entry g seq_last h o v (Some p) = let_by_action g seq_last h o v p p.action
 
-abbrev pub by_view : List ℕ → ℕ → List Act → List ℕ → Result Packet NotPacket → List Act
-by_view g seq_last h o (Err fault) = acts.Drop g (fault_why fault) ∷ []
-by_view g seq_last h o (Ok v) = if nat_lt 65000 (length o) then acts.Drop g why.TooLong ∷ [] else by_entry g seq_last h o v (first_entry (force g h) Out v)
+abbrev pub let_by_view : List ℕ → ℕ → List Act → List ℕ → Result Packet NotPacket → List Act
+let_by_view g seq_last h o (Err fault) = acts.Drop g (fault_why fault) ∷ []
+let_by_view g seq_last h o (Ok v) = if nat_lt 65000 (length o) then acts.Drop g why.TooLong ∷ [] else let_by_entry g seq_last h o v (first_entry (force g h) Out v)
 
 -- the acts at gateway g for the packet o, where no half sends a number above the last one
 unfoldable pub let_acts : List ℕ → ℕ → List Act → List ℕ → List Act
-let_acts g seq_last h o = by_view g seq_last h o (view_of o)
+let_acts g seq_last h o = let_by_view g seq_last h o (view_of o)

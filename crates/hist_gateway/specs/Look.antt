@@ -10,7 +10,7 @@ use Rattle.hist_acts.specs.declared.act.Act.{Act}
 use Rattle.hist_acts.specs.declared.act.Act.TheVariants as acts
 use Rattle.hist_acts.specs.Sessions as sessions
 use Rattle.hist_gateway.specs.Uses.{counts}
-use Rattle.hist_gateway.specs.Stands.{soft_given}
+use Rattle.hist_gateway.specs.Stands.{was_soft_given}
 
 -- a count reaches its limit when it is equal or greater; a limit of 0 is none
 abbrev pub reaches : ℕ → ℕ → Bool
@@ -32,7 +32,7 @@ given_by g s (n ∷ ns) = acts.Notice g s n ∷ given_by g s ns
 
 -- the notice in the session taken, or 0
 abbrev pub tells : List ℕ → List Act → Notice → List Act
-tells g h n = acts.Notice g (sessions.taken g h) n ∷ []
+tells g h n = acts.Notice g (sessions.session_taken g h) n ∷ []
 
 -- of these halves those that are gone, and the notices of them all
 abbrev pub goings : List ℕ → List Act → List SadEntry → List Act
@@ -41,7 +41,7 @@ goings g h (e ∷ es) = if is_reached e.hard (counts g e.name h) then acts.Gone 
 
 abbrev pub expiries : List ℕ → List Act → List SadEntry → List Act
 expiries g h [] = []
-expiries g h (e ∷ es) = given_by g (sessions.taken g h) (expiry e (counts g e.name h) (soft_given g e.name h)) ++ expiries g h es
+expiries g h (e ∷ es) = given_by g (sessions.session_taken g h) (expiry e (counts g e.name h) (was_soft_given g e.name h)) ++ expiries g h es
 
 -- a look at these halves
 abbrev pub look : List ℕ → List Act → List SadEntry → List Act

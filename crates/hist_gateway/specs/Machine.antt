@@ -30,11 +30,11 @@ use Rattle.hist_halves.specs.Sealed.{is_inbound}
 use Rattle.hist_gateway.specs.Uses.{cut_32, octets_in}
 use Rattle.hist_gateway.specs.Datagram.{fault_why, datagram, flow_of}
 use Rattle.hist_gateway.specs.Look.{is_reached, expiry, given_by}
-use Rattle.hist_gateway.specs.Let.{seals, unless}
+use Rattle.hist_gateway.specs.Let.{may_seal, unless}
 use Rattle.hist_gateway.specs.Arrive as arrive
 use Rattle.hist_gateway.specs.Handle.{Fault, reply_acts, fault_answer}
-use Rattle.hist_gateway.specs.Block.{Gateway, Event, Let, Arrive, Clock, Handle, Session_taken}
-use Rattle.hist_gateway.specs.State.{Half, State, did_all, send, take_number}
+use Rattle.hist_gateway.specs.Block.{Gateway, GatewayEvent, Let, Arrive, Clock, Handle, Session_taken}
+use Rattle.hist_gateway.specs.State.{Half, GatewayState, did_all, send, take_number}
 
 -- ---- counts and looks
 
@@ -52,71 +52,71 @@ expiries_of g session now (x ∷ xs) = given_by g session (expiry x.entry (count
 abbrev pub look_of : List ℕ → ℕ → ℕ → List Half → List Act
 look_of g session now xs = goings_of g now xs ++ expiries_of g session now xs
 
-abbrev pub tells_of : List ℕ → State → Notice → List Act
+abbrev pub tells_of : List ℕ → GatewayState → Notice → List Act
 tells_of g s n = acts.Notice g s.session n ∷ []
 
 -- ---- a packet from inside
 
 abbrev pub newer_of : ℕ → Packet → Half → Option Half → Option Half
 newer_of reqid v x (Some y) = Some y
-newer_of reqid v x None = if seals reqid v x.entry then Some x else None
+newer_of reqid v x None = if may_seal reqid v x.entry then Some x else None
 
 abbrev pub newest_of : ℕ → Packet → List Half → Option Half
 newest_of reqid v [] = None
 newest_of reqid v (x ∷ xs) = newer_of reqid v x (newest_of reqid v xs)
 
-abbrev pub sends_of : List ℕ → State → Half → ℕ → List ℕ → List Act
+abbrev pub sends_of : List ℕ → GatewayState → Half → ℕ → List ℕ → List Act
 sends_of g s x n d = acts.Sent g x.entry.name n d ∷ look_of g s.session s.clock (send s.clock (octets_in (Some d)) x ∷ [])
 
-abbrev pub out_by_half : List ℕ → ℕ → State → List ℕ → Packet → SpdEntry → Option Half → List Act
+abbrev pub out_by_half : List ℕ → ℕ → GatewayState → List ℕ → Packet → SpdEntry → Option Half → List Act
 out_by_half g seq_last s o v p None =
     acts.Drop g why.NoSa ∷ unless (list_any (λ q. bytes_eq q p.name) s.acquires) (tells_of g s (notices.Acquire p.name (flow_of v)))
 out_by_half g seq_last s o v p (Some x) =
     if nat_le seq_last x.sent then acts.Drop g why.SeqLimit ∷ unless x.overflow (tells_of g s (notices.SeqOverflow x.entry.name))
     else sends_of g s x (x.sent + 1) (datagram x.entry (x.sent + 1) v o)
 
-abbrev pub out_by_action : List ℕ → ℕ → State → List ℕ → Packet → SpdEntry → Action → List Act
+abbrev pub out_by_action : List ℕ → ℕ → GatewayState → List ℕ → Packet → SpdEntry → Action → List Act
 out_by_action g seq_last s o v p actions.Protect = out_by_half g seq_last s o v p (newest_of p.reqid v s.halves)
 out_by_action g seq_last s o v p actions.Bypass = acts.Clear g o ∷ []
 out_by_action g seq_last s o v p actions.Discard = acts.Drop g why.Discard ∷ []
 
-abbrev pub out_by_entry : List ℕ → ℕ → State → List ℕ → Packet → Option SpdEntry → List Act
+abbrev pub out_by_entry : List ℕ → ℕ → GatewayState → List ℕ → Packet → Option SpdEntry → List Act
 out_by_entry g seq_last s o v None = acts.Drop g why.NoPolicy ∷ []
 out_by_entry g seq_last s o v (Some p) = out_by_action g seq_last s o v p p.action
 
-abbrev pub out_by_view : List ℕ → ℕ → State → List ℕ → Result Packet NotPacket → List Act
+abbrev pub out_by_view : List ℕ → ℕ → GatewayState → List ℕ → Result Packet NotPacket → List Act
 out_by_view g seq_last s o (Err fault) = acts.Drop g (fault_why fault) ∷ []
 out_by_view g seq_last s o (Ok v) =
     if nat_lt 65000 (length o) then acts.Drop g why.TooLong ∷ [] else out_by_entry g seq_last s o v (first_entry s.spd Out v)
 
 -- ---- a datagram from outside
 
-abbrev pub uses_of : List ℕ → State → List ℕ → Half → ℕ → Act → List Act
+abbrev pub uses_of : List ℕ → GatewayState → List ℕ → Half → ℕ → Act → List Act
 uses_of g s o x n a = a ∷ look_of g s.session s.clock (take_number s.clock (octets_in (Some o)) n x ∷ [])
 
-abbrev pub in_by_text : List ℕ → State → List ℕ → Half → ℕ → Option (List ℕ) → List Act
+abbrev pub in_by_text : List ℕ → GatewayState → List ℕ → Half → ℕ → Option (List ℕ) → List Act
 in_by_text g s o x n None = arrive.drops g why.Auth
 in_by_text g s o x n (Some text) = uses_of g s o x n (arrive.by_packet g x.entry n (esp.packet_of text))
 
-abbrev pub in_by_verdict : List ℕ → State → List ℕ → List ℕ → Half → ℕ → Verdict → List Act
+abbrev pub in_by_verdict : List ℕ → GatewayState → List ℕ → List ℕ → Half → ℕ → Verdict → List Act
 in_by_verdict g s o b x n verdicts.Zero = arrive.drops g why.Zero
 in_by_verdict g s o b x n verdicts.Old = arrive.drops g why.Old
 in_by_verdict g s o b x n verdicts.Seen = arrive.drops g why.Seen
 in_by_verdict g s o b x n verdicts.Fresh = in_by_text g s o x n (esp.opened (keying x.entry.spi x.entry.key) b)
 
-abbrev pub in_by_half : List ℕ → State → List ℕ → List ℕ → Option Half → List Act
+abbrev pub in_by_half : List ℕ → GatewayState → List ℕ → List ℕ → Option Half → List Act
 in_by_half g s o b None = acts.Drop g why.BadSpi ∷ unless (list_any (λ k. k == spi_of b) s.bad_spis) (tells_of g s (notices.BadSpi (spi_of b)))
 in_by_half g s o b (Some x) = in_by_verdict g s o b x (seq_of b) (judged x.window (seq_of b))
 
 abbrev pub half_by_spi : ℕ → List Half → Option Half
 half_by_spi spi xs = find (λ x. is_inbound x.entry.name && (x.entry.spi == spi)) xs
 
-abbrev pub in_esp : List ℕ → State → List ℕ → List ℕ → List Act
+abbrev pub in_esp : List ℕ → GatewayState → List ℕ → List ℕ → List Act
 in_esp g s o b = if nat_lt (length b) 34 then arrive.drops g why.Short else in_by_half g s o b (half_by_spi (spi_of b) s.halves)
 
-abbrev pub in_by_view : List ℕ → Addr → State → List ℕ → Result Packet NotPacket → List Act
+abbrev pub in_by_view : List ℕ → Addr → GatewayState → List ℕ → Result Packet NotPacket → List Act
 in_by_view g own s o (Err fault) = arrive.drops g (fault_why fault)
-in_by_view g own s o (Ok v) = if arrive.is_sealed_for own v then in_esp g s o v.payload else arrive.by_entry g o (first_entry s.spd In v) ∷ []
+in_by_view g own s o (Ok v) = if arrive.is_sealed_for own v then in_esp g s o v.payload else arrive.arrive_by_entry g o (first_entry s.spd In v) ∷ []
 
 -- ---- a request
 
@@ -126,20 +126,20 @@ top_of x = if is_inbound x.entry.name then x.window.top else x.sent
 abbrev pub row_from : ℕ → Half → SadRow
 row_from now x = record { entry = x.entry; state = record { current = counts_of now x; top = top_of x } }
 
-abbrev pub tree_from : State → Tree
+abbrev pub tree_from : GatewayState → Tree
 tree_from s = record { spd = s.spd; sad = map (row_from s.clock) s.halves }
 
-abbrev pub handles : List ℕ → State → Result Ask Fault → List Act
+abbrev pub handles : List ℕ → GatewayState → Result Ask Fault → List Act
 handles g s (Ok ask) = reply_acts g s.session (s.requests + 1) (reply (tree_from s) ask)
 handles g s (Err fault) = acts.Handled g s.session (s.requests + 1) (fault_answer fault) ∷ []
 
 -- ---- the whole
 
-abbrev pub ticks : List ℕ → State → ℕ → List Act
+abbrev pub ticks : List ℕ → GatewayState → ℕ → List Act
 ticks g s t = if nat_lt s.clock t then look_of g s.session (max t s.clock) s.halves else []
 
 -- the acts of an event
-abbrev pub acts_of : Gateway → State → Event → List Act
+abbrev pub acts_of : Gateway → GatewayState → GatewayEvent → List Act
 acts_of c s (Let o) = acts.Let c.name o ∷ out_by_view c.name c.seq_last s o (view_of o)
 acts_of c s (Arrive o) = acts.Arrived c.name o ∷ in_by_view c.name c.address s o (view_of o)
 acts_of c s (Clock t) = acts.Now (max t s.clock) ∷ ticks c.name s t
@@ -147,11 +147,11 @@ acts_of c s (Handle request) = handles c.name s request
 acts_of c s Session_taken = acts.Opened c.name (s.openings + 1) ∷ []
 
 -- what is kept after it
-abbrev pub next : Gateway → State → Event → State
+abbrev pub next : Gateway → GatewayState → GatewayEvent → GatewayState
 next c s e = did_all c.name s (acts_of c s e)
 
 -- a gateway that was never started has kept nothing
-abbrev pub empty : State
+abbrev pub empty : GatewayState
 empty = record {
   spd = [];
   halves = [];
@@ -165,6 +165,6 @@ empty = record {
 }
 
 -- the acts of events, one after another
-abbrev pub run : Gateway → State → List Event → List Act
+abbrev pub run : Gateway → GatewayState → List GatewayEvent → List Act
 run c s [] = []
 run c s (e ∷ es) = acts_of c s e ++ run c (next c s e) es

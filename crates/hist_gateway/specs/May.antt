@@ -20,7 +20,7 @@ use Rattle.hist_acts.specs.declared.act.Act.TheVariants as acts
 use Rattle.hist_acts.specs.Past.{force}
 use Rattle.hist_acts.specs.Sessions as sessions
 use Rattle.hist_halves.specs.Sealed.{is_inbound, is_opened, by_spi, number_of}
-use Rattle.hist_halves.specs.Halves.{live, is_live, put_of, sent, taken}
+use Rattle.hist_halves.specs.Halves.{live, is_live, put_of, sent, numbers_taken}
 use Rattle.hist_gateway.specs.Datagram.{datagram}
 use Rattle.hist_gateway.specs.Block.{Gateway}
 use Rattle.hist_gateway.specs.Let.{newest}
@@ -81,7 +81,7 @@ pub record OpensArrival (c : Gateway) (h : List Act) (g : List ℕ) : Type 0 whe
   pub view : view_of octets ≡ Ok outer
   pub own : is_sealed_for c.address outer ≡ true
   pub spi : by_spi (spi_of outer.payload) (live g h) ≡ Some half
-  pub fresh : verdict_over half.window (taken g half.name h) (number_of half (taken g half.name h) outer.payload) ≡ verdicts.Fresh
+  pub fresh : verdict_over half.window (numbers_taken g half.name h) (number_of half (numbers_taken g half.name h) outer.payload) ≡ verdicts.Fresh
   pub opened : esp.opened (keying half.spi half.key) outer.payload ≡ Some text
 
 -- What is given is the packet in what the datagram opens to, under the half that has its SPI, with its number.
@@ -90,16 +90,16 @@ pub record IsOpenedArrival (c : Gateway) (h : List Act) (g x : List ℕ) (n : �
   pub inner : Packet
   pub next : ℕ
   pub name : x ≡ opens.half.name
-  pub number : n ≡ number_of opens.half (taken g x h) opens.outer.payload
+  pub number : n ≡ number_of opens.half (numbers_taken g x h) opens.outer.payload
   pub packet : esp.packet_of opens.text ≡ Some (record { next = next; octets = p })
   pub inner_view : view_of p ≡ Ok inner
   pub version : is_told_version next p ≡ true
   pub held : holds_packet opens.half.selector In inner ≡ true
 
 -- what is dropped after its tag was right was opened
-abbrev pub MayDrop : Gateway → List Act → List ℕ → Bool → Type 0
-MayDrop c h g true = OpensArrival c h g
-MayDrop c h g false = Unit {0}
+abbrev pub GatewayMayDrop : Gateway → List Act → List ℕ → Bool → Type 0
+GatewayMayDrop c h g true = OpensArrival c h g
+GatewayMayDrop c h g false = Unit {0}
 
 -- what passes in clear is the datagram that arrived just before, and a bypass entry in force lets it
 pub record IsArrivalIn (h : List Act) (g o : List ℕ) : Type 0 where
@@ -124,27 +124,27 @@ MayGo g h x gone.Removed = has_half x (live g h) ≡ true
 MayGo g h x gone.Hard = Unit {0}
 
 -- what an act of a gateway says of the past before it
-abbrev pub MayFollow : Gateway → List Act → Act → Type 0
-MayFollow c h (acts.Clear f o) = IsLetOut h f o
-MayFollow c h (acts.Sent f x n d) = IsSealedLet c h f x n d
-MayFollow c h (acts.Gave f x n p) = IsOpenedArrival c h f x n p
-MayFollow c h (acts.Pass f o) = IsArrivalIn h f o
-MayFollow c h (acts.Drop f w) = MayDrop c h f (is_opened w)
-MayFollow c h (acts.Put f e) = IsInstallable (live f h) e
-MayFollow c h (acts.Gone f x w) = MayGo f h x w
-MayFollow c h (acts.Opened f s) = s ≡ sessions.openings f h + 1
-MayFollow c h (acts.Handled f s k a) = (s ≡ sessions.taken f h) × (k ≡ requests f h + 1)
-MayFollow c h _ = Unit {0}
+abbrev pub GatewayMayAct : Gateway → List Act → Act → Type 0
+GatewayMayAct c h (acts.Clear f o) = IsLetOut h f o
+GatewayMayAct c h (acts.Sent f x n d) = IsSealedLet c h f x n d
+GatewayMayAct c h (acts.Gave f x n p) = IsOpenedArrival c h f x n p
+GatewayMayAct c h (acts.Pass f o) = IsArrivalIn h f o
+GatewayMayAct c h (acts.Drop f w) = GatewayMayDrop c h f (is_opened w)
+GatewayMayAct c h (acts.Put f e) = IsInstallable (live f h) e
+GatewayMayAct c h (acts.Gone f x w) = MayGo f h x w
+GatewayMayAct c h (acts.Opened f s) = s ≡ sessions.openings f h + 1
+GatewayMayAct c h (acts.Handled f s k a) = (s ≡ sessions.session_taken f h) × (k ≡ requests f h + 1)
+GatewayMayAct c h _ = Unit {0}
 
 -- each of these acts, after those before it
-abbrev pub AllMay : Gateway → List Act → List Act → Type 0
-AllMay c h [] = Unit {0}
-AllMay c h (a ∷ more) = MayFollow c h a × AllMay c (a ∷ h) more
+abbrev pub GatewayMayActAll : Gateway → List Act → List Act → Type 0
+GatewayMayActAll c h [] = Unit {0}
+GatewayMayActAll c h (a ∷ more) = GatewayMayAct c h a × GatewayMayActAll c (a ∷ h) more
 
 -- each act of a past may follow those before it
-abbrev pub IsLawful : Gateway → List Act → Type 0
-IsLawful c [] = Unit {0}
-IsLawful c (a ∷ h) = MayFollow c h a × IsLawful c h
+abbrev pub IsGatewayPast : Gateway → List Act → Type 0
+IsGatewayPast c [] = Unit {0}
+IsGatewayPast c (a ∷ h) = GatewayMayAct c h a × IsGatewayPast c h
 
 -- a half that the act installs at the gateway may be installed there
 abbrev pub MayInstall : List ℕ → List Act → Act → Type 0
@@ -161,7 +161,7 @@ AreInstalled g (a ∷ h) = MayInstall g h a × AreInstalled g h
 -- the act numbers sessions as they are opened, and a request by the session taken; before a restart none was answered without a session
 abbrev pub IsNumbered : List ℕ → List Act → Act → Type 0
 IsNumbered g h (acts.Opened f s) = bytes_eq f g ≡ true → s ≡ sessions.openings g h + 1
-IsNumbered g h (acts.Handled f s k a) = bytes_eq f g ≡ true → s ≡ sessions.taken g h
+IsNumbered g h (acts.Handled f s k a) = bytes_eq f g ≡ true → s ≡ sessions.session_taken g h
 IsNumbered g h (acts.Boot f) = bytes_eq f g ≡ true → sessions.handled g 0 h ≡ 0
 IsNumbered g h _ = Unit {0}
 
@@ -183,9 +183,9 @@ are_apart (e ∷ es) = not (has_half e.name es) && are_apart es
 abbrev pub has_inbound_spi : ℕ → List SadEntry → Bool
 has_inbound_spi spi es = list_any (λ x. is_inbound x.name && (x.spi == spi)) es
 
-abbrev pub have_own_spis : List SadEntry → Bool
-have_own_spis [] = true
-have_own_spis (e ∷ es) = not (is_inbound e.name && has_inbound_spi e.spi es) && have_own_spis es
+abbrev pub are_spis_apart : List SadEntry → Bool
+are_spis_apart [] = true
+are_spis_apart (e ∷ es) = not (is_inbound e.name && has_inbound_spi e.spi es) && are_spis_apart es
 
 -- the halves are those that were installed last under their names
 abbrev pub ArePut : List ℕ → List Act → List SadEntry → Type 0
@@ -195,7 +195,7 @@ ArePut g h (e ∷ es) = (put_of g e.name h ≡ Some e) × ArePut g h es
 pub record AreHalves (g : List ℕ) (h : List Act) : Type 0 where
   pub put : ArePut g h (live g h)
   pub apart : are_apart (live g h) ≡ true
-  pub own_spis : have_own_spis (live g h) ≡ true
+  pub own_spis : are_spis_apart (live g h) ≡ true
   pub few : nat_le (length (live g h)) 4096 ≡ true
 
 -- a live outbound half for the packet
@@ -222,7 +222,7 @@ pub record IsDelivery (c : Gateway) (h : List Act) (o : List ℕ) (outer inner :
   pub own : is_sealed_for c.address outer ≡ true
   pub whole : nat_lt (length outer.payload) 34 ≡ false
   pub spi : by_spi (spi_of outer.payload) (live c.name h) ≡ Some e
-  pub fresh : verdict_over e.window (taken c.name e.name h) (number_of e (taken c.name e.name h) outer.payload) ≡ verdicts.Fresh
+  pub fresh : verdict_over e.window (numbers_taken c.name e.name h) (number_of e (numbers_taken c.name e.name h) outer.payload) ≡ verdicts.Fresh
   pub opened : esp.opened (keying e.spi e.key) outer.payload ≡ Some text
   pub packet : esp.packet_of text ≡ Some (record { next = next; octets = p })
   pub inner_view : view_of p ≡ Ok inner

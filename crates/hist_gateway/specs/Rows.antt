@@ -7,12 +7,12 @@ use Rattle.hist_acts.specs.declared.act.Act.{Act}
 use Rattle.hist_acts.specs.Past.{force}
 use Rattle.replay_win.specs.Marks.{greatest}
 use Rattle.hist_halves.specs.Sealed.{is_inbound}
-use Rattle.hist_halves.specs.Halves.{live, sent, taken}
+use Rattle.hist_halves.specs.Halves.{live, sent, numbers_taken}
 use Rattle.hist_gateway.specs.Uses.{counts}
 
 -- the greatest number taken of an inbound half, and the last number sent of an outbound one
 abbrev pub last_sequence : List ℕ → List Act → SadEntry → ℕ
-last_sequence g h e = if is_inbound e.name then greatest (taken g e.name h) else sent g e.name h
+last_sequence g h e = if is_inbound e.name then greatest (numbers_taken g e.name h) else sent g e.name h
 
 abbrev pub row_of : List ℕ → List Act → SadEntry → SadRow
 row_of g h e = record { entry = e; state = record { current = counts g e.name h; top = last_sequence g h e } }

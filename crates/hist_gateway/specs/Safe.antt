@@ -3,7 +3,7 @@ use Rattle.std.specs.Prelude.{◌≡◌, ℕ, false, List, [], ◌∷◌, if◌t
 use Rattle.replay_win.specs.Marks.{is_among}
 use Rattle.hist_acts.specs.declared.act.Act.{Act}
 use Rattle.hist_acts.specs.declared.act.Act.TheVariants as acts
-use Rattle.hist_halves.specs.Halves.{is_half, taken}
+use Rattle.hist_halves.specs.Halves.{is_half, numbers_taken}
 use Rattle.hist_gateway.specs.May.{IsLetOut, IsArrivalIn}
 
 -- the numbers sent under the half since its installation, the newest first
@@ -15,14 +15,14 @@ numbers g x (_ ∷ h) = numbers g x h
 
 -- An act is safe after its past: in clear only what a bypass entry in force lets goes out or comes in, no number is sent twice
 -- under one installation, and none is given that was taken before.
-abbrev pub IsSafeAct : List Act → Act → Type 0
-IsSafeAct h (acts.Clear f o) = IsLetOut h f o
-IsSafeAct h (acts.Pass f o) = IsArrivalIn h f o
-IsSafeAct h (acts.Sent f x n o) = is_among n (numbers f x h) ≡ false
-IsSafeAct h (acts.Gave f x n o) = is_among n (taken f x h) ≡ false
-IsSafeAct h _ = Unit {0}
+abbrev pub IsGatewayActSafe : List Act → Act → Type 0
+IsGatewayActSafe h (acts.Clear f o) = IsLetOut h f o
+IsGatewayActSafe h (acts.Pass f o) = IsArrivalIn h f o
+IsGatewayActSafe h (acts.Sent f x n o) = is_among n (numbers f x h) ≡ false
+IsGatewayActSafe h (acts.Gave f x n o) = is_among n (numbers_taken f x h) ≡ false
+IsGatewayActSafe h _ = Unit {0}
 
 -- each act is safe after those before it
-abbrev pub Safe : List Act → Type 0
-Safe [] = Unit {0}
-Safe (a ∷ h) = IsSafeAct h a × Safe h
+abbrev pub IsGatewaySafe : List Act → Type 0
+IsGatewaySafe [] = Unit {0}
+IsGatewaySafe (a ∷ h) = IsGatewayActSafe h a × IsGatewaySafe h

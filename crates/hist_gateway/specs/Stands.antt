@@ -31,38 +31,38 @@ has_reqid name reqid list = list_any (λ e. is_named name e && (e.reqid == reqid
 
 -- An acquire stands until the list in force is another one, an outbound half with its entry's reqid is installed, a session is
 -- taken, or the gateway restarts.
-abbrev pub acquire_stands : List ℕ → List ℕ → List Act → Bool
-acquire_stands g name [] = false
-acquire_stands g name (acts.Notice f s n ∷ h) = (bytes_eq f g && is_acquire_of name n) || acquire_stands g name h
-acquire_stands g name (acts.Policy f list ∷ h) = not (bytes_eq f g) && acquire_stands g name h
-acquire_stands g name (acts.Put f e ∷ h) = not ((bytes_eq f g && not (is_inbound e.name)) && has_reqid name e.reqid (force g h)) && acquire_stands g name h
-acquire_stands g name (acts.Opened f s ∷ h) = not (bytes_eq f g) && acquire_stands g name h
-acquire_stands g name (acts.Boot f ∷ h) = not (bytes_eq f g) && acquire_stands g name h
-acquire_stands g name (_ ∷ h) = acquire_stands g name h
+abbrev pub does_acquire_stand : List ℕ → List ℕ → List Act → Bool
+does_acquire_stand g name [] = false
+does_acquire_stand g name (acts.Notice f s n ∷ h) = (bytes_eq f g && is_acquire_of name n) || does_acquire_stand g name h
+does_acquire_stand g name (acts.Policy f list ∷ h) = not (bytes_eq f g) && does_acquire_stand g name h
+does_acquire_stand g name (acts.Put f e ∷ h) = not ((bytes_eq f g && not (is_inbound e.name)) && has_reqid name e.reqid (force g h)) && does_acquire_stand g name h
+does_acquire_stand g name (acts.Opened f s ∷ h) = not (bytes_eq f g) && does_acquire_stand g name h
+does_acquire_stand g name (acts.Boot f ∷ h) = not (bytes_eq f g) && does_acquire_stand g name h
+does_acquire_stand g name (_ ∷ h) = does_acquire_stand g name h
 
 -- a soft expiry of the half was given since its installation, the last session taken and the last restart
-abbrev pub soft_given : List ℕ → List ℕ → List Act → Bool
-soft_given g x [] = false
-soft_given g x (acts.Notice f s n ∷ h) = (bytes_eq f g && is_soft_of x n) || soft_given g x h
-soft_given g x (acts.Put f e ∷ h) = not (is_half f e.name g x) && soft_given g x h
-soft_given g x (acts.Opened f s ∷ h) = not (bytes_eq f g) && soft_given g x h
-soft_given g x (acts.Boot f ∷ h) = not (bytes_eq f g) && soft_given g x h
-soft_given g x (_ ∷ h) = soft_given g x h
+abbrev pub was_soft_given : List ℕ → List ℕ → List Act → Bool
+was_soft_given g x [] = false
+was_soft_given g x (acts.Notice f s n ∷ h) = (bytes_eq f g && is_soft_of x n) || was_soft_given g x h
+was_soft_given g x (acts.Put f e ∷ h) = not (is_half f e.name g x) && was_soft_given g x h
+was_soft_given g x (acts.Opened f s ∷ h) = not (bytes_eq f g) && was_soft_given g x h
+was_soft_given g x (acts.Boot f ∷ h) = not (bytes_eq f g) && was_soft_given g x h
+was_soft_given g x (_ ∷ h) = was_soft_given g x h
 
-abbrev pub overflow_given : List ℕ → List ℕ → List Act → Bool
-overflow_given g x [] = false
-overflow_given g x (acts.Notice f s n ∷ h) = (bytes_eq f g && is_overflow_of x n) || overflow_given g x h
-overflow_given g x (acts.Put f e ∷ h) = not (is_half f e.name g x) && overflow_given g x h
-overflow_given g x (acts.Opened f s ∷ h) = not (bytes_eq f g) && overflow_given g x h
-overflow_given g x (acts.Boot f ∷ h) = not (bytes_eq f g) && overflow_given g x h
-overflow_given g x (_ ∷ h) = overflow_given g x h
+abbrev pub was_overflow_given : List ℕ → List ℕ → List Act → Bool
+was_overflow_given g x [] = false
+was_overflow_given g x (acts.Notice f s n ∷ h) = (bytes_eq f g && is_overflow_of x n) || was_overflow_given g x h
+was_overflow_given g x (acts.Put f e ∷ h) = not (is_half f e.name g x) && was_overflow_given g x h
+was_overflow_given g x (acts.Opened f s ∷ h) = not (bytes_eq f g) && was_overflow_given g x h
+was_overflow_given g x (acts.Boot f ∷ h) = not (bytes_eq f g) && was_overflow_given g x h
+was_overflow_given g x (_ ∷ h) = was_overflow_given g x h
 
 -- they stand as long as the half is live
-abbrev pub soft_stands : List ℕ → List ℕ → List Act → Bool
-soft_stands g x h = is_live g x h && soft_given g x h
+abbrev pub does_soft_stand : List ℕ → List ℕ → List Act → Bool
+does_soft_stand g x h = is_live g x h && was_soft_given g x h
 
-abbrev pub overflow_stands : List ℕ → List ℕ → List Act → Bool
-overflow_stands g x h = is_live g x h && overflow_given g x h
+abbrev pub does_overflow_stand : List ℕ → List ℕ → List Act → Bool
+does_overflow_stand g x h = is_live g x h && was_overflow_given g x h
 
 abbrev pub with_spi : Notice → List ℕ → List ℕ
 with_spi (notices.BadSpi spi) spis = spi ∷ spis
@@ -77,5 +77,5 @@ bad_spis g (acts.Boot f ∷ h) = if bytes_eq f g then [] else bad_spis g h
 bad_spis g (_ ∷ h) = bad_spis g h
 
 -- a bad SPI stands while it is among the last 64
-abbrev pub bad_spi_stands : List ℕ → ℕ → List Act → Bool
-bad_spi_stands g spi h = list_any (λ k. k == spi) (take 64 (bad_spis g h))
+abbrev pub does_bad_spi_stand : List ℕ → ℕ → List Act → Bool
+does_bad_spi_stand g spi h = list_any (λ k. k == spi) (take 64 (bad_spis g h))

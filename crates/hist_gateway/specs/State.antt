@@ -11,9 +11,9 @@ use Rattle.hist_acts.specs.declared.act.Act.TheVariants as acts
 use Rattle.hist_acts.specs.Past.{force, clock}
 use Rattle.hist_acts.specs.Sessions as sessions
 use Rattle.hist_halves.specs.Sealed.{is_inbound, is_opened}
-use Rattle.hist_halves.specs.Halves.{live, sent, taken}
+use Rattle.hist_halves.specs.Halves.{live, sent, numbers_taken}
 use Rattle.hist_gateway.specs.Uses.{arrival, is_for, number_in, octets_in, installed_at, last_used, octets_used, times_used, cut_32, cut_64}
-use Rattle.hist_gateway.specs.Stands.{has_reqid, is_soft_of, is_overflow_of, soft_given, overflow_given, with_spi, bad_spis}
+use Rattle.hist_gateway.specs.Stands.{has_reqid, is_soft_of, is_overflow_of, was_soft_given, was_overflow_given, with_spi, bad_spis}
 use Rattle.hist_gateway.specs.Handle.{requests}
 
 -- a half with what was counted of it since its installation
@@ -30,7 +30,7 @@ pub record Half : Type 0 where
 
 -- The list in force, the halves in the order of installation, the policies whose acquire stands, the last 64 SPIs reported, the
 -- clock, the session taken with its number and the requests answered in it, and the datagram that has no answer yet.
-pub record State : Type 0 where
+pub record GatewayState : Type 0 where
   pub spd : List SpdEntry
   pub halves : List Half
   pub acquires : List (List ℕ)
@@ -67,17 +67,17 @@ abbrev pub half_of : List ℕ → List Act → SadEntry → Half
 half_of g h e = record {
   entry = e;
   sent = sent g e.name h;
-  window = window_of e.window (taken g e.name h);
+  window = window_of e.window (numbers_taken g e.name h);
   installed = installed_at g e.name h;
   used = last_used g e.name h;
   octets = cut_64 (octets_used g e.name h);
   packets = cut_32 (times_used g e.name h);
-  soft = soft_given g e.name h;
-  overflow = overflow_given g e.name h;
+  soft = was_soft_given g e.name h;
+  overflow = was_overflow_given g e.name h;
 }
 
 -- what is to be kept of a past
-abbrev pub state_of : List ℕ → List Act → State
+abbrev pub state_of : List ℕ → List Act → GatewayState
 state_of g h = record {
   spd = force g h;
   halves = map (half_of g h) (live g h);
@@ -85,14 +85,14 @@ state_of g h = record {
   bad_spis = take 64 (bad_spis g h);
   clock = clock h;
   openings = sessions.openings g h;
-  session = sessions.taken g h;
+  session = sessions.session_taken g h;
   requests = requests g h;
   arrival = arrival g h;
 }
 
 -- ---- the effect of an act
 
-abbrev pub quiet : State → State
+abbrev pub quiet : GatewayState → GatewayState
 quiet s = record {
   spd = s.spd;
   halves = s.halves;
@@ -105,7 +105,7 @@ quiet s = record {
   arrival = None;
 }
 
-abbrev pub with_policy : List SpdEntry → State → State
+abbrev pub with_policy : List SpdEntry → GatewayState → GatewayState
 with_policy list s = record {
   spd = list;
   halves = s.halves;
@@ -118,7 +118,7 @@ with_policy list s = record {
   arrival = None;
 }
 
-abbrev pub with_halves : List Half → State → State
+abbrev pub with_halves : List Half → GatewayState → GatewayState
 with_halves halves s = record {
   spd = s.spd;
   halves = halves;
@@ -131,7 +131,7 @@ with_halves halves s = record {
   arrival = None;
 }
 
-abbrev pub with_put : List Half → List (List ℕ) → State → State
+abbrev pub with_put : List Half → List (List ℕ) → GatewayState → GatewayState
 with_put halves names s = record {
   spd = s.spd;
   halves = halves;
@@ -144,7 +144,7 @@ with_put halves names s = record {
   arrival = None;
 }
 
-abbrev pub with_notice : List Half → List (List ℕ) → List ℕ → State → State
+abbrev pub with_notice : List Half → List (List ℕ) → List ℕ → GatewayState → GatewayState
 with_notice halves names spis s = record {
   spd = s.spd;
   halves = halves;
@@ -157,7 +157,7 @@ with_notice halves names spis s = record {
   arrival = None;
 }
 
-abbrev pub with_session : ℕ → List Half → State → State
+abbrev pub with_session : ℕ → List Half → GatewayState → GatewayState
 with_session session halves s = record {
   spd = s.spd;
   halves = halves;
@@ -171,7 +171,7 @@ with_session session halves s = record {
 }
 
 -- a gateway that restarted has nothing but the clock, and the number of sessions goes on
-abbrev pub restarted : State → State
+abbrev pub restarted : GatewayState → GatewayState
 restarted s = record {
   spd = [];
   halves = [];
@@ -184,7 +184,7 @@ restarted s = record {
   arrival = None;
 }
 
-abbrev pub with_clock : ℕ → State → State
+abbrev pub with_clock : ℕ → GatewayState → GatewayState
 with_clock now s = record {
   spd = s.spd;
   halves = s.halves;
@@ -197,7 +197,7 @@ with_clock now s = record {
   arrival = None;
 }
 
-abbrev pub with_request : State → State
+abbrev pub with_request : GatewayState → GatewayState
 with_request s = record {
   spd = s.spd;
   halves = s.halves;
@@ -210,7 +210,7 @@ with_request s = record {
   arrival = None;
 }
 
-abbrev pub with_arrival : List ℕ → State → State
+abbrev pub with_arrival : List ℕ → GatewayState → GatewayState
 with_arrival o s = record {
   spd = s.spd;
   halves = s.halves;
@@ -329,21 +329,21 @@ is_at g (acts.Handled f s k a) = bytes_eq f g
 is_at g (acts.Notice f s n) = bytes_eq f g
 is_at g _ = false
 
-abbrev pub wanted_after : SadEntry → State → List (List ℕ)
+abbrev pub wanted_after : SadEntry → GatewayState → List (List ℕ)
 wanted_after e s = if not (is_inbound e.name) then unwanted e.reqid s.spd s.acquires else s.acquires
 
-abbrev pub opens : State → State
-opens s = with_halves (map (opened_under (entries_of s.halves) s.arrival s.clock) s.halves) s
+abbrev pub number_opened : GatewayState → GatewayState
+number_opened s = with_halves (map (opened_under (entries_of s.halves) s.arrival s.clock) s.halves) s
 
 -- what an act of this gateway makes of what was kept
-abbrev pub did_at : State → Act → State
+abbrev pub did_at : GatewayState → Act → GatewayState
 did_at s (acts.Now t) = with_clock (max t s.clock) s
 did_at s (acts.Boot f) = restarted s
 did_at s (acts.Policy f list) = with_policy list s
 did_at s (acts.Put f e) = with_put (s.halves ++ fresh s.clock e ∷ []) (wanted_after e s) s
 did_at s (acts.Gone f x w) = with_halves (gone_from x s.halves) s
 did_at s (acts.Sent f x n o) = with_halves (map (sent_under x s.clock (octets_in (Some o))) s.halves) s
-did_at s (acts.Drop f w) = if is_opened w then opens s else quiet s
+did_at s (acts.Drop f w) = if is_opened w then number_opened s else quiet s
 did_at s (acts.Arrived f o) = with_arrival o s
 did_at s (acts.Gave f x n o) = with_halves (map (given_under x s.clock (octets_in s.arrival) n) s.halves) s
 did_at s (acts.Opened f n) = with_session n (map hush s.halves) s
@@ -352,9 +352,9 @@ did_at s (acts.Notice f k n) = with_notice (map (note n) s.halves) (with_acquire
 did_at s _ = quiet s
 
 -- the state of gateway g after an act
-abbrev pub did : List ℕ → State → Act → State
+abbrev pub did : List ℕ → GatewayState → Act → GatewayState
 did g s a = if is_at g a then did_at s a else quiet s
 
-abbrev pub did_all : List ℕ → State → List Act → State
+abbrev pub did_all : List ℕ → GatewayState → List Act → GatewayState
 did_all g s [] = s
 did_all g s (a ∷ more) = did_all g (did g s a) more

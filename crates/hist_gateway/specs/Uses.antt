@@ -16,14 +16,14 @@ abbrev pub arrival : List ℕ → List Act → Option (List ℕ)
 arrival g (acts.Arrived f o ∷ h) = if bytes_eq f g then Some o else None
 arrival g _ = None
 
-abbrev pub names_half : List ℕ → Option SadEntry → Bool
-names_half x None = false
-names_half x (Some e) = bytes_eq e.name x
+abbrev pub is_named_half : List ℕ → Option SadEntry → Bool
+is_named_half x None = false
+is_named_half x (Some e) = bytes_eq e.name x
 
 -- of these halves the datagram is for this one
 abbrev pub is_for : List ℕ → List SadEntry → Option (List ℕ) → Bool
 is_for x halves None = false
-is_for x halves (Some o) = names_half x (by_spi (spi_of (esp_of o)) halves)
+is_for x halves (Some o) = is_named_half x (by_spi (spi_of (esp_of o)) halves)
 
 -- The act is a use of the half, after its past: a datagram is sealed under it, or one arrived for it whose tag was right.
 abbrev pub is_use : List ℕ → List ℕ → Act → List Act → Bool

@@ -4,12 +4,12 @@ ghost use Rattle.std.specs.List.{list_any};
 ghost use Rattle.std.specs.Str.{bytes_eq};
 ghost use Rattle.hist_acts.specs.declared.act.Act.{Act};
 ghost use Rattle.hist_acts.specs.Past.{after};
-ghost use Rattle.hist_halves.specs.Halves.{live, is_live, taken};
-ghost use Rattle.hist_gateway.specs.Stands.{acquire_stands, soft_given, soft_stands, overflow_given, overflow_stands};
+ghost use Rattle.hist_halves.specs.Halves.{live, is_live, numbers_taken};
+ghost use Rattle.hist_gateway.specs.Stands.{does_acquire_stand, was_soft_given, does_soft_stand, was_overflow_given, does_overflow_stand};
 ghost use Rattle.hist_gateway.specs.Uses.{was_taken};
 ghost use Rattle.replay_win.specs.Marks.{is_among};
-ghost use Rattle.hist_gateway.specs.Block.{Gateway, Event, Let, Arrive, Clock, Handle, gw_block, gw_history};
-ghost use Rattle.hist_gateway.specs.Answers.{answers_let, answers_arrival, is_answer, has_one_answer, reads_clock};
+ghost use Rattle.hist_gateway.specs.Block.{Gateway, GatewayEvent, Let, Arrive, Clock, Handle, gw_block, gw_history};
+ghost use Rattle.hist_gateway.specs.Answers.{is_let_answer, is_arrival_answer, is_answer, has_one_answer, is_clock_reading};
 ghost use Rattle.hist_gateway.specs.Handle.{Fault, requests};
 ghost use Rattle.hist_acts.specs.Sessions.{handled};
 ghost use Rattle.hist_acts.specs.Sessions as sessions;
@@ -18,9 +18,9 @@ ghost use Rattle.reply_table.specs.Reply.{reply};
 ghost use Rattle.hist_gateway.specs.Rows.{tree_of};
 ghost use Rattle.hist_gateway.specs.State.{state_of, did, acquires, quiet};
 ghost use Rattle.hist_gateway.specs.Machine.{acts_of, empty, next, run};
-ghost use Rattle.hist_gateway.specs.May.{has_half, IsNewHalf, AllMay, IsLawful, AreInstalled, AreNumbered, AreHalves, is_boot, IsHalfFor, IsHalfOf, IsDelivery};
+ghost use Rattle.hist_gateway.specs.May.{has_half, IsNewHalf, GatewayMayActAll, IsGatewayPast, AreInstalled, AreNumbered, AreHalves, is_boot, IsHalfFor, IsHalfOf, IsDelivery};
 ghost use Rattle.hist_gateway.specs.Let.{newest};
-ghost use Rattle.hist_gateway.specs.Arrive.{uses};
+ghost use Rattle.hist_gateway.specs.Arrive.{use_acts};
 ghost use Rattle.hist_gateway.specs.Datagram.{datagram};
 ghost use Rattle.hist_halves.specs.Sealed.{by_spi, esp_of, number_of, next_header};
 ghost use Rattle.hist_acts.specs.declared.act.Act.TheVariants as acts;
@@ -28,7 +28,7 @@ ghost use Rattle.ikeless_tree.specs.declared.association.SadEntry.{SadEntry};
 ghost use Rattle.ip_packet.specs.View.{Packet};
 ghost use Rattle.ip_packet.specs.Outer.{AreOneFamily};
 ghost use Rattle.esp_frame.specs.Esp.{esp, keying};
-ghost use Rattle.hist_gateway.specs.Safe.{Safe};
+ghost use Rattle.hist_gateway.specs.Safe.{IsGatewaySafe};
 
 use ip_packet::sealed_view;
 use replay_win::verdicts;
@@ -46,17 +46,17 @@ pub fn keeps()
 /// arrived with it was given, or dropped after it had opened. A notice that was given of a live half stands.
 pub fn readings()
     ensures live { (g x : List ℕ) (h : List Act) → has_half x (live g h) ≡ is_live g x h }
-    ensures acquires { (g name : List ℕ) (h : List Act) → list_any (λ p. bytes_eq p name) (acquires g h) ≡ acquire_stands g name h }
-    ensures taken { (g x : List ℕ) (s : ℕ) (h : List Act) → is_among s (taken g x h) ≡ was_taken g x s h }
-    ensures soft { (g x : List ℕ) (h : List Act) → is_live g x h ≡ true → soft_stands g x h ≡ soft_given g x h }
-    ensures overflow { (g x : List ℕ) (h : List Act) → is_live g x h ≡ true → overflow_stands g x h ≡ overflow_given g x h }
+    ensures acquires { (g name : List ℕ) (h : List Act) → list_any (λ p. bytes_eq p name) (acquires g h) ≡ does_acquire_stand g name h }
+    ensures taken { (g x : List ℕ) (s : ℕ) (h : List Act) → is_among s (numbers_taken g x h) ≡ was_taken g x s h }
+    ensures soft { (g x : List ℕ) (h : List Act) → is_live g x h ≡ true → does_soft_stand g x h ≡ was_soft_given g x h }
+    ensures overflow { (g x : List ℕ) (h : List Act) → is_live g x h ≡ true → does_overflow_stand g x h ≡ was_overflow_given g x h }
 {}
 
 /// A step from what is kept of a past gives the one block that the past allows, and leaves what is kept of the past with it.
 pub fn steps()
-    ensures acts { (c : Gateway) (h : List Act) (e : Event) → acts_of c (state_of c.name h) e ≡ gw_block c h e }
-    ensures keeps { (c : Gateway) (h : List Act) (e : Event) → state_of c.name (after h (gw_block c h e)) ≡ next c (state_of c.name h) e }
-    ensures run { (c : Gateway) (h : List Act) (es : List Event) → run c (state_of c.name h) es ≡ gw_history c h es }
+    ensures acts { (c : Gateway) (h : List Act) (e : GatewayEvent) → acts_of c (state_of c.name h) e ≡ gw_block c h e }
+    ensures keeps { (c : Gateway) (h : List Act) (e : GatewayEvent) → state_of c.name (after h (gw_block c h e)) ≡ next c (state_of c.name h) e }
+    ensures run { (c : Gateway) (h : List Act) (es : List GatewayEvent) → run c (state_of c.name h) es ≡ gw_history c h es }
 {
     verdicts();
     changes_fit();
@@ -64,7 +64,7 @@ pub fn steps()
 
 /// One more event adds its block at the end, and a gateway begins with nothing.
 pub fn goes_on()
-    ensures block { (c : Gateway) (h : List Act) (events : List Event) (e : Event) →
+    ensures block { (c : Gateway) (h : List Act) (events : List GatewayEvent) (e : GatewayEvent) →
         gw_history c h (events ++ e ∷ []) ≡ gw_history c h events ++ gw_block c (after h (gw_history c h events)) e }
     ensures past { (h xs ys : List Act) → after h (xs ++ ys) ≡ after (after h xs) ys }
     ensures begins { (g : List ℕ) → state_of g [] ≡ empty }
@@ -72,9 +72,9 @@ pub fn goes_on()
 
 /// Each act of a block says of the past before it what such an act may say, so each history of one gateway is lawful act by act.
 pub fn blocks_follow()
-    ensures acts { (c : Gateway) (h : List Act) (e : Event) → AllMay c h (gw_block c h e) }
-    ensures block { (c : Gateway) (h : List Act) (e : Event) → IsLawful c h → IsLawful c (after h (gw_block c h e)) }
-    ensures history { (c : Gateway) (events : List Event) → IsLawful c (after [] (gw_history c [] events)) }
+    ensures acts { (c : Gateway) (h : List Act) (e : GatewayEvent) → GatewayMayActAll c h (gw_block c h e) }
+    ensures block { (c : Gateway) (h : List Act) (e : GatewayEvent) → IsGatewayPast c h → IsGatewayPast c (after h (gw_block c h e)) }
+    ensures history { (c : Gateway) (events : List GatewayEvent) → IsGatewayPast c (after [] (gw_history c [] events)) }
 {
     changes_fit();
 }
@@ -82,8 +82,8 @@ pub fn blocks_follow()
 /// Whatever comes to a gateway, it lets out and in in clear only what a bypass entry in force lets, sends no number twice under one
 /// installation, and gives none that it took before. So does every past that is lawful act by act.
 pub fn is_every_history_safe()
-    ensures history { (c : Gateway) (events : List Event) → Safe (after [] (gw_history c [] events)) }
-    ensures lawful { (c : Gateway) (h : List Act) → IsLawful c h → Safe h }
+    ensures history { (c : Gateway) (events : List GatewayEvent) → IsGatewaySafe (after [] (gw_history c [] events)) }
+    ensures lawful { (c : Gateway) (h : List Act) → IsGatewayPast c h → IsGatewaySafe h }
 {
     changes_fit();
 }
@@ -96,8 +96,8 @@ pub fn halves()
     ensures outbound { (g : List ℕ) (h : List Act) (reqid : ℕ) (v : Packet) (e : SadEntry) → AreInstalled g h →
         newest reqid v (live g h) ≡ Some e → IsHalfFor g h reqid v e }
     ensures inbound { (g : List ℕ) (h : List Act) (spi : ℕ) (e : SadEntry) → AreInstalled g h → by_spi spi (live g h) ≡ Some e → IsHalfOf g h spi e }
-    ensures blocks { (c : Gateway) (g : List ℕ) (h : List Act) (e : Event) → AreInstalled g h → AreInstalled g (after h (gw_block c h e)) }
-    ensures lawful { (c : Gateway) (g : List ℕ) (h : List Act) → IsLawful c h → AreInstalled g h }
+    ensures blocks { (c : Gateway) (g : List ℕ) (h : List Act) (e : GatewayEvent) → AreInstalled g h → AreInstalled g (after h (gw_block c h e)) }
+    ensures lawful { (c : Gateway) (g : List ℕ) (h : List Act) → IsGatewayPast c h → AreInstalled g h }
 {
     changes_fit();
 }
@@ -115,13 +115,13 @@ pub fn sealed()
 pub fn delivers()
     ensures { (c : Gateway) (h : List Act) (o : List ℕ) (outer inner : Packet) (e : SadEntry) (text p : List ℕ) (next : ℕ) →
         IsDelivery c h o outer inner e text next p →
-        gw_block c h (Arrive o) ≡ acts.Arrived c.name o ∷ uses c.name (acts.Arrived c.name o ∷ h) e (acts.Gave c.name e.name (number_of e (taken c.name e.name h) outer.payload) p) }
+        gw_block c h (Arrive o) ≡ acts.Arrived c.name o ∷ use_acts c.name (acts.Arrived c.name o ∷ h) e (acts.Gave c.name e.name (number_of e (numbers_taken c.name e.name h) outer.payload) p) }
 {}
 
 /// What another gateway keeps stays, but for a datagram that had no answer yet, which none has between events. Only a reading of the
 /// clock is one for all.
 pub fn stays_elsewhere()
-    ensures { (c : Gateway) (g : List ℕ) (h : List Act) (e : Event) → bytes_eq c.name g ≡ false → reads_clock e ≡ false →
+    ensures { (c : Gateway) (g : List ℕ) (h : List Act) (e : GatewayEvent) → bytes_eq c.name g ≡ false → is_clock_reading e ≡ false →
         quiet (state_of g (after h (gw_block c h e))) ≡ quiet (state_of g h) }
 {}
 
@@ -136,15 +136,15 @@ pub fn requests_change()
 /// The requests that a gateway counts are those handled in the session that it has taken, where sessions are numbered as they are
 /// opened and requests are handled in the session taken.
 pub fn counts_requests()
-    ensures handled { (g : List ℕ) (h : List Act) → AreNumbered g h → requests g h ≡ handled g (sessions.taken g h) h }
-    ensures lawful { (c : Gateway) (g : List ℕ) (h : List Act) → IsLawful c h → list_any is_boot h ≡ false → AreNumbered g h }
+    ensures handled { (g : List ℕ) (h : List Act) → AreNumbered g h → requests g h ≡ handled g (sessions.session_taken g h) h }
+    ensures lawful { (c : Gateway) (g : List ℕ) (h : List Act) → IsGatewayPast c h → list_any is_boot h ≡ false → AreNumbered g h }
 {}
 
 /// A packet from inside has exactly one answer: it leaves in clear or sealed, or it is dropped. A datagram from outside has exactly
 /// one: it is given opened or passes in clear, or it is dropped. No other event has one.
 pub fn answers()
-    ensures packet { (c : Gateway) (h : List Act) (o : List ℕ) → has_one_answer answers_let (gw_block c h (Let o)) ≡ true }
-    ensures datagram { (c : Gateway) (h : List Act) (o : List ℕ) → has_one_answer answers_arrival (gw_block c h (Arrive o)) ≡ true }
+    ensures packet { (c : Gateway) (h : List Act) (o : List ℕ) → has_one_answer is_let_answer (gw_block c h (Let o)) ≡ true }
+    ensures datagram { (c : Gateway) (h : List Act) (o : List ℕ) → has_one_answer is_arrival_answer (gw_block c h (Arrive o)) ≡ true }
     ensures clock { (c : Gateway) (h : List Act) (t : ℕ) → list_any is_answer (gw_block c h (Clock t)) ≡ false }
     ensures request { (c : Gateway) (h : List Act) (request : Result Ask Fault) → list_any is_answer (gw_block c h (Handle request)) ≡ false }
 {}

@@ -3,9 +3,9 @@ use Rattle.std.proofs.Common.{List, [], ◌∷◌}
 use Rattle.ikeless_tree.specs.declared.command.Peer.{Peer}
 use Rattle.hist_acts.specs.declared.act.Act.{Act}
 use Rattle.hist_acts.specs.Past.{after}
-use Rattle.hist_safety.specs.Law.{IsLawful, MayAll}
+use Rattle.hist_safety.specs.Law.{IsLawful, AllMayHappen}
 
-pub lawful-after : (gs : List Peer) (h more : List Act) → IsLawful gs h → MayAll gs h more → IsLawful gs (after h more)
+pub lawful-after : (gs : List Peer) (h more : List Act) → IsLawful gs h → AllMayHappen gs h more → IsLawful gs (after h more)
 lawful-after gs h [] l m = l
 lawful-after gs h (a ∷ more) l m = lawful-after gs (a ∷ h) more (m.0, l) m.1
 

@@ -9,11 +9,11 @@ use Rattle.replay_win.specs.Marks.{is_among}
 use Rattle.hist_acts.specs.declared.act.Act.{Act}
 use Rattle.hist_acts.specs.declared.act.Act.TheVariants as acts
 use Rattle.hist_halves.specs.Sealed.{esp_of, is_opened}
-use Rattle.hist_halves.specs.Halves.{arrival_number, is_half, is_sealed, taken, was_put, with_number}
+use Rattle.hist_halves.specs.Halves.{arrival_number, is_half, is_sealed, numbers_taken, was_put, with_number}
 use Rattle.hist_safety.specs.Orders.{order_of, site}
 use Rattle.hist_safety.specs.Carried.{Sends, is_let, was_given, was_sent}
-use Rattle.hist_safety.specs.Law.{IsLawful, MayGive, MaySend}
-use Rattle.hist_safety.specs.Kept.{Carried, Given}
+use Rattle.hist_safety.specs.Law.{IsLawful, GiveMayHappen, SendMayHappen}
+use Rattle.hist_safety.specs.Kept.{Carried, WasGiven}
 use Rattle.hist_safety.proofs.Basics.{no, both, both-left, both-right, eq-nat, half-is, half-true, if-old, name-is, name-self, not-true, or-left, or-split, or-true, self}
 use Rattle.hist_safety.proofs.Orders.{other, put-order, put-was}
 use Rattle.hist_safety.proofs.Once.{put-once}
@@ -31,14 +31,14 @@ four true true false d e = absurd (no e)
 four true false c d e = absurd (no e)
 four false b c d e = absurd (no e)
 
-carried-let : (gs : List Peer) (f y : List ℕ) (m : ℕ) (p o : List ℕ) (h : List Act) → IsLawful gs h → MaySend f y m o h → is_let f p h ≡ true → Carried f y m (esp_of o) p h
+carried-let : (gs : List Peer) (f y : List ℕ) (m : ℕ) (p o : List ℕ) (h : List Act) → IsLawful gs h → SendMayHappen f y m o h → is_let f p h ≡ true → Carried f y m (esp_of o) p h
 carried-let gs f y m p o (acts.Let g q ∷ h) l s e =
     let b = name-is q p (both-right (bytes_eq g f) (bytes_eq q p) e) in
     subst (λ z. Carried f y m (esp_of o) z h) b (carried-now gs f y m q o h l.1 s.1)
 carried-let gs f y m p o [] l s e = absurd (no e)
 carried-let gs f y m p o (a ∷ h) l s e = absurd (no e)
 
-carried-new : (gs : List Peer) (f y g x : List ℕ) (m n : ℕ) (b p o : List ℕ) (h : List Act) → IsLawful gs h → MaySend f y m o h → (is_half f y g x && (m == n) && bytes_eq (esp_of o) b && is_let f p h) ≡ true → Carried g x n b p h
+carried-new : (gs : List Peer) (f y g x : List ℕ) (m n : ℕ) (b p o : List ℕ) (h : List Act) → IsLawful gs h → SendMayHappen f y m o h → (is_half f y g x && (m == n) && bytes_eq (esp_of o) b && is_let f p h) ≡ true → Carried g x n b p h
 carried-new gs f y g x m n b p o h l s e =
     let t = four (is_half f y g x) (m == n) (bytes_eq (esp_of o) b) (is_let f p h) e in
     let k = half-is f y g x t.0 in
@@ -62,7 +62,7 @@ carried gs g x n b p (a ∷ h) l e = carried gs g x n b p h l.1 e
 abbrev pub SentSomewhere : List ℕ → List ℕ → List Act → Type 0
 SentSomewhere x b h = (g : List ℕ) × (n : ℕ) × (p : List ℕ) × (was_sent g x n b p h ≡ true)
 
-let-of : (f y : List ℕ) (m : ℕ) (o : List ℕ) (h : List Act) → MaySend f y m o h → (p : List ℕ) × (is_let f p h ≡ true)
+let-of : (f y : List ℕ) (m : ℕ) (o : List ℕ) (h : List Act) → SendMayHappen f y m o h → (p : List ℕ) × (is_let f p h ≡ true)
 let-of f y m o (acts.Let g p ∷ h) s = (p, both (bytes_eq g f) (bytes_eq p p) (let e = s.0 in rw e (name-self f)) (name-self p))
 let-of f y m o [] s = absurd s
 let-of f y m o (a ∷ h) s = absurd s
@@ -70,7 +70,7 @@ let-of f y m o (a ∷ h) s = absurd s
 all-four : (a b c d : Bool) → a ≡ true → b ≡ true → c ≡ true → d ≡ true → (a && b && c && d) ≡ true
 all-four a b c d p q r s = both (a && b && c) d (both (a && b) c (both a b p q) r) s
 
-sealed-now : (f y : List ℕ) (m : ℕ) (o x b : List ℕ) (h : List Act) → MaySend f y m o h → (bytes_eq y x && bytes_eq (esp_of o) b) ≡ true → SentSomewhere x b (acts.Sent f y m o ∷ h)
+sealed-now : (f y : List ℕ) (m : ℕ) (o x b : List ℕ) (h : List Act) → SendMayHappen f y m o h → (bytes_eq y x && bytes_eq (esp_of o) b) ≡ true → SentSomewhere x b (acts.Sent f y m o ∷ h)
 sealed-now f y m o x b h s e =
     let p = let-of f y m o h s in
     let a = half-true f y f x refl (name-is y x (both-left (bytes_eq y x) (bytes_eq (esp_of o) b) e)) in
@@ -118,7 +118,7 @@ among-if : (b : Bool) (n : ℕ) (xs ys : List ℕ) → is_among n ys ≡ true �
 among-if true n xs ys p q = p
 among-if false n xs ys p q = q
 
-given-now : (gs : List Peer) (f y : List ℕ) (m : ℕ) (p : List ℕ) (h : List Act) → IsLawful gs h → MayGive gs f y m p h → was_put f y h ≡ true
+given-now : (gs : List Peer) (f y : List ℕ) (m : ℕ) (p : List ℕ) (h : List Act) → IsLawful gs h → GiveMayHappen gs f y m p h → was_put f y h ≡ true
 given-now gs f y m p (acts.Arrived g o ∷ h) l s =
     let d = s.2 in
     let w = spi-is gs f (spi_of (esp_of o)) d.half h l.1 d.comes.found in
@@ -126,28 +126,28 @@ given-now gs f y m p (acts.Arrived g o ∷ h) l s =
 given-now gs f y m p [] l s = absurd s
 given-now gs f y m p (a ∷ h) l s = absurd s
 
-given-new : (f y x : List ℕ) (m n : ℕ) (q : List ℕ) (h : List Act) → was_put f y h ≡ true → (bytes_eq y x && (m == n)) ≡ true → Given x n (acts.Gave f y m q ∷ h)
+given-new : (f y x : List ℕ) (m n : ℕ) (q : List ℕ) (h : List Act) → was_put f y h ≡ true → (bytes_eq y x && (m == n)) ≡ true → WasGiven x n (acts.Gave f y m q ∷ h)
 given-new f y x m n q h w e =
     let a = name-is y x (both-left (bytes_eq y x) (m == n) e) in
     let b = eq-nat m n (both-right (bytes_eq y x) (m == n) e) in
     let k = half-true f y f x refl a in
-    let r : is_among n (taken f x h ++ m ∷ []) ≡ true = subst (λ z. is_among z (taken f x h ++ m ∷ []) ≡ true) b (among-last m (taken f x h)) in
-    (f, subst (λ z. was_put f z h ≡ true) a w, (let t : is_among n (if is_half f y f x then taken f x h ++ m ∷ [] else taken f x h) ≡ true = rw k r in t))
+    let r : is_among n (numbers_taken f x h ++ m ∷ []) ≡ true = subst (λ z. is_among z (numbers_taken f x h ++ m ∷ []) ≡ true) b (among-last m (numbers_taken f x h)) in
+    (f, subst (λ z. was_put f z h ≡ true) a w, (let t : is_among n (if is_half f y f x then numbers_taken f x h ++ m ∷ [] else numbers_taken f x h) ≡ true = rw k r in t))
 
-given-more : (f y x : List ℕ) (m n : ℕ) (q : List ℕ) (h : List Act) → Given x n h → Given x n (acts.Gave f y m q ∷ h)
-given-more f y x m n q h i = (i.0, i.1, among-if (is_half f y i.0 x) n (taken i.0 x h) (taken i.0 x h ++ m ∷ []) (among-more n m (taken i.0 x h) i.2) i.2)
+given-more : (f y x : List ℕ) (m n : ℕ) (q : List ℕ) (h : List Act) → WasGiven x n h → WasGiven x n (acts.Gave f y m q ∷ h)
+given-more f y x m n q h i = (i.0, i.1, among-if (is_half f y i.0 x) n (numbers_taken i.0 x h) (numbers_taken i.0 x h ++ m ∷ []) (among-more n m (numbers_taken i.0 x h) i.2) i.2)
 
-given-put : (f x : List ℕ) (n : ℕ) (d : SadEntry) (h : List Act) → ((g : List ℕ) → was_put g d.name h ≡ false) → Given x n h → Given x n (acts.Put f d ∷ h)
+given-put : (f x : List ℕ) (n : ℕ) (d : SadEntry) (h : List Act) → ((g : List ℕ) → was_put g d.name h ≡ false) → WasGiven x n h → WasGiven x n (acts.Put f d ∷ h)
 given-put f x n d h w i =
     let q : is_half f d.name i.0 x ≡ false = not-true (is_half f d.name i.0 x) (λ r. let s = (half-is f d.name i.0 x r).1 in no (sym (w i.0) ∙ (let t : was_put i.0 d.name h ≡ true = rw s i.1 in t))) in
-    (i.0, or-true (is_half f d.name i.0 x) (was_put i.0 x h) i.1, (let t : is_among n (if is_half f d.name i.0 x then [] else taken i.0 x h) ≡ true = rw q i.2 in t))
+    (i.0, or-true (is_half f d.name i.0 x) (was_put i.0 x h) i.1, (let t : is_among n (if is_half f d.name i.0 x then [] else numbers_taken i.0 x h) ≡ true = rw q i.2 in t))
 
-pub given : (gs : List Peer) (x : List ℕ) (n : ℕ) (h : List Act) → IsLawful gs h → was_given x n h ≡ true → Given x n h
+pub given : (gs : List Peer) (x : List ℕ) (n : ℕ) (h : List Act) → IsLawful gs h → was_given x n h ≡ true → WasGiven x n h
 given gs x n [] l e = absurd (no e)
 given gs x n (acts.Gave f y m q ∷ h) l e =
-    or-split {A = Given x n (acts.Gave f y m q ∷ h)} (bytes_eq y x && (m == n)) (was_given x n h) (given-new f y x m n q h (given-now gs f y m q h l.1 l.0)) (λ r. given-more f y x m n q h (given gs x n h l.1 r)) e
+    or-split {A = WasGiven x n (acts.Gave f y m q ∷ h)} (bytes_eq y x && (m == n)) (was_given x n h) (given-new f y x m n q h (given-now gs f y m q h l.1 l.0)) (λ r. given-more f y x m n q h (given gs x n h l.1 r)) e
 given gs x n (acts.Put f d ∷ h) l e = given-put f x n d h (λ g. put-once gs g f d h l.1 l.0.0 l.0.1) (given gs x n h l.1 e)
 given gs x n (acts.Drop f why ∷ h) l e =
     let i = given gs x n h l.1 e in
-    (i.0, i.1, among-if (bytes_eq f i.0 && is_opened why) n (taken i.0 x h) (with_number (taken i.0 x h) (arrival_number i.0 x (taken i.0 x h) h)) (among-with n (taken i.0 x h) (arrival_number i.0 x (taken i.0 x h) h) i.2) i.2)
+    (i.0, i.1, among-if (bytes_eq f i.0 && is_opened why) n (numbers_taken i.0 x h) (with_number (numbers_taken i.0 x h) (arrival_number i.0 x (numbers_taken i.0 x h) h)) (among-with n (numbers_taken i.0 x h) (arrival_number i.0 x (numbers_taken i.0 x h) h) i.2) i.2)
 given gs x n (a ∷ h) l e = given gs x n h l.1 e

@@ -10,10 +10,10 @@ use Rattle.ikeless_tree.specs.declared.order.Answer.{Answer}
 use Rattle.ikeless_tree.specs.declared.reply.GoneWhy.TheVariants as gone
 use Rattle.hist_acts.specs.declared.act.Act.{Act}
 use Rattle.hist_acts.specs.declared.act.Act.TheVariants as acts
-use Rattle.hist_acts.specs.Sessions.{answer_at, handled, is_session, order_at, taken}
+use Rattle.hist_acts.specs.Sessions.{answer_at, handled, is_session, order_at, session_taken}
 use Rattle.hist_halves.specs.Halves.{is_half, is_lapsed, is_live, was_put}
-use Rattle.hist_safety.specs.Orders.{in_half, inbounds, is_doomed, is_left, is_made, is_off, is_put, is_removal, ordered, out_half, site}
-use Rattle.hist_safety.specs.Law.{IsAnswer, IsLawful, MayPutIn, MayPutOut, MayRemoveIn, MayRemoveOut}
+use Rattle.hist_safety.specs.Orders.{in_half, inbounds, is_removal_ordered, is_removal_answered, is_put_accepted, is_removal_handled, is_put, is_removal, was_order_given, out_half, site}
+use Rattle.hist_safety.specs.Law.{IsAnswer, IsLawful, PutInMayHappen, PutOutMayHappen, RemoveInMayHappen, RemoveOutMayHappen}
 use Rattle.hist_safety.specs.Kept.{Last}
 use Rattle.hist_safety.proofs.Basics.{no, both-left, both-right, or-left, or-split, or-true, name-is, half-is, half-true, spot-is, some-is, if-cases}
 use Rattle.hist_safety.proofs.Sessions.{next-at, next-is, told-order}
@@ -72,10 +72,10 @@ made-new gs f t j x a h l p q =
 made-older : (x f : List ℕ) (d : SadEntry) (h : List Act) → bytes_eq d.name x ≡ false → was_put (site x h) x h ≡ true → was_put (if bytes_eq d.name x then f else site x h) x h ≡ true
 made-older x f d h q p = rw q p
 
-pub made-put : (gs : List Peer) (x : List ℕ) (h : List Act) → IsLawful gs h → is_made x h ≡ true → was_put (site x h) x h ≡ true
+pub made-put : (gs : List Peer) (x : List ℕ) (h : List Act) → IsLawful gs h → is_put_accepted x h ≡ true → was_put (site x h) x h ≡ true
 made-put gs x [] l q = absurd (no q)
 made-put gs x (acts.Answered f t j a ∷ h) l q =
-    or-split {A = was_put (site x h) x h ≡ true} (is_put x (order_at f t j h) && nat_lt a.status 400) (is_made x h) (made-new gs f t j x a h l.1 l.0.4) (made-put gs x h l.1) q
+    or-split {A = was_put (site x h) x h ≡ true} (is_put x (order_at f t j h) && nat_lt a.status 400) (is_put_accepted x h) (made-new gs f t j x a h l.1 l.0.4) (made-put gs x h l.1) q
 made-put gs x (acts.Put f d ∷ h) l q = or-true (is_half f d.name (site x h) x) (was_put (site x h) x h) (made-put gs x h l.1 q)
 made-put gs x (acts.Order f t j (asks.Put d) ∷ h) l q =
     let i = made-put gs x h l.1 q in
@@ -83,23 +83,23 @@ made-put gs x (acts.Order f t j (asks.Put d) ∷ h) l q =
 made-put gs x (a ∷ h) l q = made-put gs x h l.1 q
 
 -- the outbound half is ordered only where the inbound one was put
-pub first-in : (gs : List Peer) (t : List ℕ) (h : List Act) → IsLawful gs h → ordered (out_half t) h ≡ true → was_put (site (in_half t) h) (in_half t) h ≡ true
+pub first-in : (gs : List Peer) (t : List ℕ) (h : List Act) → IsLawful gs h → was_order_given (out_half t) h ≡ true → was_put (site (in_half t) h) (in_half t) h ≡ true
 first-in gs t h l o = made-put gs (in_half t) h l (pair gs t h l o).8
 
 -- ---- the inbound half is ordered removed only where the outbound one is gone for good
-last-in : (gs : List Peer) (t : List ℕ) (h : List Act) → IsLawful gs h → (ordered (out_half t) h ≡ false) ⊎ (is_left (out_half t) h ≡ true) → Last t h
+last-in : (gs : List Peer) (t : List ℕ) (h : List Act) → IsLawful gs h → (was_order_given (out_half t) h ≡ false) ⊎ (is_removal_answered (out_half t) h ≡ true) → Last t h
 last-in gs t h l (inl p) = inl p
 last-in gs t h l (inr p) = inr (left-off gs (out_half t) h l p)
 
-last-remove : (gs : List Peer) (f y t : List ℕ) (h : List Act) → IsLawful gs h → MayRemoveIn f y h ⊎ MayRemoveOut f y h → y ≡ in_half t → Last t h
+last-remove : (gs : List Peer) (f y t : List ℕ) (h : List Act) → IsLawful gs h → RemoveInMayHappen f y h ⊎ RemoveOutMayHappen f y h → y ≡ in_half t → Last t h
 last-remove gs f y t h l (inl p) q = let e = in-serial p.serial t (sym p.name ∙ q) in subst (λ z. Last z h) e (last-in gs p.serial h l p.last)
 last-remove gs f y t h l (inr p) q = absurd (in-out t p.serial (sym q ∙ p.name))
 
-last-put : (f t : List ℕ) (d : SadEntry) (h : List Act) → is_doomed (in_half t) h ≡ true → MayPutIn d h ⊎ MayPutOut f d h → d.name ≡ out_half t → ⊥
+last-put : (f t : List ℕ) (d : SadEntry) (h : List Act) → is_removal_ordered (in_half t) h ≡ true → PutInMayHappen d h ⊎ PutOutMayHappen f d h → d.name ≡ out_half t → ⊥
 last-put f t d h e (inl p) q = in-out (decimal (inbounds h + 1)) t (sym p.name ∙ q)
 last-put f t d h e (inr p) q =
     let r = out-serial p.serial t (sym p.name ∙ q) in
-    let s : is_doomed (in_half p.serial) h ≡ true = rw r e in
+    let s : is_removal_ordered (in_half p.serial) h ≡ true = rw r e in
     no (sym p.stays ∙ s)
 
 last-or : (b c : Bool) {A : Type 0} → (b ≡ true → ⊥) → (c ≡ false) ⊎ A → ((b || c) ≡ false) ⊎ A
@@ -110,13 +110,13 @@ last-off : {A : Type 0} (b c : Bool) → A ⊎ (c ≡ true) → A ⊎ ((b || c) 
 last-off b c (inl a) = inl a
 last-off b c (inr q) = inr (or-true b c q)
 
-pub last : (gs : List Peer) (t : List ℕ) (h : List Act) → IsLawful gs h → is_doomed (in_half t) h ≡ true → Last t h
+pub last : (gs : List Peer) (t : List ℕ) (h : List Act) → IsLawful gs h → is_removal_ordered (in_half t) h ≡ true → Last t h
 last gs t [] l e = absurd (no e)
 last gs t (acts.Order f s k (asks.Remove y) ∷ h) l e =
-    or-split {A = Last t h} (bytes_eq y (in_half t)) (is_doomed (in_half t) h) (λ q. last-remove gs f y t h l.1 l.0.4 (name-is y (in_half t) q)) (last gs t h l.1) e
+    or-split {A = Last t h} (bytes_eq y (in_half t)) (is_removal_ordered (in_half t) h) (λ q. last-remove gs f y t h l.1 l.0.4 (name-is y (in_half t) q)) (last gs t h l.1) e
 last gs t (acts.Order f s k (asks.Put d) ∷ h) l e =
-    last-or (bytes_eq d.name (out_half t)) (ordered (out_half t) h) {A = is_off (out_half t) h ≡ true} (λ q. last-put f t d h e l.0.4 (name-is d.name (out_half t) q)) (last gs t h l.1 e)
-last gs t (acts.Handled f s k a ∷ h) l e = last-off {A = ordered (out_half t) h ≡ false} (is_removal (out_half t) (order_at f s k h)) (is_off (out_half t) h) (last gs t h l.1 e)
+    last-or (bytes_eq d.name (out_half t)) (was_order_given (out_half t) h) {A = is_removal_handled (out_half t) h ≡ true} (λ q. last-put f t d h e l.0.4 (name-is d.name (out_half t) q)) (last gs t h l.1 e)
+last gs t (acts.Handled f s k a ∷ h) l e = last-off {A = was_order_given (out_half t) h ≡ false} (is_removal (out_half t) (order_at f s k h)) (is_removal_handled (out_half t) h) (last gs t h l.1 e)
 last gs t (a ∷ h) l e = last gs t h l.1 e
 
 -- ---- a half that was put is live, lapsed, or its removal is ordered
@@ -143,15 +143,15 @@ stays-doomed : (b v p d : Bool) → Stands v p d → Stands v p (b || d)
 stays-doomed true v p d i = inr (inr refl)
 stays-doomed false v p d i = i
 
-pub stays : (gs : List Peer) (g x : List ℕ) (h : List Act) → IsLawful gs h → was_put g x h ≡ true → Stands (is_live g x h) (is_lapsed g x h) (is_doomed x h)
+pub stays : (gs : List Peer) (g x : List ℕ) (h : List Act) → IsLawful gs h → was_put g x h ≡ true → Stands (is_live g x h) (is_lapsed g x h) (is_removal_ordered x h)
 stays gs g x [] l e = absurd (no e)
-stays gs g x (acts.Put f d ∷ h) l e = stays-put (is_half f d.name g x) (was_put g x h) (is_live g x h) (is_lapsed g x h) (is_doomed x h) (stays gs g x h l.1) e
+stays gs g x (acts.Put f d ∷ h) l e = stays-put (is_half f d.name g x) (was_put g x h) (is_live g x h) (is_lapsed g x h) (is_removal_ordered x h) (stays gs g x h l.1) e
 stays gs g x (acts.Gone f y gone.Removed ∷ h) l e =
-    let d = (asked gs f (taken f h) (handled f (taken f h) h + 1) y h l.1 (next-is f (asks.Remove y) h l.0.1)).0 in
-    stays-gone (is_half f y g x) (is_live g x h) (is_lapsed g x h) (is_doomed x h) (λ q. subst (λ z. is_doomed z h ≡ true) (half-is f y g x q).1 d) (stays gs g x h l.1 e)
-stays gs g x (acts.Gone f y gone.Hard ∷ h) l e = stays-hard (is_half f y g x) (is_live g x h) (is_lapsed g x h) (is_doomed x h) (stays gs g x h l.1 e)
-stays gs g x (acts.Boot f ∷ h) l e = stays-boot (bytes_eq f g) (was_put g x h) (is_live g x h) (is_lapsed g x h) (is_doomed x h) e (stays gs g x h l.1 e)
-stays gs g x (acts.Order f s k (asks.Remove y) ∷ h) l e = stays-doomed (bytes_eq y x) (is_live g x h) (is_lapsed g x h) (is_doomed x h) (stays gs g x h l.1 e)
+    let d = (asked gs f (session_taken f h) (handled f (session_taken f h) h + 1) y h l.1 (next-is f (asks.Remove y) h l.0.1)).0 in
+    stays-gone (is_half f y g x) (is_live g x h) (is_lapsed g x h) (is_removal_ordered x h) (λ q. subst (λ z. is_removal_ordered z h ≡ true) (half-is f y g x q).1 d) (stays gs g x h l.1 e)
+stays gs g x (acts.Gone f y gone.Hard ∷ h) l e = stays-hard (is_half f y g x) (is_live g x h) (is_lapsed g x h) (is_removal_ordered x h) (stays gs g x h l.1 e)
+stays gs g x (acts.Boot f ∷ h) l e = stays-boot (bytes_eq f g) (was_put g x h) (is_live g x h) (is_lapsed g x h) (is_removal_ordered x h) e (stays gs g x h l.1 e)
+stays gs g x (acts.Order f s k (asks.Remove y) ∷ h) l e = stays-doomed (bytes_eq y x) (is_live g x h) (is_lapsed g x h) (is_removal_ordered x h) (stays gs g x h l.1 e)
 stays gs g x (a ∷ h) l e = stays gs g x h l.1 e
 
 live-put : (b c d : Bool) → (c ≡ true → d ≡ true) → (b || c) ≡ true → (b || d) ≡ true
@@ -184,4 +184,4 @@ pub sent-safe : (gs : List Peer) (g t : List ℕ) (h : List Act) → IsLawful gs
 sent-safe gs g t h l e =
     let o = (was gs g (out_half t) h l (live-was g (out_half t) h e)).0 in
     let p = first-in gs t h l o in
-    (p, out-stays (is_live (site (in_half t) h) (in_half t) h) (is_lapsed (site (in_half t) h) (in_half t) h) (is_doomed (in_half t) h) (λ d. live-out gs g t h l e (last gs t h l d)) (stays gs (site (in_half t) h) (in_half t) h l p))
+    (p, out-stays (is_live (site (in_half t) h) (in_half t) h) (is_lapsed (site (in_half t) h) (in_half t) h) (is_removal_ordered (in_half t) h) (λ d. live-out gs g t h l e (last gs t h l d)) (stays gs (site (in_half t) h) (in_half t) h l p))

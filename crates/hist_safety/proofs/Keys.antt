@@ -9,9 +9,9 @@ use Rattle.hist_acts.specs.declared.act.Act.TheVariants as acts
 use Rattle.esp_frame.specs.Esp.{iv_of}
 use Rattle.hist_halves.specs.Sealed.{esp_of, is_inbound, next_header}
 use Rattle.hist_halves.specs.Halves.{is_half, put_of, sent, was_put}
-use Rattle.hist_safety.specs.Orders.{aes_part, in_half, order_of, ordered, out_half, site}
+use Rattle.hist_safety.specs.Orders.{aes_part, in_half, order_of, was_order_given, out_half, site}
 use Rattle.hist_safety.specs.Carried.{Sends, aes_in, keying_of, was_sealed}
-use Rattle.hist_safety.specs.Law.{IsLawful, MaySend}
+use Rattle.hist_safety.specs.Law.{IsLawful, SendMayHappen}
 use Rattle.hist_safety.specs.Kept.{Under}
 use Rattle.hist_safety.proofs.Basics.{no, both-left, both-right, half-is, half-true, if-old, more, name-is, not-true, or-split, some-is}
 use Rattle.hist_safety.proofs.Orders.{put-order, put-was}
@@ -40,7 +40,7 @@ under-now f y n p o h s =
     let k : n ≤ (if is_half f y f y then sent f y h + 1 else sent f y h) = rw q (let r = s.number in omega (arith, r)) in
     (f, y, s.half, n, s.put, refl, e, s.small, k, s.outbound)
 
-under-sent : (f y : List ℕ) (n : ℕ) (o c iv : List ℕ) (h : List Act) → MaySend f y n o h → bytes_eq (aes_in (put_of f y h)) c ≡ true → bytes_eq (iv_of (esp_of o)) iv ≡ true → Under c iv (acts.Sent f y n o ∷ h)
+under-sent : (f y : List ℕ) (n : ℕ) (o c iv : List ℕ) (h : List Act) → SendMayHappen f y n o h → bytes_eq (aes_in (put_of f y h)) c ≡ true → bytes_eq (iv_of (esp_of o)) iv ≡ true → Under c iv (acts.Sent f y n o ∷ h)
 under-sent f y n o c iv (acts.Let g p ∷ h) m a b =
     let s : Sends f y n p o h = m.1 in
     let k : aes_part s.half.key ≡ c = sym (ap aes_in s.put) ∙ name-is (aes_in (put_of f y h)) c a in
@@ -66,7 +66,7 @@ key-of : (gs : List Peer) (g x : List ℕ) (e : SadEntry) (h : List Act) → IsL
 key-of gs g x e h l p b =
     let o = put-order gs g x e h l p in
     let t = outbound gs x h l o.1 b in
-    let w = pair gs t.0 h l (subst (λ z. ordered z h ≡ true) t.1 o.1) in
+    let w = pair gs t.0 h l (subst (λ z. was_order_given z h ≡ true) t.1 o.1) in
     let s : e ≡ w.0 = some-is e w.0 (sym o.3 ∙ ap (λ (z : List ℕ). order_of z h) t.1 ∙ w.2) in
     (t.0, w.1, t.1, w.3, ap (λ (z : SadEntry). z.key) s ∙ w.4, ap (λ (z : List ℕ). site z h) (sym t.1) ∙ o.2)
 
@@ -91,7 +91,7 @@ key-clash gs g x n p o h l s u =
     let t = s.number in
     omega (arith, r, t, k)
 
-pub key-safe : (gs : List Peer) (g x : List ℕ) (n : ℕ) (o : List ℕ) (h : List Act) → IsLawful gs h → MaySend g x n o h → was_sealed (aes_in (put_of g x h)) (iv_of (esp_of o)) h ≡ false
+pub key-safe : (gs : List Peer) (g x : List ℕ) (n : ℕ) (o : List ℕ) (h : List Act) → IsLawful gs h → SendMayHappen g x n o h → was_sealed (aes_in (put_of g x h)) (iv_of (esp_of o)) h ≡ false
 key-safe gs g x n o (acts.Let f p ∷ h) l m =
     not-true (was_sealed (aes_in (put_of g x h)) (iv_of (esp_of o)) h) (λ q.
     let s : Sends g x n p o h = m.1 in

@@ -9,11 +9,11 @@ use Rattle.replay_win.specs.Marks.{is_among}
 use Rattle.hist_acts.specs.declared.act.Act.{Act}
 use Rattle.hist_acts.specs.declared.act.Act.TheVariants as acts
 use Rattle.hist_halves.specs.Sealed.{by_spi, esp_of, is_opened, number_of, other_half, next_header}
-use Rattle.hist_halves.specs.Halves.{arrival_number, is_half, is_sealed, live, number_if, put_of, sent, taken, was_put, with_number}
+use Rattle.hist_halves.specs.Halves.{arrival_number, is_half, is_sealed, live, number_if, put_of, sent, numbers_taken, was_put, with_number}
 use Rattle.hist_safety.specs.Orders.{site}
 use Rattle.hist_safety.specs.Carried.{ComesTo, is_let, keying_of, was_sent}
 use Rattle.hist_safety.specs.Kept.{NumberSent}
-use Rattle.hist_safety.specs.Law.{IsLawful, MayDrop, MayGive, MaySend}
+use Rattle.hist_safety.specs.Law.{IsLawful, DropMayHappen, GiveMayHappen, SendMayHappen}
 use Rattle.hist_safety.proofs.Basics.{both-left, both-right, eq-nat, half-is, if-old, more, name-is, no, or-left, or-split, or-true, some-is}
 use Rattle.hist_safety.proofs.Once.{put-once}
 use Rattle.hist_safety.proofs.Keys.{not-now}
@@ -35,16 +35,16 @@ this-is f y m o g x n b p h e =
     let i = half-is f y g x (both-left (is_half f y g x) (m == n) j) in
     (i.0, i.1, eq-nat m n (both-right (is_half f y g x) (m == n) j), name-is (esp_of o) b (both-right (is_half f y g x && (m == n)) (bytes_eq (esp_of o) b) k), both-right (is_half f y g x && (m == n) && bytes_eq (esp_of o) b) (is_let f p h) e)
 
-count-now : (f y : List ℕ) (m : ℕ) (o : List ℕ) (h : List Act) → MaySend f y m o h → (e : SadEntry) × (put_of f y h ≡ Some e) × (m ≡ sent f y h + 1)
+count-now : (f y : List ℕ) (m : ℕ) (o : List ℕ) (h : List Act) → SendMayHappen f y m o h → (e : SadEntry) × (put_of f y h ≡ Some e) × (m ≡ sent f y h + 1)
 count-now f y m o (acts.Let g p ∷ h) s = let r = s.1 in (r.half, r.put, r.number)
 count-now f y m o [] s = absurd s
 count-now f y m o (a ∷ h) s = absurd s
 
-under-new : (f y : List ℕ) (m : ℕ) (o : List ℕ) (h : List Act) → MaySend f y m o h → (b : Bool) → b ≡ true → (e : SadEntry) × (put_of f y h ≡ Some e) × (m ≤ (if b then sent f y h + 1 else sent f y h))
+under-new : (f y : List ℕ) (m : ℕ) (o : List ℕ) (h : List Act) → SendMayHappen f y m o h → (b : Bool) → b ≡ true → (e : SadEntry) × (put_of f y h ≡ Some e) × (m ≤ (if b then sent f y h + 1 else sent f y h))
 under-new f y m o h s true q = let c = count-now f y m o h s in (c.0, c.1, (let r = c.2 in omega (arith, r)))
 under-new f y m o h s false q = absurd (no q)
 
-under-this : (f y : List ℕ) (m : ℕ) (o g x : List ℕ) (n : ℕ) (h : List Act) → MaySend f y m o h → f ≡ g → y ≡ x → m ≡ n → is_half f y g x ≡ true → SentUnder g x n (acts.Sent f y m o ∷ h)
+under-this : (f y : List ℕ) (m : ℕ) (o g x : List ℕ) (n : ℕ) (h : List Act) → SendMayHappen f y m o h → f ≡ g → y ≡ x → m ≡ n → is_half f y g x ≡ true → SentUnder g x n (acts.Sent f y m o ∷ h)
 under-this f y m o g x n h s p q r e =
     let one = under-new f y m o h s (is_half f y g x) e in (
       one.0,
@@ -74,7 +74,7 @@ let-one f p q (acts.Let g r ∷ h) a b = sym (name-is r p (both-right (bytes_eq 
 let-one f p q [] a b = absurd (no a)
 let-one f p q (c ∷ h) a b = absurd (no a)
 
-not-older : (gs : List Peer) (f y : List ℕ) (m : ℕ) (o g x : List ℕ) (n : ℕ) (b p c q : List ℕ) (h : List Act) → IsLawful gs h → MaySend f y m o h → This f y m o g x n b p h → was_sent g x n c q h ≡ true → ⊥
+not-older : (gs : List Peer) (f y : List ℕ) (m : ℕ) (o g x : List ℕ) (n : ℕ) (b p c q : List ℕ) (h : List Act) → IsLawful gs h → SendMayHappen f y m o h → This f y m o g x n b p h → was_sent g x n c q h ≡ true → ⊥
 not-older gs f y m o g x n b p c q h l s t w =
     let u = (sent-under gs g x n c q h l w).2 in
     let k = (count-now f y m o h s).2 in
@@ -144,12 +144,12 @@ number-of-sent gs x b n h l s e =
     let k : w.1 ≡ n = sym (ap (λ (z : List ℕ). seq_of z) c.6 ∙ esp-seq (keying_of c.0) w.1 (next_header w.2) w.2 c.5) ∙ e in
     (w.0, b, w.2, subst (λ z. was_sent w.0 x z b w.2 h ≡ true) k w.3)
 
-drop-sent : (gs : List Peer) (f : List ℕ) (why : DropWhy) (g x : List ℕ) (n : ℕ) (h : List Act) → IsLawful gs h → MayDrop gs f why h → f ≡ g → is_opened why ≡ true → arrival_number g x (taken g x h) h ≡ Some n → NumberSent (other_half x) n h
+drop-sent : (gs : List Peer) (f : List ℕ) (why : DropWhy) (g x : List ℕ) (n : ℕ) (h : List Act) → IsLawful gs h → DropMayHappen gs f why h → f ≡ g → is_opened why ≡ true → arrival_number g x (numbers_taken g x h) h ≡ Some n → NumberSent (other_half x) n h
 drop-sent gs f why g x n (acts.Arrived y o ∷ h) l m p q e =
     let d = m.3 q in
     let c : ComesTo gs f o d.0 h = d.2 in
     let found : by_spi (spi_of (esp_of o)) (live g h) ≡ Some d.0 = subst (λ z. by_spi (spi_of (esp_of o)) (live z h) ≡ Some d.0) p c.found in
-    let a = arrival-is g x y o (taken g x h) d.0 n h found (bytes_eq y g) e in
+    let a = arrival-is g x y o (numbers_taken g x h) d.0 n h found (bytes_eq y g) e in
     let s = m.1 d.0 d.1 c d.3 in
     let t : is_sealed (other_half x) (esp_of o) h ≡ true = subst (λ z. is_sealed (other_half z) (esp_of o) h ≡ true) a.0 s in
     number-of-sent gs (other_half x) (esp_of o) n h l.1 t a.1
@@ -157,7 +157,7 @@ drop-sent gs f why g x n (acts.Let y o ∷ h) l m p q e = absurd (grind arith)
 drop-sent gs f why g x n [] l m p q e = absurd m
 drop-sent gs f why g x n (a ∷ h) l m p q e = absurd m
 
-gave-sent : (gs : List Peer) (f y : List ℕ) (m : ℕ) (q : List ℕ) (g x : List ℕ) (n : ℕ) (h : List Act) → IsLawful gs h → MayGive gs f y m q h → is_half f y g x ≡ true → m ≡ n → NumberSent (other_half x) n h
+gave-sent : (gs : List Peer) (f y : List ℕ) (m : ℕ) (q : List ℕ) (g x : List ℕ) (n : ℕ) (h : List Act) → IsLawful gs h → GiveMayHappen gs f y m q h → is_half f y g x ≡ true → m ≡ n → NumberSent (other_half x) n h
 gave-sent gs f y m q g x n h l s b e =
     let w = gave-safe gs f y m q h l s in
     let k = (half-is f y g x b).1 in
@@ -167,16 +167,16 @@ gave-sent gs f y m q g x n h l s b e =
 sent-more : (f y : List ℕ) (m : ℕ) (o x : List ℕ) (n : ℕ) (h : List Act) → NumberSent x n h → NumberSent x n (acts.Sent f y m o ∷ h)
 sent-more f y m o x n h s = (s.0, s.1, s.2, or-true (is_half f y s.0 x && (m == n) && bytes_eq (esp_of o) s.1 && is_let f s.2 h) (was_sent s.0 x n s.1 s.2 h) s.3)
 
-pub taken-sent : (gs : List Peer) (g x : List ℕ) (n : ℕ) (h : List Act) → IsLawful gs h → is_among n (taken g x h) ≡ true → NumberSent (other_half x) n h
+pub taken-sent : (gs : List Peer) (g x : List ℕ) (n : ℕ) (h : List Act) → IsLawful gs h → is_among n (numbers_taken g x h) ≡ true → NumberSent (other_half x) n h
 taken-sent gs g x n [] l e = absurd (no e)
-taken-sent gs g x n (acts.Put f d ∷ h) l e = if-split {A = NumberSent (other_half x) n h} (is_half f d.name g x) n (taken g x h) [] (λ q r. none-among n r) (taken-sent gs g x n h l.1) e
+taken-sent gs g x n (acts.Put f d ∷ h) l e = if-split {A = NumberSent (other_half x) n h} (is_half f d.name g x) n (numbers_taken g x h) [] (λ q r. none-among n r) (taken-sent gs g x n h l.1) e
 taken-sent gs g x n (acts.Gave f y m p ∷ h) l e =
-    if-split {A = NumberSent (other_half x) n h} (is_half f y g x) n (taken g x h) (taken g x h ++ m ∷ [])
-    (λ q r. elim (among-split n m (taken g x h) r) as (λ z. NumberSent (other_half x) n h) [ inl s ↦ taken-sent gs g x n h l.1 s | inr s ↦ gave-sent gs f y m p g x n h l.1 l.0 q s ])
+    if-split {A = NumberSent (other_half x) n h} (is_half f y g x) n (numbers_taken g x h) (numbers_taken g x h ++ m ∷ [])
+    (λ q r. elim (among-split n m (numbers_taken g x h) r) as (λ z. NumberSent (other_half x) n h) [ inl s ↦ taken-sent gs g x n h l.1 s | inr s ↦ gave-sent gs f y m p g x n h l.1 l.0 q s ])
     (taken-sent gs g x n h l.1) e
 taken-sent gs g x n (acts.Drop f why ∷ h) l e =
-    if-split {A = NumberSent (other_half x) n h} (bytes_eq f g && is_opened why) n (taken g x h) (with_number (taken g x h) (arrival_number g x (taken g x h) h))
-    (λ q r. elim (with-split n (taken g x h) (arrival_number g x (taken g x h) h) r) as (λ z. NumberSent (other_half x) n h) [
+    if-split {A = NumberSent (other_half x) n h} (bytes_eq f g && is_opened why) n (numbers_taken g x h) (with_number (numbers_taken g x h) (arrival_number g x (numbers_taken g x h) h))
+    (λ q r. elim (with-split n (numbers_taken g x h) (arrival_number g x (numbers_taken g x h) h) r) as (λ z. NumberSent (other_half x) n h) [
       | inl s ↦ taken-sent gs g x n h l.1 s
       | inr s ↦ drop-sent gs f why g x n h l.1 l.0 (name-is f g (both-left (bytes_eq f g) (is_opened why) q)) (both-right (bytes_eq f g) (is_opened why) q) s
     ])

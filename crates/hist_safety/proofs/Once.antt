@@ -10,12 +10,12 @@ use Rattle.ikeless_tree.specs.declared.reply.DropWhy.{DropWhy}
 use Rattle.ikeless_tree.specs.declared.reply.GoneWhy.TheVariants as gone
 use Rattle.hist_acts.specs.declared.act.Act.{Act}
 use Rattle.hist_acts.specs.declared.act.Act.TheVariants as acts
-use Rattle.hist_acts.specs.Sessions.{handled, is_session, next_request, taken}
+use Rattle.hist_acts.specs.Sessions.{handled, is_session, next_request, session_taken}
 use Rattle.hist_halves.specs.Halves.{was_put}
 use Rattle.hist_clear.specs.Safe.{ClearIsLet}
 use Rattle.hist_safety.specs.Orders.{place_of, session_of, site}
-use Rattle.hist_safety.specs.Law.{IsAnswer, IsLawful, MayDrop, MayGive, MayHappen, MayPass, MaySend, is_ready}
-use Rattle.hist_safety.specs.Kept.{IsBehind, Placed}
+use Rattle.hist_safety.specs.Law.{IsAnswer, IsLawful, DropMayHappen, GiveMayHappen, MayHappen, PassMayHappen, SendMayHappen, is_ready}
+use Rattle.hist_safety.specs.Kept.{IsBehind, IsPutAt}
 use Rattle.hist_safety.proofs.Basics.{no, not-true, name-is, more, session-self}
 use Rattle.hist_safety.proofs.Sessions.{next-at, next-is}
 use Rattle.hist_safety.proofs.Orders.{other, place, was}
@@ -34,22 +34,22 @@ ready-mid x (acts.Put f e ∷ h) r m = no r
 ready-mid x [] r m = no m
 ready-mid x (a ∷ h) r m = no m
 
-send-mid : (g y o : List ℕ) (n : ℕ) (x : List ℕ) (h : List Act) → MaySend g y n o h → is_mid x h ≡ true → ⊥
+send-mid : (g y o : List ℕ) (n : ℕ) (x : List ℕ) (h : List Act) → SendMayHappen g y n o h → is_mid x h ≡ true → ⊥
 send-mid g y o n x (acts.Let f p ∷ h) s m = no m
 send-mid g y o n x [] s m = no m
 send-mid g y o n x (a ∷ h) s m = s
 
-give-mid : (gs : List Peer) (g y p : List ℕ) (n : ℕ) (x : List ℕ) (h : List Act) → MayGive gs g y n p h → is_mid x h ≡ true → ⊥
+give-mid : (gs : List Peer) (g y p : List ℕ) (n : ℕ) (x : List ℕ) (h : List Act) → GiveMayHappen gs g y n p h → is_mid x h ≡ true → ⊥
 give-mid gs g y p n x (acts.Arrived f o ∷ h) s m = no m
 give-mid gs g y p n x [] s m = no m
 give-mid gs g y p n x (a ∷ h) s m = s
 
-pass-mid : (gs : List Peer) (g x : List ℕ) (h : List Act) → MayPass gs g h → is_mid x h ≡ true → ⊥
+pass-mid : (gs : List Peer) (g x : List ℕ) (h : List Act) → PassMayHappen gs g h → is_mid x h ≡ true → ⊥
 pass-mid gs g x (acts.Arrived f o ∷ h) s m = no m
 pass-mid gs g x [] s m = no m
 pass-mid gs g x (a ∷ h) s m = s
 
-drop-mid : (gs : List Peer) (g : List ℕ) (why : DropWhy) (x : List ℕ) (h : List Act) → MayDrop gs g why h → is_mid x h ≡ true → ⊥
+drop-mid : (gs : List Peer) (g : List ℕ) (why : DropWhy) (x : List ℕ) (h : List Act) → DropMayHappen gs g why h → is_mid x h ≡ true → ⊥
 drop-mid gs g why x (acts.Let f o ∷ h) s m = no m
 drop-mid gs g why x (acts.Arrived f o ∷ h) s m = no m
 drop-mid gs g why x [] s m = no m
@@ -121,7 +121,7 @@ behind-older x f t j d h q n =
     let m : (if bytes_eq d.name x then j else place_of x h) ≤ handled (if bytes_eq d.name x then f else site x h) (if bytes_eq d.name x then t else session_of x h) h = rw q n in
     m
 
-placed-at : (f x : List ℕ) (t j : ℕ) (e : SadEntry) (h : List Act) → Placed f t j e h → e.name ≡ x → (site x h ≡ f) × (session_of x h ≡ t) × (place_of x h ≡ j)
+placed-at : (f x : List ℕ) (t j : ℕ) (e : SadEntry) (h : List Act) → IsPutAt f t j e h → e.name ≡ x → (site x h ≡ f) × (session_of x h ≡ t) × (place_of x h ≡ j)
 placed-at f x t j e h p q = subst (λ z. (site z h ≡ f) × (session_of z h ≡ t) × (place_of z h ≡ j)) q (p.1, p.2, p.3)
 
 -- once a half was put, the order of its put is handled
@@ -148,5 +148,5 @@ too-far f x t h a b c n = let q : handled f t h + 1 ≤ handled f t h = rw (sym 
 pub put-once : (gs : List Peer) (g f : List ℕ) (e : SadEntry) (h : List Act) → IsLawful gs h → is_ready h ≡ true → next_request f h ≡ Some (asks.Put e) → was_put g e.name h ≡ false
 put-once gs g f e h l r n =
     not-true (was_put g e.name h) (λ q.
-    let p = place gs f (taken f h) (handled f (taken f h) h + 1) e h l (next-is f (asks.Put e) h n) in
-    too-far f e.name (taken f h) h p.1 p.2 p.3 (settled e.name h r (once gs g e.name h l q)))
+    let p = place gs f (session_taken f h) (handled f (session_taken f h) h + 1) e h l (next-is f (asks.Put e) h n) in
+    too-far f e.name (session_taken f h) h p.1 p.2 p.3 (settled e.name h r (once gs g e.name h l q)))

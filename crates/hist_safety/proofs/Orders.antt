@@ -8,12 +8,12 @@ use Rattle.ikeless_tree.specs.declared.order.Order.{Order}
 use Rattle.ikeless_tree.specs.declared.order.Order.TheVariants as asks
 use Rattle.hist_acts.specs.declared.act.Act.{Act}
 use Rattle.hist_acts.specs.declared.act.Act.TheVariants as acts
-use Rattle.hist_acts.specs.Sessions.{handled, is_session, order_at, taken}
+use Rattle.hist_acts.specs.Sessions.{handled, is_session, order_at, session_taken}
 use Rattle.hist_halves.specs.Sealed.{is_inbound}
 use Rattle.hist_halves.specs.Halves.{is_half, put_of, was_put}
-use Rattle.hist_safety.specs.Orders.{in_half, inbounds, order_of, ordered, out_half, site}
-use Rattle.hist_safety.specs.Law.{IsLawful, MayPutIn, MayPutOut}
-use Rattle.hist_safety.specs.Kept.{Placed, PutIs}
+use Rattle.hist_safety.specs.Orders.{in_half, inbounds, order_of, was_order_given, out_half, site}
+use Rattle.hist_safety.specs.Law.{IsLawful, PutInMayHappen, PutOutMayHappen}
+use Rattle.hist_safety.specs.Kept.{IsPutAt, PutIs}
 use Rattle.hist_safety.proofs.Basics.{no, or-split, not-true, name-is, name-not, name-self, half-is, spot-is, more, if-cases, some-is}
 use Rattle.hist_safety.proofs.Sessions.{next-is}
 
@@ -28,10 +28,10 @@ pub out-serial : (t u : List ℕ) → out_half t ≡ out_half u → t ≡ u
 out-serial t u e = ap (λ (x : List ℕ). drop 4 x) e
 
 -- ---- serials: the N-th inbound put is that of serial N
-serial-put : (m : ℕ) (f : List ℕ) (e : SadEntry) (h : List Act) → m < 2 ^ 64 → (ordered (in_half (decimal m)) h ≡ true → m ≤ inbounds h) → MayPutIn e h ⊎ MayPutOut f e h →
-    (bytes_eq e.name (in_half (decimal m)) || ordered (in_half (decimal m)) h) ≡ true → m ≤ (if is_inbound e.name then inbounds h + 1 else inbounds h)
+serial-put : (m : ℕ) (f : List ℕ) (e : SadEntry) (h : List Act) → m < 2 ^ 64 → (was_order_given (in_half (decimal m)) h ≡ true → m ≤ inbounds h) → PutInMayHappen e h ⊎ PutOutMayHappen f e h →
+    (bytes_eq e.name (in_half (decimal m)) || was_order_given (in_half (decimal m)) h) ≡ true → m ≤ (if is_inbound e.name then inbounds h + 1 else inbounds h)
 serial-put m f e h lt ih (inl p) q =
-    or-split {A = m ≤ (if is_inbound e.name then inbounds h + 1 else inbounds h)} (bytes_eq e.name (in_half (decimal m))) (ordered (in_half (decimal m)) h)
+    or-split {A = m ≤ (if is_inbound e.name then inbounds h + 1 else inbounds h)} (bytes_eq e.name (in_half (decimal m))) (was_order_given (in_half (decimal m)) h)
     (λ r.
     let few = p.few in
     let same : decimal (inbounds h + 1) ≡ decimal m = in-serial (decimal (inbounds h + 1)) (decimal m) (sym p.name ∙ name-is e.name (in_half (decimal m)) r) in
@@ -40,28 +40,28 @@ serial-put m f e h lt ih (inl p) q =
     rw b (omega (arith, n)))
     (λ r. more (is_inbound e.name) m (inbounds h) (ih r)) q
 serial-put m f e h lt ih (inr p) q =
-    or-split {A = m ≤ (if is_inbound e.name then inbounds h + 1 else inbounds h)} (bytes_eq e.name (in_half (decimal m))) (ordered (in_half (decimal m)) h)
+    or-split {A = m ≤ (if is_inbound e.name then inbounds h + 1 else inbounds h)} (bytes_eq e.name (in_half (decimal m))) (was_order_given (in_half (decimal m)) h)
     (λ r. absurd (in-out (decimal m) p.serial (sym (name-is e.name (in_half (decimal m)) r) ∙ p.name)))
     (λ r. more (is_inbound e.name) m (inbounds h) (ih r)) q
 
-pub serial : (gs : List Peer) (m : ℕ) (h : List Act) → m < 2 ^ 64 → IsLawful gs h → ordered (in_half (decimal m)) h ≡ true → m ≤ inbounds h
+pub serial : (gs : List Peer) (m : ℕ) (h : List Act) → m < 2 ^ 64 → IsLawful gs h → was_order_given (in_half (decimal m)) h ≡ true → m ≤ inbounds h
 serial gs m [] lt l q = absurd (no q)
 serial gs m (acts.Order f s k (asks.Put e) ∷ h) lt l q = serial-put m f e h lt (serial gs m h lt l.1) l.0.4 q
 serial gs m (a ∷ h) lt l q = serial gs m h lt l.1 q
 
 -- the put of a half is ordered at most once
-pub once-ordered : (gs : List Peer) (f : List ℕ) (e : SadEntry) (h : List Act) → IsLawful gs h → MayPutIn e h ⊎ MayPutOut f e h → ordered e.name h ≡ false
+pub once-ordered : (gs : List Peer) (f : List ℕ) (e : SadEntry) (h : List Act) → IsLawful gs h → PutInMayHappen e h ⊎ PutOutMayHappen f e h → was_order_given e.name h ≡ false
 once-ordered gs f e h l (inl p) =
-    not-true (ordered e.name h) (λ q.
+    not-true (was_order_given e.name h) (λ q.
     let few = p.few in
-    let r : ordered (in_half (decimal (inbounds h + 1))) h ≡ true = subst (λ z. ordered z h ≡ true) p.name q in
+    let r : was_order_given (in_half (decimal (inbounds h + 1))) h ≡ true = subst (λ z. was_order_given z h ≡ true) p.name q in
     let n = serial gs (inbounds h + 1) h (omega (arith, few)) l r in
     omega (arith, n))
-once-ordered gs f e h l (inr p) = subst (λ z. ordered z h ≡ false) (sym p.name) p.once
+once-ordered gs f e h l (inr p) = subst (λ z. was_order_given z h ≡ false) (sym p.name) p.once
 
 -- so a half that was ordered isn't the one that is ordered now
-pub other : (gs : List Peer) (x f : List ℕ) (e : SadEntry) (h : List Act) → IsLawful gs h → MayPutIn e h ⊎ MayPutOut f e h → ordered x h ≡ true → bytes_eq e.name x ≡ false
-other gs x f e h l m q = name-not e.name x (λ p. let r : ordered e.name h ≡ true = rw p q in no (sym (once-ordered gs f e h l m) ∙ r))
+pub other : (gs : List Peer) (x f : List ℕ) (e : SadEntry) (h : List Act) → IsLawful gs h → PutInMayHappen e h ⊎ PutOutMayHappen f e h → was_order_given x h ≡ true → bytes_eq e.name x ≡ false
+other gs x f e h l m q = name-not e.name x (λ p. let r : was_order_given e.name h ≡ true = rw p q in no (sym (once-ordered gs f e h l m) ∙ r))
 
 -- ---- what was ordered with this number
 
@@ -73,23 +73,23 @@ order-old false a d o q e = e
 pub put-is : (d e : SadEntry) → Some (asks.Put d) ≡ Some (asks.Put e) → d ≡ e
 put-is d e p = grind arith
 
-place-here : (f : List ℕ) (t j : ℕ) (d : SadEntry) (h : List Act) → Placed f t j d (acts.Order f t j (asks.Put d) ∷ h)
+place-here : (f : List ℕ) (t j : ℕ) (d : SadEntry) (h : List Act) → IsPutAt f t j d (acts.Order f t j (asks.Put d) ∷ h)
 place-here f t j d h = let q : bytes_eq d.name d.name ≡ true = name-self d.name in (rw q refl, rw q refl, rw q refl, rw q refl, rw q refl)
 
-place-older : (g f : List ℕ) (s k t j : ℕ) (e d : SadEntry) (h : List Act) → bytes_eq d.name e.name ≡ false → Placed g s k e h → Placed g s k e (acts.Order f t j (asks.Put d) ∷ h)
+place-older : (g f : List ℕ) (s k t j : ℕ) (e d : SadEntry) (h : List Act) → bytes_eq d.name e.name ≡ false → IsPutAt g s k e h → IsPutAt g s k e (acts.Order f t j (asks.Put d) ∷ h)
 place-older g f s k t j e d h q p = (rw q p.0, rw q p.1, rw q p.2, rw q p.3, rw q p.4)
 
-place-add : (g f : List ℕ) (s k t j : ℕ) (e d : SadEntry) (h : List Act) → (order_at g s k h ≡ Some (asks.Put e) → Placed g s k e h) → (ordered e.name h ≡ true → bytes_eq d.name e.name ≡ false) →
+place-add : (g f : List ℕ) (s k t j : ℕ) (e d : SadEntry) (h : List Act) → (order_at g s k h ≡ Some (asks.Put e) → IsPutAt g s k e h) → (was_order_given e.name h ≡ true → bytes_eq d.name e.name ≡ false) →
     (here : Bool) → (here ≡ true → (f ≡ g) × (t ≡ s) × (j ≡ k)) →
-    (if here then Some (asks.Put d) else order_at g s k h) ≡ Some (asks.Put e) → Placed g s k e (acts.Order f t j (asks.Put d) ∷ h)
+    (if here then Some (asks.Put d) else order_at g s k h) ≡ Some (asks.Put e) → IsPutAt g s k e (acts.Order f t j (asks.Put d) ∷ h)
 place-add g f s k t j e d h ih ot true three q =
     let p : d ≡ e = put-is d e q in
     let r = three refl in
-    let one = subst (λ z. Placed f t j z (acts.Order f t j (asks.Put d) ∷ h)) p (place-here f t j d h) in
+    let one = subst (λ z. IsPutAt f t j z (acts.Order f t j (asks.Put d) ∷ h)) p (place-here f t j d h) in
     (one.0, one.1 ∙ r.0, one.2 ∙ r.1, one.3 ∙ r.2, one.4)
 place-add g f s k t j e d h ih ot false three q = let r = ih q in place-older g f s k t j e d h (ot r.0) r
 
-pub place : (gs : List Peer) (g : List ℕ) (s k : ℕ) (e : SadEntry) (h : List Act) → IsLawful gs h → order_at g s k h ≡ Some (asks.Put e) → Placed g s k e h
+pub place : (gs : List Peer) (g : List ℕ) (s k : ℕ) (e : SadEntry) (h : List Act) → IsLawful gs h → order_at g s k h ≡ Some (asks.Put e) → IsPutAt g s k e h
 place gs g s k e [] l q = absurd (grind arith)
 place gs g s k e (acts.Order f t j asks.Read ∷ h) l q = place gs g s k e h l.1 (order-old (is_session f t g s && (j == k)) asks.Read (asks.Put e) (order_at g s k h) (λ p. grind arith) q)
 place gs g s k e (acts.Order f t j (asks.Policy list) ∷ h) l q = place gs g s k e h l.1 (order-old (is_session f t g s && (j == k)) (asks.Policy list) (asks.Put e) (order_at g s k h) (λ p. grind arith) q)
@@ -100,7 +100,7 @@ place gs g s k e (a ∷ h) l q = place gs g s k e h l.1 q
 
 -- ---- a Put is that of the order of its half
 abbrev pub Was : List ℕ → List ℕ → List Act → Type 0
-Was g x h = (ordered x h ≡ true) × (site x h ≡ g)
+Was g x h = (was_order_given x h ≡ true) × (site x h ≡ g)
 
 was-new : (f g x : List ℕ) (e : SadEntry) (h : List Act) → Was f e.name h → is_half f e.name g x ≡ true → Was g x h
 was-new f g x e h p q =
@@ -113,14 +113,14 @@ was-older g x f t j d h q p = (rw q p.0, rw q p.1)
 pub was : (gs : List Peer) (g x : List ℕ) (h : List Act) → IsLawful gs h → was_put g x h ≡ true → Was g x h
 was gs g x [] l q = absurd (no q)
 was gs g x (acts.Put f e ∷ h) l q =
-    let p = place gs f (taken f h) (handled f (taken f h) h + 1) e h l.1 (next-is f (asks.Put e) h l.0.1) in
+    let p = place gs f (session_taken f h) (handled f (session_taken f h) h + 1) e h l.1 (next-is f (asks.Put e) h l.0.1) in
     or-split {A = Was g x h} (is_half f e.name g x) (was_put g x h) (was-new f g x e h (p.0, p.1)) (was gs g x h l.1) q
 was gs g x (acts.Order f t j (asks.Put d) ∷ h) l q = let r = was gs g x h l.1 q in was-older g x f t j d h (other gs x f d h l.1 l.0.4 r.0) r
 was gs g x (a ∷ h) l q = was gs g x h l.1 q
 
 -- ---- what was put is what was ordered
 
-put-new : (f g x : List ℕ) (d : SadEntry) (h : List Act) → (ordered d.name h ≡ true) → (site d.name h ≡ f) → (order_of d.name h ≡ Some d) → is_half f d.name g x ≡ true → PutIs g x d h
+put-new : (f g x : List ℕ) (d : SadEntry) (h : List Act) → (was_order_given d.name h ≡ true) → (site d.name h ≡ f) → (order_of d.name h ≡ Some d) → is_half f d.name g x ≡ true → PutIs g x d h
 put-new f g x d h a b c q =
     let r = half-is f d.name g x q in
     let one : PutIs f d.name d h = (refl, a, b, c) in
@@ -132,7 +132,7 @@ put-older g x f t j e d h q p = (p.0, rw q p.1, rw q p.2, rw q p.3)
 pub put-order : (gs : List Peer) (g x : List ℕ) (e : SadEntry) (h : List Act) → IsLawful gs h → put_of g x h ≡ Some e → PutIs g x e h
 put-order gs g x e [] l q = absurd (grind arith)
 put-order gs g x e (acts.Put f d ∷ h) l q =
-    let p = place gs f (taken f h) (handled f (taken f h) h + 1) d h l.1 (next-is f (asks.Put d) h l.0.1) in
+    let p = place gs f (session_taken f h) (handled f (session_taken f h) h + 1) d h l.1 (next-is f (asks.Put d) h l.0.1) in
     elim (if-cases (is_half f d.name g x) d e (put_of g x h) q) as (λ z. PutIs g x e h) [
       | inl r ↦ subst (λ z. PutIs g x z h) r.1 (put-new f g x d h p.0 p.1 p.4 r.0)
       | inr r ↦ put-order gs g x e h l.1 r

@@ -11,8 +11,8 @@ use Rattle.hist_acts.specs.declared.act.Act.{Act}
 use Rattle.hist_acts.specs.declared.act.Act.TheVariants as acts
 use Rattle.hist_acts.specs.Sessions.{is_session, order_at, orders}
 use Rattle.hist_halves.specs.Sealed.{is_inbound}
-use Rattle.hist_safety.specs.Orders.{aes_part, in_half, inbounds, is_key_used, is_made, is_put, order_of, ordered, out_half, place_of, session_of, site}
-use Rattle.hist_safety.specs.Law.{IsLawful, MayPutIn, MayPutOut}
+use Rattle.hist_safety.specs.Orders.{aes_part, in_half, inbounds, is_key_used, is_put_accepted, is_put, order_of, was_order_given, out_half, place_of, session_of, site}
+use Rattle.hist_safety.specs.Law.{IsLawful, PutInMayHappen, PutOutMayHappen}
 use Rattle.hist_safety.specs.Kept.{Pair}
 use Rattle.hist_safety.proofs.Sessions.{count-at, not-new}
 use Rattle.hist_safety.proofs.Finality.{num-in}
@@ -24,9 +24,9 @@ order-some : (b c : Bool) (d e : SadEntry) (o : Option SadEntry) → (o ≡ Some
 order-some true c d e o ih q = refl
 order-some false c d e o ih q = ih q
 
-pub order-ordered : (x : List ℕ) (e : SadEntry) (h : List Act) → order_of x h ≡ Some e → ordered x h ≡ true
+pub order-ordered : (x : List ℕ) (e : SadEntry) (h : List Act) → order_of x h ≡ Some e → was_order_given x h ≡ true
 order-ordered x e [] q = absurd (grind arith)
-order-ordered x e (acts.Order f s k (asks.Put d) ∷ h) q = order-some (bytes_eq d.name x) (ordered x h) d e (order_of x h) (order-ordered x e h) q
+order-ordered x e (acts.Order f s k (asks.Put d) ∷ h) q = order-some (bytes_eq d.name x) (was_order_given x h) d e (order_of x h) (order-ordered x e h) q
 order-ordered x e (a ∷ h) q = order-ordered x e h q
 
 pub order-name : (x : List ℕ) (e : SadEntry) (h : List Act) → order_of x h ≡ Some e → e.name ≡ x
@@ -49,7 +49,7 @@ stands-old : (f x : List ℕ) (t j : ℕ) (d e : SadEntry) (h : List Act) (b : B
 stands-old f x t j d e h true q r o = absurd (no (sym q))
 stands-old f x t j d e h false q r o = if-old (is_session f t (site x h) (session_of x h) && (j == place_of x h)) (Some (asks.Put d)) (order_at (site x h) (session_of x h) (place_of x h) h) r ∙ o
 
-not-this : (gs : List Peer) (f x : List ℕ) (t j : ℕ) (h : List Act) → IsLawful gs h → ordered x h ≡ true → j ≡ orders f t h + 1 → (is_session f t (site x h) (session_of x h) && (j == place_of x h)) ≡ false
+not-this : (gs : List Peer) (f x : List ℕ) (t j : ℕ) (h : List Act) → IsLawful gs h → was_order_given x h ≡ true → j ≡ orders f t h + 1 → (is_session f t (site x h) (session_of x h) && (j == place_of x h)) ≡ false
 not-this gs f x t j h l o e =
     not-new (is_session f t (site x h) (session_of x h) && (j == place_of x h)) (place_of x h) (orders (site x h) (session_of x h) h) (count-at orders f t j (site x h) (session_of x h) (place_of x h) h e) (num-in gs x h l o)
 
@@ -69,37 +69,37 @@ order-stands gs x e (a ∷ h) l q = order-stands gs x e h l.1 q
 abbrev pub Named : List ℕ → Type 0
 Named x = (serial : List ℕ) × ((x ≡ in_half serial) ⊎ (x ≡ out_half serial))
 
-named-put : (f : List ℕ) (e : SadEntry) (h : List Act) → MayPutIn e h ⊎ MayPutOut f e h → Named e.name
+named-put : (f : List ℕ) (e : SadEntry) (h : List Act) → PutInMayHappen e h ⊎ PutOutMayHappen f e h → Named e.name
 named-put f e h (inl p) = (decimal (inbounds h + 1), inl p.name)
 named-put f e h (inr p) = (p.serial, inr p.name)
 
-pub named : (gs : List Peer) (x : List ℕ) (h : List Act) → IsLawful gs h → ordered x h ≡ true → Named x
+pub named : (gs : List Peer) (x : List ℕ) (h : List Act) → IsLawful gs h → was_order_given x h ≡ true → Named x
 named gs x [] l q = absurd (no q)
 named gs x (acts.Order f s k (asks.Put d) ∷ h) l q =
-    or-split {A = Named x} (bytes_eq d.name x) (ordered x h) (λ r. subst (λ z. Named z) (name-is d.name x r) (named-put f d h l.0.4)) (named gs x h l.1) q
+    or-split {A = Named x} (bytes_eq d.name x) (was_order_given x h) (λ r. subst (λ z. Named z) (name-is d.name x r) (named-put f d h l.0.4)) (named gs x h l.1) q
 named gs x (a ∷ h) l q = named gs x h l.1 q
 
 outbound-by : (x : List ℕ) → is_inbound x ≡ false → Named x → (serial : List ℕ) × (x ≡ out_half serial)
 outbound-by x b (t, inl p) = absurd (let q : is_inbound x ≡ true = ap is_inbound p in no (sym b ∙ q))
 outbound-by x b (t, inr p) = (t, p)
 
-pub outbound : (gs : List Peer) (x : List ℕ) (h : List Act) → IsLawful gs h → ordered x h ≡ true → is_inbound x ≡ false → (serial : List ℕ) × (x ≡ out_half serial)
+pub outbound : (gs : List Peer) (x : List ℕ) (h : List Act) → IsLawful gs h → was_order_given x h ≡ true → is_inbound x ≡ false → (serial : List ℕ) × (x ≡ out_half serial)
 outbound gs x h l o b = outbound-by x b (named gs x h l o)
 
 inbound-by : (x : List ℕ) → is_inbound x ≡ true → Named x → (serial : List ℕ) × (x ≡ in_half serial)
 inbound-by x b (t, inl p) = (t, p)
 inbound-by x b (t, inr p) = absurd (let q : is_inbound x ≡ false = ap is_inbound p in no (sym q ∙ b))
 
-pub inbound : (gs : List Peer) (x : List ℕ) (h : List Act) → IsLawful gs h → ordered x h ≡ true → is_inbound x ≡ true → (serial : List ℕ) × (x ≡ in_half serial)
+pub inbound : (gs : List Peer) (x : List ℕ) (h : List Act) → IsLawful gs h → was_order_given x h ≡ true → is_inbound x ≡ true → (serial : List ℕ) × (x ≡ in_half serial)
 inbound gs x h l o b = inbound-by x b (named gs x h l o)
 
 -- ---- both halves
-pair-new : (f : List ℕ) (s k : ℕ) (t : List ℕ) (d : SadEntry) (h : List Act) (p : MayPutOut f d h) → p.serial ≡ t → bytes_eq d.name (out_half t) ≡ true → bytes_eq d.name (in_half t) ≡ false → Pair t (acts.Order f s k (asks.Put d) ∷ h)
+pair-new : (f : List ℕ) (s k : ℕ) (t : List ℕ) (d : SadEntry) (h : List Act) (p : PutOutMayHappen f d h) → p.serial ≡ t → bytes_eq d.name (out_half t) ≡ true → bytes_eq d.name (in_half t) ≡ false → Pair t (acts.Order f s k (asks.Put d) ∷ h)
 pair-new f s k t d h p e q r =
     let o : order_of (in_half t) h ≡ Some p.inbound = subst (λ z. order_of (in_half z) h ≡ Some p.inbound) e p.order in
     let w : bytes_eq (site (in_half t) h) f ≡ false = subst (λ z. bytes_eq (site (in_half z) h) f ≡ false) e p.elsewhere in
     let v : bytes_eq (if bytes_eq d.name (in_half t) then f else site (in_half t) h) (if bytes_eq d.name (out_half t) then f else site (out_half t) h) ≡ false = rw (q, r) w in
-    let m : is_made (in_half t) h ≡ true = subst (λ z. is_made (in_half z) h ≡ true) e p.made in
+    let m : is_put_accepted (in_half t) h ≡ true = subst (λ z. is_put_accepted (in_half z) h ≡ true) e p.made in
     (d, p.inbound, if-new (bytes_eq d.name (out_half t)) (Some d) (order_of (out_half t) h) q, if-old (bytes_eq d.name (in_half t)) (Some d) (order_of (in_half t) h) r ∙ o, p.key, p.spi, p.selector, v, m)
 
 pair-older : (f : List ℕ) (s k : ℕ) (t : List ℕ) (d : SadEntry) (h : List Act) → bytes_eq d.name (out_half t) ≡ false → bytes_eq d.name (in_half t) ≡ false → Pair t h → Pair t (acts.Order f s k (asks.Put d) ∷ h)
@@ -107,20 +107,20 @@ pair-older f s k t d h q r p =
     let v : bytes_eq (if bytes_eq d.name (in_half t) then f else site (in_half t) h) (if bytes_eq d.name (out_half t) then f else site (out_half t) h) ≡ false = rw (q, r) p.7 in
     (p.0, p.1, if-old (bytes_eq d.name (out_half t)) (Some d) (order_of (out_half t) h) q ∙ p.2, if-old (bytes_eq d.name (in_half t)) (Some d) (order_of (in_half t) h) r ∙ p.3, p.4, p.5, p.6, v, p.8)
 
-pair-put : (gs : List Peer) (f : List ℕ) (s k : ℕ) (t : List ℕ) (d : SadEntry) (h : List Act) → MayPutIn d h ⊎ MayPutOut f d h → bytes_eq d.name (out_half t) ≡ true → Pair t (acts.Order f s k (asks.Put d) ∷ h)
+pair-put : (gs : List Peer) (f : List ℕ) (s k : ℕ) (t : List ℕ) (d : SadEntry) (h : List Act) → PutInMayHappen d h ⊎ PutOutMayHappen f d h → bytes_eq d.name (out_half t) ≡ true → Pair t (acts.Order f s k (asks.Put d) ∷ h)
 pair-put gs f s k t d h (inl p) q = absurd (in-out (decimal (inbounds h + 1)) t (sym p.name ∙ name-is d.name (out_half t) q))
 pair-put gs f s k t d h (inr p) q =
     let e = name-is d.name (out_half t) q in
     pair-new f s k t d h p (out-serial p.serial t (sym p.name ∙ e)) q (name-not d.name (in_half t) (λ r. in-out t t (sym r ∙ e)))
 
-pair-made : (t : List ℕ) (b : Bool) (h : List Act) → is_made (in_half t) h ≡ true → (b || is_made (in_half t) h) ≡ true
-pair-made t b h e = or-true b (is_made (in_half t) h) e
+pair-made : (t : List ℕ) (b : Bool) (h : List Act) → is_put_accepted (in_half t) h ≡ true → (b || is_put_accepted (in_half t) h) ≡ true
+pair-made t b h e = or-true b (is_put_accepted (in_half t) h) e
 
 -- the outbound half is ordered only after the inbound one, of the same association
-pub pair : (gs : List Peer) (t : List ℕ) (h : List Act) → IsLawful gs h → ordered (out_half t) h ≡ true → Pair t h
+pub pair : (gs : List Peer) (t : List ℕ) (h : List Act) → IsLawful gs h → was_order_given (out_half t) h ≡ true → Pair t h
 pair gs t [] l q = absurd (no q)
 pair gs t (acts.Order f s k (asks.Put d) ∷ h) l q =
-    or-split {A = Pair t (acts.Order f s k (asks.Put d) ∷ h)} (bytes_eq d.name (out_half t)) (ordered (out_half t) h)
+    or-split {A = Pair t (acts.Order f s k (asks.Put d) ∷ h)} (bytes_eq d.name (out_half t)) (was_order_given (out_half t) h)
     (λ r. pair-put gs f s k t d h l.0.4 r)
     (λ r.
     let p = pair gs t h l.1 r in
@@ -134,7 +134,7 @@ pair gs t (a ∷ h) l q = pair gs t h l.1 q
 abbrev pub Numbered : List ℕ → SadEntry → Type 0
 Numbered t e = (n : ℕ) × (t ≡ decimal n) × (e.spi ≡ 256 + n) × (n ≤ 1048576)
 
-numbered-put : (f t : List ℕ) (d : SadEntry) (h : List Act) → MayPutIn d h ⊎ MayPutOut f d h → d.name ≡ in_half t → Numbered t d
+numbered-put : (f t : List ℕ) (d : SadEntry) (h : List Act) → PutInMayHappen d h ⊎ PutOutMayHappen f d h → d.name ≡ in_half t → Numbered t d
 numbered-put f t d h (inl p) q = (inbounds h + 1, in-serial t (decimal (inbounds h + 1)) (sym q ∙ p.name), p.spi, p.few)
 numbered-put f t d h (inr p) q = absurd (in-out t p.serial (sym q ∙ p.name))
 
@@ -154,7 +154,7 @@ turned (V4 a) (V6 b) p = absurd p
 turned (V6 a) (V4 b) p = absurd p
 turned (V6 a) (V6 b) p = (p.1, p.0)
 
-ends-put : (f : List ℕ) (d : SadEntry) (h : List Act) → ((x : List ℕ) (e : SadEntry) → order_of x h ≡ Some e → AreOneFamily e.local e.remote) → MayPutIn d h ⊎ MayPutOut f d h → AreOneFamily d.local d.remote
+ends-put : (f : List ℕ) (d : SadEntry) (h : List Act) → ((x : List ℕ) (e : SadEntry) → order_of x h ≡ Some e → AreOneFamily e.local e.remote) → PutInMayHappen d h ⊎ PutOutMayHappen f d h → AreOneFamily d.local d.remote
 ends-put f d h i (inl p) = p.ends
 ends-put f d h i (inr p) =
     let one = turned p.inbound.local p.inbound.remote (i (in_half p.serial) p.inbound p.order) in
@@ -190,11 +190,11 @@ key-used x e (acts.Order f s k (asks.Put d) ∷ h) q =
 key-used x e (a ∷ h) q = key-used x e h q
 
 -- a key that was used isn't that of a new inbound half
-key-new : (f t : List ℕ) (x : List ℕ) (d e : SadEntry) (h : List Act) → MayPutIn d h ⊎ MayPutOut f d h → d.name ≡ in_half t → order_of x h ≡ Some e → aes_part d.key ≡ aes_part e.key → ⊥
+key-new : (f t : List ℕ) (x : List ℕ) (d e : SadEntry) (h : List Act) → PutInMayHappen d h ⊎ PutOutMayHappen f d h → d.name ≡ in_half t → order_of x h ≡ Some e → aes_part d.key ≡ aes_part e.key → ⊥
 key-new f t x d e h (inl p) q o s = let u : is_key_used (aes_part d.key) h ≡ true = rw s (key-used x e h o) in no (sym p.key ∙ u)
 key-new f t x d e h (inr p) q o s = in-out t p.serial (sym q ∙ p.name)
 
-keys-new : (f t u : List ℕ) (c d e : SadEntry) (h : List Act) → MayPutIn c h ⊎ MayPutOut f c h → aes_part d.key ≡ aes_part e.key →
+keys-new : (f t u : List ℕ) (c d e : SadEntry) (h : List Act) → PutInMayHappen c h ⊎ PutOutMayHappen f c h → aes_part d.key ≡ aes_part e.key →
     (order_of (in_half t) h ≡ Some d → order_of (in_half u) h ≡ Some e → t ≡ u) →
     ((bytes_eq c.name (in_half t) ≡ true) × (c ≡ d)) ⊎ (order_of (in_half t) h ≡ Some d) → ((bytes_eq c.name (in_half u) ≡ true) × (c ≡ e)) ⊎ (order_of (in_half u) h ≡ Some e) → t ≡ u
 keys-new f t u c d e h m s ih (inl p) (inl q) = in-serial t u (sym (name-is c.name (in_half t) p.0) ∙ name-is c.name (in_half u) q.0)

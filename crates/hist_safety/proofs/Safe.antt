@@ -5,10 +5,10 @@ use Rattle.ikeless_tree.specs.declared.command.Peer.{Peer}
 use Rattle.hist_acts.specs.declared.act.Act.{Act}
 use Rattle.hist_acts.specs.declared.act.Act.TheVariants as acts
 use Rattle.hist_halves.specs.Sealed.{esp_of, is_inbound, number_of, other_half}
-use Rattle.hist_halves.specs.Halves.{is_lapsed, is_live, is_sealed, taken, was_put}
+use Rattle.hist_halves.specs.Halves.{is_lapsed, is_live, is_sealed, numbers_taken, was_put}
 use Rattle.hist_safety.specs.Orders.{in_half, out_half, site}
 use Rattle.hist_safety.specs.Carried.{IsGenuine, Sends}
-use Rattle.hist_safety.specs.Law.{IsLawful, IsWhole, MayHappen, MaySend}
+use Rattle.hist_safety.specs.Law.{IsLawful, IsWhole, MayHappen, SendMayHappen}
 use Rattle.hist_safety.specs.Safe.{IsArrivalSafe, IsClearSafe, IsGaveSafe, IsKeySafe, IsLastSafe, IsSentSafe, MustGive, Safe}
 use Rattle.hist_safety.proofs.Orders.{was}
 use Rattle.hist_safety.proofs.Pairs.{outbound}
@@ -26,13 +26,13 @@ sent-by gs g x h l v b =
     let one = sent-safe gs g t.0 h l (subst (λ z. is_live g z h ≡ true) t.1 v) in
     subst (λ z. InboundStands z h) (sym (ap other_half t.1)) one
 
-sent-stands : (gs : List Peer) (g x : List ℕ) (n : ℕ) (o : List ℕ) (h : List Act) → IsLawful gs h → MaySend g x n o h → InboundStands (other_half x) h
+sent-stands : (gs : List Peer) (g x : List ℕ) (n : ℕ) (o : List ℕ) (h : List Act) → IsLawful gs h → SendMayHappen g x n o h → InboundStands (other_half x) h
 sent-stands gs g x n o (acts.Let f p ∷ h) l m = let s : Sends g x n p o h = m.1 in sent-by gs g x h l.1 s.live s.outbound
 sent-stands gs g x n o [] l m = absurd m
 sent-stands gs g x n o (a ∷ h) l m = absurd m
 
 arrival-safe : (gs : List Peer) (a : Act) (h : List Act) → IsLawful gs h → MayHappen gs a h → IsArrivalSafe gs a h
-arrival-safe gs a (acts.Arrived g o ∷ h) l m = λ t p half must. answer gs a g o (in_half t) (number_of half (taken g (in_half t) h) (esp_of o)) p h m (delivered gs g o t p half h l.1 must)
+arrival-safe gs a (acts.Arrived g o ∷ h) l m = λ t p half must. answer gs a g o (in_half t) (number_of half (numbers_taken g (in_half t) h) (esp_of o)) p h m (delivered gs g o t p half h l.1 must)
 arrival-safe gs a [] l m = tt
 arrival-safe gs a (b ∷ h) l m = tt
 

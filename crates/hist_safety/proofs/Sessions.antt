@@ -6,7 +6,7 @@ use Rattle.ikeless_tree.specs.declared.order.Order.{Order}
 use Rattle.ikeless_tree.specs.declared.order.Answer.{Answer}
 use Rattle.hist_acts.specs.declared.act.Act.{Act}
 use Rattle.hist_acts.specs.declared.act.Act.TheVariants as acts
-use Rattle.hist_acts.specs.Sessions.{answer_at, answered, handled, is_open, is_session, next_request, openings, order_at, orders, taken, was_cut}
+use Rattle.hist_acts.specs.Sessions.{answer_at, answered, handled, is_open, is_session, next_request, openings, order_at, orders, session_taken, was_cut}
 use Rattle.hist_safety.specs.Law.{IsLawful}
 use Rattle.hist_safety.proofs.Basics.{no, or-split, name-is, session-is, spot-is, more, if-old}
 
@@ -22,10 +22,10 @@ pub openings-at : (f g : List ℕ) (h : List Act) → bytes_eq f g ≡ true → 
 openings-at f g h e = let p = name-is f g e in rw p refl
 
 -- the session taken is the last one opened, or none
-pub taken-last : (gs : List Peer) (g : List ℕ) (h : List Act) → IsLawful gs h → (taken g h ≡ 0) ⊎ (taken g h ≡ openings g h)
+pub taken-last : (gs : List Peer) (g : List ℕ) (h : List Act) → IsLawful gs h → (session_taken g h ≡ 0) ⊎ (session_taken g h ≡ openings g h)
 taken-last gs g [] l = inl refl
-taken-last gs g (acts.Opened f s ∷ h) l = taken-opened (bytes_eq f g) s (taken g h) (openings g h) (openings f h) (λ e. l.0.1) (openings-at f g h) (taken-last gs g h l.1)
-taken-last gs g (acts.Boot f ∷ h) l = taken-boot (bytes_eq f g) (taken g h) (openings g h) (taken-last gs g h l.1)
+taken-last gs g (acts.Opened f s ∷ h) l = taken-opened (bytes_eq f g) s (session_taken g h) (openings g h) (openings f h) (λ e. l.0.1) (openings-at f g h) (taken-last gs g h l.1)
+taken-last gs g (acts.Boot f ∷ h) l = taken-boot (bytes_eq f g) (session_taken g h) (openings g h) (taken-last gs g h l.1)
 taken-last gs g (a ∷ h) l = taken-last gs g h l.1
 
 -- a session that was cut was opened
@@ -97,10 +97,10 @@ next-of : (b : Bool) (o : Order) (r : Option Order) → (if b then None else r) 
 next-of true o r e = absurd (grind arith)
 next-of false o r e = e
 
-pub next-is : (g : List ℕ) (o : Order) (h : List Act) → next_request g h ≡ Some o → order_at g (taken g h) (handled g (taken g h) h + 1) h ≡ Some o
-next-is g o h e = next-of (taken g h == 0) o (order_at g (taken g h) (handled g (taken g h) h + 1) h) e
+pub next-is : (g : List ℕ) (o : Order) (h : List Act) → next_request g h ≡ Some o → order_at g (session_taken g h) (handled g (session_taken g h) h + 1) h ≡ Some o
+next-is g o h e = next-of (session_taken g h == 0) o (order_at g (session_taken g h) (handled g (session_taken g h) h + 1) h) e
 
-pub next-at : (g : List ℕ) (t j : ℕ) (o : Order) (h : List Act) → t ≡ taken g h → j ≡ handled g t h + 1 → next_request g h ≡ Some o → order_at g t j h ≡ Some o
+pub next-at : (g : List ℕ) (t j : ℕ) (o : Order) (h : List Act) → t ≡ session_taken g h → j ≡ handled g t h + 1 → next_request g h ≡ Some o → order_at g t j h ≡ Some o
 next-at g t j o h e q n = rw (q, e) (next-is g o h n)
 
 pub handled-ordered : (gs : List Peer) (g : List ℕ) (s : ℕ) (h : List Act) → IsLawful gs h → handled g s h ≤ orders g s h

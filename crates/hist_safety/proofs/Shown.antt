@@ -31,7 +31,7 @@ use Rattle.replay_win.specs.declared.verdict.Verdict.TheVariants.{Fresh, Seen}
 use Rattle.hist_acts.specs.declared.act.Act.{Act}
 use Rattle.hist_acts.specs.declared.act.Act.TheVariants as acts
 use Rattle.hist_halves.specs.Sealed.{by_spi, esp_of, number_of, other_half, payload_of}
-use Rattle.hist_halves.specs.Halves.{is_lapsed, is_live, is_sealed, live, taken}
+use Rattle.hist_halves.specs.Halves.{is_lapsed, is_live, is_sealed, live, numbers_taken}
 use Rattle.hist_clear.specs.Safe.{ClearIsLet}
 use Rattle.hist_safety.specs.Orders.{in_half, mirrored}
 use Rattle.hist_safety.specs.Carried.{Delivers, IsGenuine, IsUndelivered, Sends, keying_of}
@@ -223,10 +223,10 @@ undelivered-none : (g o : List ℕ) (h : List Act) → by_spi (spi_of (esp_of o)
 undelivered-none g o h found = λ x n r d. none-some d.half (sym found ∙ d.comes.found)
 
 undelivered-by : (g o : List ℕ) (half : SadEntry) (v : Verdict) (h : List Act) → by_spi (spi_of (esp_of o)) (live g h) ≡ Some half →
-    verdict_over half.window (taken g half.name h) (number_of half (taken g half.name h) (esp_of o)) ≡ v → (v ≡ Fresh → ⊥) → IsUndelivered gateways g o h
+    verdict_over half.window (numbers_taken g half.name h) (number_of half (numbers_taken g half.name h) (esp_of o)) ≡ v → (v ≡ Fresh → ⊥) → IsUndelivered gateways g o h
 undelivered-by g o half v h found e n = λ x m r d.
     let same : d.half ≡ half = some-is d.half half (sym d.comes.found ∙ found) in
-    n (sym e ∙ subst (λ z. verdict_over z.window (taken g z.name h) (number_of z (taken g z.name h) (esp_of o)) ≡ Fresh) same d.comes.fresh)
+    n (sym e ∙ subst (λ z. verdict_over z.window (numbers_taken g z.name h) (number_of z (numbers_taken g z.name h) (esp_of o)) ≡ Fresh) same d.comes.fresh)
 
 sealed-head : (x o : List ℕ) (f : List ℕ) (n : ℕ) (h : List Act) → is_sealed x (esp_of o) (acts.Sent f x n o ∷ h) ≡ true
 sealed-head x o f n h = or-left (bytes_eq x x && bytes_eq (esp_of o) (esp_of o)) (is_sealed x (esp_of o) h) (both (bytes_eq x x) (bytes_eq (esp_of o) (esp_of o)) (name-self x) (name-self (esp_of o)))

@@ -18,11 +18,11 @@ use Rattle.replay_win.specs.declared.verdict.Verdict.TheVariants.{Fresh, Old, Se
 use Rattle.hist_acts.specs.declared.act.Act.{Act}
 use Rattle.hist_acts.specs.declared.act.Act.TheVariants as acts
 use Rattle.hist_halves.specs.Sealed.{by_spi, esp_of, is_inbound, number_of, other_half, next_header}
-use Rattle.hist_halves.specs.Halves.{is_lapsed, is_live, is_sealed, live, put_of, taken}
+use Rattle.hist_halves.specs.Halves.{is_lapsed, is_live, is_sealed, live, put_of, numbers_taken}
 use Rattle.hist_clear.specs.Safe.{ClearIsLet}
-use Rattle.hist_safety.specs.Orders.{in_half, is_doomed, mirrored, order_of, out_half, site}
+use Rattle.hist_safety.specs.Orders.{in_half, is_removal_ordered, mirrored, order_of, out_half, site}
 use Rattle.hist_safety.specs.Carried.{ComesTo, Delivers, IsGenuine, keying_of, was_given, was_sent}
-use Rattle.hist_safety.specs.Law.{IsAnswer, IsLawful, MayGive, MayHappen}
+use Rattle.hist_safety.specs.Law.{IsAnswer, IsLawful, GiveMayHappen, MayHappen}
 use Rattle.hist_safety.specs.Safe.{GaveWasSent, MustGive}
 use Rattle.hist_safety.proofs.Basics.{no, name-not, name-true, not-true, some-is}
 use Rattle.hist_safety.proofs.Orders.{put-order, put-was, was}
@@ -84,18 +84,18 @@ gave-by gs g o x n p h l genuine d t e order here =
     let was : was_sent (site (out_half t) h) (out_half t) s.1 (esp_of o) s.2 h ≡ true = subst (λ y. was_sent y (out_half t) s.1 (esp_of o) s.2 h ≡ true) (sym c.3) s.3 in
     (apart, subst (λ y. was_sent (site (out_half t) h) (out_half t) y (esp_of o) p h ≡ true) (sym number) (subst (λ y. was_sent (site (out_half t) h) (out_half t) s.1 (esp_of o) y h ≡ true) (sym packet) was))
 
-not-given : (gs : List Peer) (g x : List ℕ) (n size : ℕ) (h : List Act) → IsLawful gs h → site x h ≡ g → verdict_over size (taken g x h) n ≡ Fresh → was_given x n h ≡ false
+not-given : (gs : List Peer) (g x : List ℕ) (n size : ℕ) (h : List Act) → IsLawful gs h → site x h ≡ g → verdict_over size (numbers_taken g x h) n ≡ Fresh → was_given x n h ≡ false
 not-given gs g x n size h l here f =
     not-true (was_given x n h) (λ e.
     let i = given gs x n h l e in
     let s : i.0 ≡ g = sym (was gs i.0 x h l i.1).1 ∙ here in
-    let a : is_among n (taken g x h) ≡ true = subst (λ z. is_among n (taken z x h) ≡ true) s i.2 in
-    no (sym (fresh-not size n (taken g x h) f) ∙ a))
+    let a : is_among n (numbers_taken g x h) ≡ true = subst (λ z. is_among n (numbers_taken z x h) ≡ true) s i.2 in
+    no (sym (fresh-not size n (numbers_taken g x h) f) ∙ a))
 
-fresh-of : (gs : List Peer) (g o x : List ℕ) (n : ℕ) (p : List ℕ) (h : List Act) (d : Delivers gs g o x n p h) → verdict_over d.half.window (taken g x h) n ≡ Fresh
+fresh-of : (gs : List Peer) (g o x : List ℕ) (n : ℕ) (p : List ℕ) (h : List Act) (d : Delivers gs g o x n p h) → verdict_over d.half.window (numbers_taken g x h) n ≡ Fresh
 fresh-of gs g o x n p h d =
-    let a : verdict_over d.half.window (taken g x h) (number_of d.half (taken g x h) (esp_of o)) ≡ Fresh = subst (λ z. verdict_over d.half.window (taken g z h) (number_of d.half (taken g z h) (esp_of o)) ≡ Fresh) d.name d.comes.fresh in
-    ap (verdict_over d.half.window (taken g x h)) d.number ∙ a
+    let a : verdict_over d.half.window (numbers_taken g x h) (number_of d.half (numbers_taken g x h) (esp_of o)) ≡ Fresh = subst (λ z. verdict_over d.half.window (numbers_taken g z h) (number_of d.half (numbers_taken g z h) (esp_of o)) ≡ Fresh) d.name d.comes.fresh in
+    ap (verdict_over d.half.window (numbers_taken g x h)) d.number ∙ a
 
 gave-now : (gs : List Peer) (g o x : List ℕ) (n : ℕ) (p : List ℕ) (h : List Act) → IsLawful gs h → IsGenuine gs g o h → Delivers gs g o x n p h → GaveWasSent g x n p (acts.Arrived g o ∷ h)
 gave-now gs g o x n p h l genuine d =
@@ -111,7 +111,7 @@ gave-now gs g o x n p h l genuine d =
       first = not-given gs g x n d.half.window h l f.3 (fresh-of gs g o x n p h d);
     }
 
-pub gave-safe : (gs : List Peer) (g x : List ℕ) (n : ℕ) (p : List ℕ) (h : List Act) → IsLawful gs h → MayGive gs g x n p h → GaveWasSent g x n p h
+pub gave-safe : (gs : List Peer) (g x : List ℕ) (n : ℕ) (p : List ℕ) (h : List Act) → IsLawful gs h → GiveMayHappen gs g x n p h → GaveWasSent g x n p h
 gave-safe gs g x n p (acts.Arrived f o ∷ h) l m = subst (λ z. GaveWasSent g x n p (acts.Arrived z o ∷ h)) (sym m.0) (gave-now gs g o x n p h l.1 m.1 m.2)
 gave-safe gs g x n p [] l m = absurd m
 gave-safe gs g x n p (a ∷ h) l m = absurd m
@@ -151,18 +151,18 @@ small-spi t e n = let a = n.2 in let b = n.3 in omega (arith, a, b)
 -- the datagram comes to its half
 comes : (gs : List Peer) (g o t p : List ℕ) (half : SadEntry) (h : List Act) → IsLawful gs h → MustGive gs g o t p half h → half.name ≡ in_half t → spi_of (esp_of o) ≡ half.spi → ComesTo gs g o half h
 comes gs g o t p half h l m name spi =
-    let v = still-live (is_live g (in_half t) h) (is_lapsed g (in_half t) h) (is_doomed (in_half t) h) m.whole m.stays (stays gs g (in_half t) h l (put-was g (in_half t) half h m.put)) in
+    let v = still-live (is_live g (in_half t) h) (is_lapsed g (in_half t) h) (is_removal_ordered (in_half t) h) m.whole m.stays (stays gs g (in_half t) h l (put-was g (in_half t) half h m.put)) in
     record {
       packet = m.packet;
       view = m.view;
       proto = m.proto;
       own = m.own;
       found = spi-finds gs g t (spi_of (esp_of o)) half h l v m.put (sym spi);
-      fresh = subst (λ z. verdict_over half.window (taken g z h) (number_of half (taken g z h) (esp_of o)) ≡ Fresh) (sym name) m.fresh;
+      fresh = subst (λ z. verdict_over half.window (numbers_taken g z h) (number_of half (numbers_taken g z h) (esp_of o)) ≡ Fresh) (sym name) m.fresh;
     }
 
 pub delivered : (gs : List Peer) (g o t p : List ℕ) (half : SadEntry) (h : List Act) → IsLawful gs h → MustGive gs g o t p half h →
-    Delivers gs g o (in_half t) (number_of half (taken g (in_half t) h) (esp_of o)) p h
+    Delivers gs g o (in_half t) (number_of half (numbers_taken g (in_half t) h) (esp_of o)) p h
 delivered gs g o t p half h l m =
     let c = carried gs m.sender (out_half t) m.number (esp_of o) p h l m.unchanged in
     let i = put-order gs g (in_half t) half h l m.put in
@@ -199,7 +199,7 @@ delivers-once : (gs : List Peer) (g o x y : List ℕ) (m n : ℕ) (p q : List �
 delivers-once gs g o x y m n p q h a b =
     let s = same-found gs g o a.half b.half h a.comes b.comes in
     let e : x ≡ y = sym a.name ∙ ap (λ (z : SadEntry). z.name) s ∙ b.name in
-    let k : m ≡ n = a.number ∙ ap (λ (z : List ℕ). number_of a.half (taken g z h) (esp_of o)) e ∙ ap (λ (z : SadEntry). number_of z (taken g y h) (esp_of o)) s ∙ sym b.number in
+    let k : m ≡ n = a.number ∙ ap (λ (z : List ℕ). number_of a.half (numbers_taken g z h) (esp_of o)) e ∙ ap (λ (z : SadEntry). number_of z (numbers_taken g y h) (esp_of o)) s ∙ sym b.number in
     let r : p ≡ q = same-packet a.half b.half (esp_of o) a.text b.text p q (next_header p) (next_header q) s a.opens b.opens a.inner b.inner in
     rw (e, k, r) refl
 

@@ -14,7 +14,7 @@ use Rattle.replay_win.specs.declared.verdict.Verdict.TheVariants.{Fresh}
 use Rattle.hist_acts.specs.declared.act.Act.{Act}
 use Rattle.hist_acts.specs.declared.act.Act.TheVariants as acts
 use Rattle.hist_halves.specs.Sealed.{by_spi, esp_of, is_inbound, number_of, other_half, next_header}
-use Rattle.hist_halves.specs.Halves.{is_half, is_live, is_sealed, live, put_of, sent, taken}
+use Rattle.hist_halves.specs.Halves.{is_half, is_live, is_sealed, live, put_of, sent, numbers_taken}
 use Rattle.hist_safety.specs.Orders.{aes_part}
 
 -- how the octets of a half are sealed
@@ -63,7 +63,7 @@ pub record ComesTo (gateways : List Peer) (g o : List ℕ) (half : SadEntry) (h 
   pub proto : packet.proto ≡ 50
   pub own : address_of gateways g ≡ Some packet.dst
   pub found : by_spi (spi_of (esp_of o)) (live g h) ≡ Some half
-  pub fresh : verdict_over half.window (taken g half.name h) (number_of half (taken g half.name h) (esp_of o)) ≡ Fresh
+  pub fresh : verdict_over half.window (numbers_taken g half.name h) (number_of half (numbers_taken g half.name h) (esp_of o)) ≡ Fresh
 
 -- The arrival isn't forged: if it comes to a half and opens under its key, its ESP octets were sent under the other half.
 abbrev pub IsGenuine : List Peer → List ℕ → List ℕ → List Act → Type 0
@@ -81,7 +81,7 @@ pub record Delivers (gateways : List Peer) (g o x : List ℕ) (n : ℕ) (p : Lis
   pub half : SadEntry
   pub comes : ComesTo gateways g o half h
   pub name : half.name ≡ x
-  pub number : n ≡ number_of half (taken g x h) (esp_of o)
+  pub number : n ≡ number_of half (numbers_taken g x h) (esp_of o)
   pub text : List ℕ
   pub opens : HalfOpens half (esp_of o) text
   pub inner : Inner text (next_header p) p

@@ -5,7 +5,7 @@ use Rattle.std.specs.Prelude.{◌≡◌, ℕ, Bool, true, List, [], ◌∷◌}
 use Rattle.ikeless_tree.specs.declared.order.Order.TheVariants as asks
 use Rattle.hist_acts.specs.declared.act.Act.{Act}
 use Rattle.hist_acts.specs.declared.act.Act.TheVariants as acts
-use Rattle.hist_safety.specs.Orders.{in_half, is_doomed}
+use Rattle.hist_safety.specs.Orders.{in_half, is_removal_ordered}
 
 -- what is ended stays so
 abbrev pub NeverEnds : (List ℕ → List Act → Bool) → Type 0
@@ -21,4 +21,4 @@ RemovedEnded ended (_ ∷ h) = RemovedEnded ended h
 abbrev pub DoomedIsEnded : Type 0
 DoomedIsEnded =
     (ended : List ℕ → List Act → Bool) → NeverEnds ended → (h : List Act) → RemovedEnded ended h → (serial : List ℕ)
-    → is_doomed (in_half serial) h ≡ true → ended serial h ≡ true
+    → is_removal_ordered (in_half serial) h ≡ true → ended serial h ≡ true

@@ -34,10 +34,10 @@ abbrev pub aes_part : List ℕ → List ℕ
 aes_part key = take (length key - 4) key
 
 -- a put of the half was ordered
-abbrev pub ordered : List ℕ → List Act → Bool
-ordered x [] = false
-ordered x (acts.Order f s k (asks.Put e) ∷ h) = bytes_eq e.name x || ordered x h
-ordered x (_ ∷ h) = ordered x h
+abbrev pub was_order_given : List ℕ → List Act → Bool
+was_order_given x [] = false
+was_order_given x (acts.Order f s k (asks.Put e) ∷ h) = bytes_eq e.name x || was_order_given x h
+was_order_given x (_ ∷ h) = was_order_given x h
 
 -- what was ordered to be put, and where: the gateway, the session, and the number in it
 abbrev pub order_of : List ℕ → List Act → Option SadEntry
@@ -73,10 +73,10 @@ is_key_used part (acts.Order f s k (asks.Put e) ∷ h) = bytes_eq (aes_part e.ke
 is_key_used part (_ ∷ h) = is_key_used part h
 
 -- a removal of the half was ordered
-abbrev pub is_doomed : List ℕ → List Act → Bool
-is_doomed x [] = false
-is_doomed x (acts.Order f s k (asks.Remove y) ∷ h) = bytes_eq y x || is_doomed x h
-is_doomed x (_ ∷ h) = is_doomed x h
+abbrev pub is_removal_ordered : List ℕ → List Act → Bool
+is_removal_ordered x [] = false
+is_removal_ordered x (acts.Order f s k (asks.Remove y) ∷ h) = bytes_eq y x || is_removal_ordered x h
+is_removal_ordered x (_ ∷ h) = is_removal_ordered x h
 
 -- the order is the put, or a removal, of this half
 abbrev pub is_put : List ℕ → Option Order → Bool
@@ -88,19 +88,19 @@ is_removal x (Some (asks.Remove y)) = bytes_eq y x
 is_removal x _ = false
 
 -- the put of the half was answered and not refused
-abbrev pub is_made : List ℕ → List Act → Bool
-is_made x [] = false
-is_made x (acts.Answered f s k a ∷ h) = (is_put x (order_at f s k h) && nat_lt a.status 400) || is_made x h
-is_made x (_ ∷ h) = is_made x h
+abbrev pub is_put_accepted : List ℕ → List Act → Bool
+is_put_accepted x [] = false
+is_put_accepted x (acts.Answered f s k a ∷ h) = (is_put x (order_at f s k h) && nat_lt a.status 400) || is_put_accepted x h
+is_put_accepted x (_ ∷ h) = is_put_accepted x h
 
 -- a removal of the half was answered
-abbrev pub is_left : List ℕ → List Act → Bool
-is_left x [] = false
-is_left x (acts.Answered f s k a ∷ h) = is_removal x (order_at f s k h) || is_left x h
-is_left x (_ ∷ h) = is_left x h
+abbrev pub is_removal_answered : List ℕ → List Act → Bool
+is_removal_answered x [] = false
+is_removal_answered x (acts.Answered f s k a ∷ h) = is_removal x (order_at f s k h) || is_removal_answered x h
+is_removal_answered x (_ ∷ h) = is_removal_answered x h
 
 -- a removal of the half was handled
-abbrev pub is_off : List ℕ → List Act → Bool
-is_off x [] = false
-is_off x (acts.Handled f s k a ∷ h) = is_removal x (order_at f s k h) || is_off x h
-is_off x (_ ∷ h) = is_off x h
+abbrev pub is_removal_handled : List ℕ → List Act → Bool
+is_removal_handled x [] = false
+is_removal_handled x (acts.Handled f s k a ∷ h) = is_removal x (order_at f s k h) || is_removal_handled x h
+is_removal_handled x (_ ∷ h) = is_removal_handled x h

@@ -10,9 +10,9 @@ use Rattle.replay_win.specs.declared.verdict.Verdict.TheVariants.{Fresh}
 use Rattle.hist_acts.specs.declared.act.Act.{Act}
 use Rattle.hist_acts.specs.declared.act.Act.TheVariants as acts
 use Rattle.hist_halves.specs.Sealed.{esp_of, is_inbound, number_of, other_half}
-use Rattle.hist_halves.specs.Halves.{is_lapsed, is_live, put_of, taken, was_put}
+use Rattle.hist_halves.specs.Halves.{is_lapsed, is_live, put_of, numbers_taken, was_put}
 use Rattle.hist_clear.specs.Safe.{ClearIsLet}
-use Rattle.hist_safety.specs.Orders.{in_half, is_doomed, out_half, site}
+use Rattle.hist_safety.specs.Orders.{in_half, is_removal_ordered, out_half, site}
 use Rattle.hist_safety.specs.Carried.{address_of, aes_in, was_given, was_sealed, was_sent}
 
 -- each packet that leaves in clear is that of the Let just before, and a bypass entry in force holds it first
@@ -59,15 +59,15 @@ pub record MustGive (gateways : List Peer) (g o serial p : List ℕ) (half : Sad
   pub number : ℕ
   pub unchanged : was_sent sender (out_half serial) number (esp_of o) p h ≡ true
   pub put : put_of g (in_half serial) h ≡ Some half
-  pub fresh : verdict_over half.window (taken g (in_half serial) h) (number_of half (taken g (in_half serial) h) (esp_of o)) ≡ Fresh
-  pub stays : is_doomed (in_half serial) h ≡ false
+  pub fresh : verdict_over half.window (numbers_taken g (in_half serial) h) (number_of half (numbers_taken g (in_half serial) h) (esp_of o)) ≡ Fresh
+  pub stays : is_removal_ordered (in_half serial) h ≡ false
   pub whole : is_lapsed g (in_half serial) h ≡ false
 
 -- what must be given is given, with the packet of its Let
 abbrev pub IsArrivalSafe : List Peer → Act → List Act → Type 0
 IsArrivalSafe gateways a (acts.Arrived g o ∷ h) =
     (serial p : List ℕ) (half : SadEntry) → MustGive gateways g o serial p half h
-    → a ≡ acts.Gave g (in_half serial) (number_of half (taken g (in_half serial) h) (esp_of o)) p
+    → a ≡ acts.Gave g (in_half serial) (number_of half (numbers_taken g (in_half serial) h) (esp_of o)) p
 IsArrivalSafe gateways a _ = Unit {0}
 
 abbrev pub Safe : List Peer → List Act → Type 0

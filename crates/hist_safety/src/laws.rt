@@ -6,7 +6,7 @@ ghost use Rattle.hist_acts.specs.Past.{after};
 ghost use Rattle.hist_safety.specs.Carried.{was_sent};
 ghost use Rattle.hist_safety.specs.Ended.{DoomedIsEnded};
 ghost use Rattle.hist_safety.specs.Kept.{Kept};
-ghost use Rattle.hist_safety.specs.Law.{IsLawful, IsWhole, MayAll};
+ghost use Rattle.hist_safety.specs.Law.{IsLawful, IsWhole, AllMayHappen};
 ghost use Rattle.hist_safety.specs.Safe.{IsLastSafe, Safe};
 
 /// Every lawful history of any number of gateways and their controller is safe, in its five parts. One that is whole leaves
@@ -29,7 +29,7 @@ pub fn number_is_sent_once()
 
 /// A lawful history goes on by acts that may happen after it, and each of its beginnings is lawful.
 pub fn goes_on()
-    ensures on { (gateways : List Peer) (h more : List Act) → IsLawful gateways h → MayAll gateways h more → IsLawful gateways (after h more) }
+    ensures on { (gateways : List Peer) (h more : List Act) → IsLawful gateways h → AllMayHappen gateways h more → IsLawful gateways (after h more) }
     ensures back { (gateways : List Peer) (h more : List Act) → IsLawful gateways (after h more) → IsLawful gateways h }
 {}
 

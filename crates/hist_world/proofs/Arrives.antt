@@ -27,17 +27,17 @@ use Rattle.hist_acts.specs.declared.act.Act.TheVariants as acts
 use Rattle.hist_acts.specs.Gateways.{is_same_address}
 use Rattle.hist_acts.specs.Past.{after, force}
 use Rattle.hist_halves.specs.Sealed.{by_spi, esp_of, is_opened, number_of, other_half, payload_of, next_header}
-use Rattle.hist_halves.specs.Halves.{is_sealed, live, taken}
-use Rattle.hist_gateway.specs.Stands.{bad_spi_stands}
+use Rattle.hist_halves.specs.Halves.{is_sealed, live, numbers_taken}
+use Rattle.hist_gateway.specs.Stands.{does_bad_spi_stand}
 use Rattle.hist_gateway.specs.Datagram.{fault_why}
 use Rattle.hist_gateway.specs.Look.{look, tells}
 use Rattle.hist_gateway.specs.Let.{unless}
-use Rattle.hist_gateway.specs.Arrive.{arrive_acts, by_action, by_entry, by_half, by_inner, by_packet, by_text, by_verdict, by_view, drops, esp_acts, is_sealed_for, is_told_version, uses}
+use Rattle.hist_gateway.specs.Arrive.{arrive_acts, arrive_by_action, arrive_by_entry, arrive_by_half, by_inner, by_packet, by_text, by_verdict, arrive_by_view, drops, esp_acts, is_sealed_for, is_told_version, use_acts}
 use Rattle.hist_gateway.specs.Block.{Gateway}
-use Rattle.hist_gateway.specs.May.{AllMay, IsDelivery, IsOpenedArrival, MayDrop, MayFollow, OpensArrival}
+use Rattle.hist_gateway.specs.May.{GatewayMayActAll, IsDelivery, IsOpenedArrival, GatewayMayDrop, GatewayMayAct, OpensArrival}
 use Rattle.hist_gateway.proofs.DeliveryLemmas.{delivers-is}
 use Rattle.hist_safety.specs.Carried.{ComesTo, Delivers, IsGenuine, IsOpened, IsUndelivered, address_of, keying_of}
-use Rattle.hist_safety.specs.Law.{MayAll, MayHappen, is_ready}
+use Rattle.hist_safety.specs.Law.{AllMayHappen, MayHappen, is_ready}
 use Rattle.hist_safety.proofs.Basics.{no, both, both-left, both-right, eq-nat, name-is, name-self}
 use Rattle.hist_world.specs.Arrivals.{does_open, is_esp_forged, is_forged, is_fresh, is_half_forged, is_view_forged}
 use Rattle.hist_world.proofs.Followers.{follow, look-follows, unless-follows}
@@ -84,7 +84,7 @@ esp-is : (o : List ℕ) (v : Packet) → view_of o ≡ Ok v → esp_of o ≡ v.p
 esp-is o v e = ap payload_of e
 
 comes-to : (gs : List Peer) (g o : List ℕ) (h : List Act) (v : Packet) (e : SadEntry) → ToUs gs g o v → by_spi (spi_of v.payload) (live g h) ≡ Some e
-    → verdict_over e.window (taken g e.name h) (number_of e (taken g e.name h) v.payload) ≡ verdicts.Fresh → ComesTo gs g o e h
+    → verdict_over e.window (numbers_taken g e.name h) (number_of e (numbers_taken g e.name h) v.payload) ≡ verdicts.Fresh → ComesTo gs g o e h
 comes-to gs g o h v e t found fresh =
     let b = esp-is o v t.view in
     record {
@@ -93,7 +93,7 @@ comes-to gs g o h v e t found fresh =
       proto = t.proto;
       own = t.own;
       found = ap (λ (z : List ℕ). by_spi (spi_of z) (live g h)) b ∙ found;
-      fresh = ap (λ (z : List ℕ). verdict_over e.window (taken g e.name h) (number_of e (taken g e.name h) z)) b ∙ fresh;
+      fresh = ap (λ (z : List ℕ). verdict_over e.window (numbers_taken g e.name h) (number_of e (numbers_taken g e.name h) z)) b ∙ fresh;
     }
 
 opens-at : (k : Keying) (b x : List ℕ) (found : Option (List ℕ)) → MatchOption found (esp.NoText k b) (EspOpens k b) → found ≡ Some x → EspOpens k b x
@@ -129,9 +129,9 @@ genuine gs g o own h at no-forgery = λ half text c opens.
     let v4 : is_half_forged g h (esp_of o) (by_spi (spi_of (esp_of o)) (live g h)) ≡ false =
     subst (λ (t : Bool). (not t && is_half_forged g h (esp_of o) (by_spi (spi_of (esp_of o)) (live g h))) ≡ false) (long (esp_of o) opens.0) v3 in
     let v5 : is_half_forged g h (esp_of o) (Some half) ≡ false = subst (λ (z : Option SadEntry). is_half_forged g h (esp_of o) z ≡ false) c.found v4 in
-    let fresh : is_fresh (verdict_over half.window (taken g half.name h) (number_of half (taken g half.name h) (esp_of o))) ≡ true = ap is_fresh c.fresh in
+    let fresh : is_fresh (verdict_over half.window (numbers_taken g half.name h) (number_of half (numbers_taken g half.name h) (esp_of o))) ≡ true = ap is_fresh c.fresh in
     let opens_here : does_open (esp.opened (keying half.spi half.key) (esp_of o)) ≡ true = ap does_open (opened_finds (keying half.spi half.key) (esp_of o) text opens) in
-    genuine-of (is_fresh (verdict_over half.window (taken g half.name h) (number_of half (taken g half.name h) (esp_of o))))
+    genuine-of (is_fresh (verdict_over half.window (numbers_taken g half.name h) (number_of half (numbers_taken g half.name h) (esp_of o))))
     (does_open (esp.opened (keying half.spi half.key) (esp_of o))) (is_sealed (other_half half.name) (esp_of o) h) v5 fresh opens_here
 
 -- ---- what is given
@@ -148,7 +148,7 @@ to-delivery gs c o x n p h at d =
       own = both (v.proto == 50) (is_same_address v.dst c.address) (grind (arith, d.comes.proto)) (subst (λ (z : Addr). is_same_address z c.address ≡ true) same (own-address c.address));
       whole = subst (λ (z : List ℕ). nat_lt (length z) 34 ≡ false) b (long (esp_of o) d.opens.0);
       spi = ap (λ (z : List ℕ). by_spi (spi_of z) (live c.name h)) (sym b) ∙ d.comes.found;
-      fresh = ap (λ (z : List ℕ). verdict_over e.window (taken c.name e.name h) (number_of e (taken c.name e.name h) z)) (sym b) ∙ d.comes.fresh;
+      fresh = ap (λ (z : List ℕ). verdict_over e.window (numbers_taken c.name e.name h) (number_of e (numbers_taken c.name e.name h) z)) (sym b) ∙ d.comes.fresh;
       opened = ap (λ (z : List ℕ). esp.opened (keying e.spi e.key) z) (sym b) ∙ opened_finds (keying e.spi e.key) (esp_of o) d.text d.opens;
       packet = packet_finds d.text p (next_header p) d.inner;
       inner_view = d.view;
@@ -191,7 +191,7 @@ gives gs c o x n p h at a =
       half = a.opens.half;
       comes = q.0;
       name = sym a.name;
-      number = a.number ∙ ap (λ (z : List ℕ). number_of a.opens.half (taken c.name x h) z) (sym (esp-is o a.opens.outer view));
+      number = a.number ∙ ap (λ (z : List ℕ). number_of a.opens.half (numbers_taken c.name x h) z) (sym (esp-is o a.opens.outer view));
       text = a.opens.text;
       opens = q.1;
       inner = subst (λ (z : ℕ). Inner a.opens.text z p) m i;
@@ -235,33 +235,33 @@ verdict-shape g h b e n verdicts.Old = shaped (ArriveAnswer g) (acts.Drop g why.
 verdict-shape g h b e n verdicts.Seen = shaped (ArriveAnswer g) (acts.Drop g why.Seen) [] refl refl
 verdict-shape g h b e n verdicts.Fresh = text-shape g h e n (esp.opened (keying e.spi e.key) b)
 
-half-shape : (g : List ℕ) (h : List Act) (b : List ℕ) (found : Option SadEntry) → Shaped (ArriveAnswer g) (by_half g h b found)
+half-shape : (g : List ℕ) (h : List Act) (b : List ℕ) (found : Option SadEntry) → Shaped (ArriveAnswer g) (arrive_by_half g h b found)
 half-shape g h b None =
     let told : List Act = tells g h (notices.BadSpi (spi_of b)) in
-    shaped (ArriveAnswer g) (acts.Drop g why.BadSpi) (unless (bad_spi_stands g (spi_of b) h) told) refl (unless-follows (bad_spi_stands g (spi_of b) h) told refl)
+    shaped (ArriveAnswer g) (acts.Drop g why.BadSpi) (unless (does_bad_spi_stand g (spi_of b) h) told) refl (unless-follows (does_bad_spi_stand g (spi_of b) h) told refl)
 half-shape g h b (Some e) =
-    let n : ℕ = number_of e (taken g e.name h) b in
-    verdict-shape g h b e n (verdict_over e.window (taken g e.name h) n)
+    let n : ℕ = number_of e (numbers_taken g e.name h) b in
+    verdict-shape g h b e n (verdict_over e.window (numbers_taken g e.name h) n)
 
 esp-shape : (g : List ℕ) (h : List Act) (b : List ℕ) → Shaped (ArriveAnswer g) (esp_acts g h b)
 esp-shape g h b =
-    shaped-if (ArriveAnswer g) (nat_lt (length b) 34) (drops g why.Short) (by_half g h b (by_spi (spi_of b) (live g h)))
+    shaped-if (ArriveAnswer g) (nat_lt (length b) 34) (drops g why.Short) (arrive_by_half g h b (by_spi (spi_of b) (live g h)))
     (shaped (ArriveAnswer g) (acts.Drop g why.Short) [] refl refl) (half-shape g h b (by_spi (spi_of b) (live g h)))
 
-action-shape : (g o : List ℕ) (a : Action) → ArriveAnswer g (by_action g o a)
+action-shape : (g o : List ℕ) (a : Action) → ArriveAnswer g (arrive_by_action g o a)
 action-shape g o actions.Protect = refl
 action-shape g o actions.Bypass = refl
 action-shape g o actions.Discard = refl
 
-entry-shape : (g o : List ℕ) (found : Option SpdEntry) → ArriveAnswer g (by_entry g o found)
+entry-shape : (g o : List ℕ) (found : Option SpdEntry) → ArriveAnswer g (arrive_by_entry g o found)
 entry-shape g o None = refl
 entry-shape g o (Some p) = action-shape g o p.action
 
-view-shape : (g : List ℕ) (own : Addr) (h : List Act) (o : List ℕ) (r : Result Packet NotPacket) → Shaped (ArriveAnswer g) (by_view g own h o r)
+view-shape : (g : List ℕ) (own : Addr) (h : List Act) (o : List ℕ) (r : Result Packet NotPacket) → Shaped (ArriveAnswer g) (arrive_by_view g own h o r)
 view-shape g own h o (Err fault) = shaped (ArriveAnswer g) (acts.Drop g (fault_why fault)) [] refl refl
 view-shape g own h o (Ok v) =
-    shaped-if (ArriveAnswer g) (is_sealed_for own v) (esp_acts g h v.payload) (by_entry g o (first_entry (force g h) In v) ∷ [])
-    (esp-shape g h v.payload) (shaped (ArriveAnswer g) (by_entry g o (first_entry (force g h) In v)) [] (entry-shape g o (first_entry (force g h) In v)) refl)
+    shaped-if (ArriveAnswer g) (is_sealed_for own v) (esp_acts g h v.payload) (arrive_by_entry g o (first_entry (force g h) In v) ∷ [])
+    (esp-shape g h v.payload) (shaped (ArriveAnswer g) (arrive_by_entry g o (first_entry (force g h) In v)) [] (entry-shape g o (first_entry (force g h) In v)) refl)
 
 pub arrive-shape : (g : List ℕ) (own : Addr) (h : List Act) (o : List ℕ) → Shaped (ArriveAnswer g) (arrive_acts g own h o)
 unfolding arrive_acts
@@ -280,10 +280,10 @@ given-first : (gs : List Peer) (c : Gateway) (o x : List ℕ) (n : ℕ) (p : Lis
     → arrive_acts c.name c.address (acts.Arrived c.name o ∷ h) o ≡ a ∷ rest → Delivers gs c.name o x n p h → (m : ℕ) × (y : List ℕ) × (a ≡ acts.Gave c.name y m p)
 given-first gs c o x n p h a rest at parts d =
     let e : SadEntry = d.half in
-    let m : ℕ = number_of e (taken c.name e.name h) d.comes.packet.payload in
+    let m : ℕ = number_of e (numbers_taken c.name e.name h) d.comes.packet.payload in
     let g : Act = acts.Gave c.name e.name m p in
     let w = delivers-is c h o d.comes.packet d.packet e d.text p (next_header p) (to-delivery gs c o x n p h at d) in
-    let after_it = rest-is (acts.Arrived c.name o) (acts.Arrived c.name o) (arrive_acts c.name c.address (acts.Arrived c.name o ∷ h) o) (uses c.name (acts.Arrived c.name o ∷ h) e g) w in
+    let after_it = rest-is (acts.Arrived c.name o) (acts.Arrived c.name o) (arrive_acts c.name c.address (acts.Arrived c.name o ∷ h) o) (use_acts c.name (acts.Arrived c.name o ∷ h) e g) w in
     (m, e.name, first-is a g rest (look c.name (g ∷ acts.Arrived c.name o ∷ h) (e ∷ [])) (sym parts ∙ after_it))
 
 drop-not : (f g x : List ℕ) (w : DropWhy) (n : ℕ) (p : List ℕ) → acts.Drop f w ≡ acts.Gave g x n p → ⊥
@@ -292,12 +292,12 @@ drop-not f g x w n p e = grind (arith, e)
 pass-not : (f o g x : List ℕ) (n : ℕ) (p : List ℕ) → acts.Pass f o ≡ acts.Gave g x n p → ⊥
 pass-not f o g x n p e = grind (arith, e)
 
-opened-drop : (gs : List Peer) (c : Gateway) (o : List ℕ) (h : List Act) (b : Bool) → address_of gs c.name ≡ Some c.address → MayDrop c (acts.Arrived c.name o ∷ h) c.name b → b ≡ true → IsOpened gs c.name o h
+opened-drop : (gs : List Peer) (c : Gateway) (o : List ℕ) (h : List Act) (b : Bool) → address_of gs c.name ≡ Some c.address → GatewayMayDrop c (acts.Arrived c.name o ∷ h) c.name b → b ≡ true → IsOpened gs c.name o h
 opened-drop gs c o h true at m e = let q = opens-comes gs c o h at m in (m.half, m.text, q.0, q.1)
 opened-drop gs c o h false at m e = absurd (no e)
 
 answer-may : (gs : List Peer) (c : Gateway) (o : List ℕ) (h : List Act) (a : Act) (rest : List Act) → address_of gs c.name ≡ Some c.address → IsGenuine gs c.name o h
-    → arrive_acts c.name c.address (acts.Arrived c.name o ∷ h) o ≡ a ∷ rest → ArriveAnswer c.name a → MayFollow c (acts.Arrived c.name o ∷ h) a
+    → arrive_acts c.name c.address (acts.Arrived c.name o ∷ h) o ≡ a ∷ rest → ArriveAnswer c.name a → GatewayMayAct c (acts.Arrived c.name o ∷ h) a
     → MayHappen gs a (acts.Arrived c.name o ∷ h) × (is_ready (a ∷ acts.Arrived c.name o ∷ h) ≡ true)
 answer-may gs c o h (acts.Gave f x n p) rest at real parts fits m =
     let m2 : IsOpenedArrival c (acts.Arrived c.name o ∷ h) c.name x n p = subst (λ (z : List ℕ). IsOpenedArrival c (acts.Arrived c.name o ∷ h) z x n p) fits m in
@@ -307,21 +307,21 @@ answer-may gs c o h (acts.Pass f q) rest at real parts fits m =
     let P : List ℕ → Type 0 = λ z. (c.name ≡ z) × IsGenuine gs z o h × IsUndelivered gs z o h in
     (subst P (sym fits) (refl, real, λ x n p d. let g = given-first gs c o x n p h (acts.Pass f q) rest at parts d in pass-not f q c.name g.1 g.0 p g.2), refl)
 answer-may gs c o h (acts.Drop f w) rest at real parts fits m =
-    let m2 : MayDrop c (acts.Arrived c.name o ∷ h) c.name (is_opened w) = subst (λ (z : List ℕ). MayDrop c (acts.Arrived c.name o ∷ h) z (is_opened w)) fits m in
+    let m2 : GatewayMayDrop c (acts.Arrived c.name o ∷ h) c.name (is_opened w) = subst (λ (z : List ℕ). GatewayMayDrop c (acts.Arrived c.name o ∷ h) z (is_opened w)) fits m in
     let P : List ℕ → Type 0 = λ z. (c.name ≡ z) × IsGenuine gs z o h × IsUndelivered gs z o h × (is_opened w ≡ true → IsOpened gs z o h) in
     (subst P (sym fits) (refl, real, (λ x n p d. let g = given-first gs c o x n p h (acts.Drop f w) rest at parts d in drop-not f c.name g.1 w g.0 p g.2), opened-drop gs c o h (is_opened w) at m2), refl)
 answer-may gs c o h a rest at real parts fits m = absurd fits
 
 -- the answer to a datagram that isn't forged, and what follows it
 pub arrive-may : (gs : List Peer) (c : Gateway) (o : List ℕ) (h : List Act) → address_of gs c.name ≡ Some c.address → IsGenuine gs c.name o h
-    → AllMay c (acts.Arrived c.name o ∷ h) (arrive_acts c.name c.address (acts.Arrived c.name o ∷ h) o)
-    → MayAll gs (acts.Arrived c.name o ∷ h) (arrive_acts c.name c.address (acts.Arrived c.name o ∷ h) o)
+    → GatewayMayActAll c (acts.Arrived c.name o ∷ h) (arrive_acts c.name c.address (acts.Arrived c.name o ∷ h) o)
+    → AllMayHappen gs (acts.Arrived c.name o ∷ h) (arrive_acts c.name c.address (acts.Arrived c.name o ∷ h) o)
     × (is_ready (after (acts.Arrived c.name o ∷ h) (arrive_acts c.name c.address (acts.Arrived c.name o ∷ h) o)) ≡ true)
 arrive-may gs c o h at real all =
     let w : List Act = acts.Arrived c.name o ∷ h in
     let s = arrive-shape c.name c.address w o in
-    let all2 : AllMay c w (s.first ∷ s.rest) = subst (AllMay c w) s.parts all in
+    let all2 : GatewayMayActAll c w (s.first ∷ s.rest) = subst (GatewayMayActAll c w) s.parts all in
     let a = answer-may gs c o h s.first s.rest at real s.parts s.fits all2.0 in
     let f = follow gs (s.first ∷ w) s.rest a.1 s.follow in
-    let P : List Act → Type 0 = λ xs. MayAll gs w xs × (is_ready (after w xs) ≡ true) in
+    let P : List Act → Type 0 = λ xs. AllMayHappen gs w xs × (is_ready (after w xs) ≡ true) in
     subst P (sym s.parts) ((a.0, f.0), f.1)

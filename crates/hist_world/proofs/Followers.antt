@@ -12,10 +12,10 @@ use Rattle.hist_acts.specs.Past.{after}
 use Rattle.hist_acts.specs.Sessions as sessions
 use Rattle.hist_halves.specs.Halves.{is_hard, live}
 use Rattle.hist_gateway.specs.Uses.{counts}
-use Rattle.hist_gateway.specs.Stands.{soft_given}
+use Rattle.hist_gateway.specs.Stands.{was_soft_given}
 use Rattle.hist_gateway.specs.Look.{is_reached, expiry, given_by, goings, expiries, look}
 use Rattle.hist_gateway.specs.Let.{unless}
-use Rattle.hist_safety.specs.Law.{MayAll, MayHappen, is_ready}
+use Rattle.hist_safety.specs.Law.{AllMayHappen, MayHappen, is_ready}
 use Rattle.hist_safety.proofs.Basics.{no, both, both-left, both-right}
 use Rattle.hist_world.specs.Block.{looks}
 
@@ -32,7 +32,7 @@ hard-may gs f x gone.Removed h r p = absurd (no p)
 hard-may gs f x gone.Hard h r p = (r, refl)
 
 -- they may happen, and leave no question
-pub follow : (gs : List Peer) (h xs : List Act) → is_ready h ≡ true → are_followers xs ≡ true → MayAll gs h xs × (is_ready (after h xs) ≡ true)
+pub follow : (gs : List Peer) (h xs : List Act) → is_ready h ≡ true → are_followers xs ≡ true → AllMayHappen gs h xs × (is_ready (after h xs) ≡ true)
 follow gs h [] r p = (tt, r)
 follow gs h (acts.Gone f x w ∷ xs) r p =
     let a = hard-may gs f x w h r (both-left (is_hard w) (are_followers xs) p) in
@@ -65,8 +65,8 @@ goings-follow g h (e ∷ es) =
 expiries-follow : (g : List ℕ) (h : List Act) (es : List SadEntry) → are_followers (expiries g h es) ≡ true
 expiries-follow g h [] = refl
 expiries-follow g h (e ∷ es) =
-    let ns : List Notice = expiry e (counts g e.name h) (soft_given g e.name h) in
-    joined (given_by g (sessions.taken g h) ns) (expiries g h es) (given-follows g (sessions.taken g h) ns) (expiries-follow g h es)
+    let ns : List Notice = expiry e (counts g e.name h) (was_soft_given g e.name h) in
+    joined (given_by g (sessions.session_taken g h) ns) (expiries g h es) (given-follows g (sessions.session_taken g h) ns) (expiries-follow g h es)
 
 pub look-follows : (g : List ℕ) (h : List Act) (es : List SadEntry) → are_followers (look g h es) ≡ true
 look-follows g h es = joined (goings g h es) (expiries g h es) (goings-follow g h es) (expiries-follow g h es)

@@ -9,7 +9,7 @@ use Rattle.ikeless_tree.specs.Half.{is_inbound}
 use Rattle.reply_table.specs.Reply.{has_spi}
 use Rattle.hist_acts.specs.declared.act.Act.{Act}
 use Rattle.hist_acts.specs.declared.act.Act.TheVariants as acts
-use Rattle.hist_acts.specs.Sessions.{handled, next_request, taken}
+use Rattle.hist_acts.specs.Sessions.{handled, next_request, session_taken}
 use Rattle.hist_halves.specs.Halves.{is_live, live, put_of, without}
 use Rattle.hist_gateway.specs.May.{are_apart, has_half}
 use Rattle.hist_gateway.specs.Rows.{row_of, tree_of}
@@ -50,7 +50,7 @@ spi-not : (gs : List Peer) (g : List ℕ) (e : SadEntry) (h : List Act) → IsLa
 spi-not gs g e h l r n b t =
     let st = stands gs g t.0 h l t.1 in
     let w = put-order gs g t.0.name t.0 h l st.0 in
-    let p = place gs g (taken g h) (handled g (taken g h) h + 1) e h l (next-is g (asks.Put e) h n) in
+    let p = place gs g (session_taken g h) (handled g (session_taken g h) h + 1) e h l (next-is g (asks.Put e) h n) in
     let u = inbound gs t.0.name h l w.1 t.2 in
     let v = inbound gs e.name h l p.0 b in
     let i = numbered gs u.0 t.0 h l (subst (λ (z : List ℕ). order_of z h ≡ Some t.0) u.1 w.3) in

@@ -18,18 +18,18 @@ use Rattle.hist_acts.specs.declared.event.Event.{Event}
 use Rattle.hist_acts.specs.declared.event.Event.TheVariants as events
 use Rattle.hist_acts.specs.declared.event.Header.{Header}
 use Rattle.hist_acts.specs.Past.{after, events_taken, force}
-use Rattle.hist_halves.specs.Halves.{is_sealed, live, taken}
+use Rattle.hist_halves.specs.Halves.{is_sealed, live, numbers_taken}
 use Rattle.hist_halves.specs.Sealed.{by_spi, number_of, other_half}
-use Rattle.hist_gateway.specs.Arrive.{arrive_acts, by_entry, by_half, by_number, by_text, by_verdict, by_view, drops, esp_acts, is_sealed_for}
+use Rattle.hist_gateway.specs.Arrive.{arrive_acts, arrive_by_entry, arrive_by_half, by_number, by_text, by_verdict, arrive_by_view, drops, esp_acts, is_sealed_for}
 use Rattle.hist_gateway.specs.Block as node
 use Rattle.hist_gateway.specs.Let.{unless}
 use Rattle.hist_gateway.specs.Look.{tells}
-use Rattle.hist_gateway.specs.Stands.{bad_spi_stands}
+use Rattle.hist_gateway.specs.Stands.{does_bad_spi_stand}
 use Rattle.hist_controller.specs.Past as controller_past
 use Rattle.hist_controller.specs.Told.{all_told}
 use Rattle.hist_safety.proofs.Basics.{and-false, both-left, both-right, no}
 use Rattle.hist_world.specs.Arrivals.{does_open, is_esp_forged, is_forged, is_fresh, is_half_forged, is_view_forged}
-use Rattle.hist_world.specs.Block.{Past, Shows, arrives_at, block, controller_acts, forges, gateway_acts, history, past_after, took, unless_forged}
+use Rattle.hist_world.specs.Block.{Past, Shows, arrives_at, block, controller_acts, is_forgery, gateway_acts, history, past_after, took, unless_forged}
 use Rattle.hist_world.specs.Stands.{AreGenuine, past_at}
 
 -- these events have these acts after what happened, leave this, and no arrival among them is forged
@@ -69,7 +69,7 @@ and-then {shows = shows} {header = header} {p = p} {r = r} {es = es} {fs = fs} {
 
 -- a forged arrival ends the history
 pub ends : {shows : Shows} {header : Header} {p q : Past} {es : List Event} {xs : List Act} (e : Event) (fs : List Event) (ys : List Act) → Goes shows header p es xs q
-    → forges header q e ≡ true → block shows header q e ≡ ys → history shows header p (es ++ e ∷ fs) ≡ xs ++ ys
+    → is_forgery header q e ≡ true → block shows header q e ≡ ys → history shows header p (es ++ e ∷ fs) ≡ xs ++ ys
 ends {shows = shows} {header = header} {p = p} {q = q} {es = es} {xs = xs} e fs ys a f w =
     let more : List Act = history shows header (past_after shows header q e) fs in
     let last : history shows header q (e ∷ fs) ≡ ys = ap (λ b. block shows header q e ++ unless_forged b more) f ∙ append-nil (block shows header q e) ∙ w in
@@ -88,14 +88,14 @@ by-genuine h o c xs f e = ap (λ b. if b then acts.Arrived c.name o ∷ [] else 
 pub record Comes (shows : Shows) (header : Header) (p : Past) (e : Event) (c : node.Gateway) (o : List ℕ) : Type 0 where
   pub acts : gateway_acts shows header (took p.world) e ≡ arrives_at (took p.world) o (Some c)
   pub none : controller_acts header p e ≡ []
-  pub test : forges header p e ≡ is_forged c.name c.address (took p.world) o
+  pub test : is_forgery header p e ≡ is_forged c.name c.address (took p.world) o
 
 pub arrives : (shows : Shows) (header : Header) (p : Past) (e : Event) (c : node.Gateway) (o : List ℕ) (xs : List Act) → Comes shows header p e c o
     → is_forged c.name c.address (took p.world) o ≡ false → node.gw_block c (took p.world) (node.Arrive o) ≡ xs
     → Goes shows header p (e ∷ []) (acts.Took (events_taken p.world + 1) ∷ xs) (arrived p xs)
 arrives shows header p e c o xs m f w =
     let h : List Act = took p.world in
-    let genuine : forges header p e ≡ false = m.test ∙ f in
+    let genuine : is_forgery header p e ≡ false = m.test ∙ f in
     let first : gateway_acts shows header h e ≡ xs = m.acts ∙ by-genuine h o c xs f w in
     let all : gateway_acts shows header h e ++ all_told header.gateways (controller_acts header p e) ≡ xs =
     ap (λ z. z ++ all_told header.gateways (controller_acts header p e)) first ∙ ap (λ z. xs ++ all_told header.gateways z) m.none ∙ append-nil xs in
@@ -121,7 +121,7 @@ pub genuine-sent : (g : List ℕ) (own : Addr) (h : List Act) (o : List ℕ) (v 
     → is_sealed (other_half d.name) v.payload h ≡ true → is_forged g own h o ≡ false
 genuine-sent g own h o v d e n s =
     let b : List ℕ = v.payload in
-    let fresh : Bool = is_fresh (verdict_over d.window (taken g d.name h) (number_of d (taken g d.name h) b)) in
+    let fresh : Bool = is_fresh (verdict_over d.window (numbers_taken g d.name h) (number_of d (numbers_taken g d.name h) b)) in
     let opens : Bool = does_open (opened (keying d.spi d.key) b) in
     let last : (fresh && (opens && not (is_sealed (other_half d.name) b h))) ≡ false =
     and-false fresh (opens && not (is_sealed (other_half d.name) b h)) (and-false opens (not (is_sealed (other_half d.name) b h)) (ap (λ (z : Bool). not z) s)) in
@@ -132,7 +132,7 @@ pub genuine-closed : (g : List ℕ) (own : Addr) (h : List Act) (o : List ℕ) (
     → opened (keying d.spi d.key) v.payload ≡ None → is_forged g own h o ≡ false
 genuine-closed g own h o v d e n s =
     let b : List ℕ = v.payload in
-    let fresh : Bool = is_fresh (verdict_over d.window (taken g d.name h) (number_of d (taken g d.name h) b)) in
+    let fresh : Bool = is_fresh (verdict_over d.window (numbers_taken g d.name h) (number_of d (numbers_taken g d.name h) b)) in
     let after_opening : Bool = not (is_sealed (other_half d.name) b h) in
     let last : (fresh && (does_open (opened (keying d.spi d.key) b) && after_opening)) ≡ false =
     and-false fresh (does_open (opened (keying d.spi d.key) b) && after_opening) (ap (λ z. does_open z && after_opening) s) in
@@ -141,40 +141,40 @@ genuine-closed g own h o v d e n s =
 -- ---- what answers it
 
 pub answers-text : (g : List ℕ) (own : Addr) (h : List Act) (o : List ℕ) (v : Packet) (d : SadEntry) (n : ℕ) (text : Option (List ℕ)) → view_of o ≡ Ok v → is_sealed_for own v ≡ true → nat_lt (length v.payload) 34 ≡ false
-    → by_spi (spi_of v.payload) (live g h) ≡ Some d → seq_of v.payload ≡ n → verdict_over d.window (taken g d.name h) n ≡ Fresh → opened (keying d.spi d.key) v.payload ≡ text → arrive_acts g own h o ≡ by_text g h d n text
+    → by_spi (spi_of v.payload) (live g h) ≡ Some d → seq_of v.payload ≡ n → verdict_over d.window (numbers_taken g d.name h) n ≡ Fresh → opened (keying d.spi d.key) v.payload ≡ text → arrive_acts g own h o ≡ by_text g h d n text
 unfolding arrive_acts
 answers-text g own h o v d n text e own_is long found number fresh opens =
     let b : List ℕ = v.payload in
-    ap (by_view g own h o) e
-    ∙ ap (λ z. if z then esp_acts g h b else by_entry g o (first_entry (force g h) In v) ∷ []) own_is
-    ∙ ap (λ z. if z then drops g why.Short else by_half g h b (by_spi (spi_of b) (live g h))) long
-    ∙ ap (by_half g h b) found
+    ap (arrive_by_view g own h o) e
+    ∙ ap (λ z. if z then esp_acts g h b else arrive_by_entry g o (first_entry (force g h) In v) ∷ []) own_is
+    ∙ ap (λ z. if z then drops g why.Short else arrive_by_half g h b (by_spi (spi_of b) (live g h))) long
+    ∙ ap (arrive_by_half g h b) found
     ∙ ap (λ (z : ℕ). by_number g h b d z) number
     ∙ ap (by_verdict g h b d n) fresh
     ∙ ap (by_text g h d n) opens
 
 pub answers-seen : (g : List ℕ) (own : Addr) (h : List Act) (o : List ℕ) (v : Packet) (d : SadEntry) (n : ℕ) → view_of o ≡ Ok v → is_sealed_for own v ≡ true → nat_lt (length v.payload) 34 ≡ false
-    → by_spi (spi_of v.payload) (live g h) ≡ Some d → seq_of v.payload ≡ n → verdict_over d.window (taken g d.name h) n ≡ Seen → arrive_acts g own h o ≡ drops g why.Seen
+    → by_spi (spi_of v.payload) (live g h) ≡ Some d → seq_of v.payload ≡ n → verdict_over d.window (numbers_taken g d.name h) n ≡ Seen → arrive_acts g own h o ≡ drops g why.Seen
 unfolding arrive_acts
 answers-seen g own h o v d n e own_is long found number seen =
     let b : List ℕ = v.payload in
-    ap (by_view g own h o) e
-    ∙ ap (λ z. if z then esp_acts g h b else by_entry g o (first_entry (force g h) In v) ∷ []) own_is
-    ∙ ap (λ z. if z then drops g why.Short else by_half g h b (by_spi (spi_of b) (live g h))) long
-    ∙ ap (by_half g h b) found
+    ap (arrive_by_view g own h o) e
+    ∙ ap (λ z. if z then esp_acts g h b else arrive_by_entry g o (first_entry (force g h) In v) ∷ []) own_is
+    ∙ ap (λ z. if z then drops g why.Short else arrive_by_half g h b (by_spi (spi_of b) (live g h))) long
+    ∙ ap (arrive_by_half g h b) found
     ∙ ap (λ (z : ℕ). by_number g h b d z) number
     ∙ ap (by_verdict g h b d n) seen
 
 pub answers-no-half : (g : List ℕ) (own : Addr) (h : List Act) (o : List ℕ) (v : Packet) (spi : ℕ) (xs : List Act) → view_of o ≡ Ok v → is_sealed_for own v ≡ true → nat_lt (length v.payload) 34 ≡ false
-    → spi_of v.payload ≡ spi → by_spi spi (live g h) ≡ None → acts.Drop g why.BadSpi ∷ unless (bad_spi_stands g spi h) (tells g h (notices.BadSpi spi)) ≡ xs → arrive_acts g own h o ≡ xs
+    → spi_of v.payload ≡ spi → by_spi spi (live g h) ≡ None → acts.Drop g why.BadSpi ∷ unless (does_bad_spi_stand g spi h) (tells g h (notices.BadSpi spi)) ≡ xs → arrive_acts g own h o ≡ xs
 unfolding arrive_acts
 answers-no-half g own h o v spi xs e own_is long named found w =
     let b : List ℕ = v.payload in
-    ap (by_view g own h o) e
-    ∙ ap (λ z. if z then esp_acts g h b else by_entry g o (first_entry (force g h) In v) ∷ []) own_is
-    ∙ ap (λ z. if z then drops g why.Short else by_half g h b (by_spi (spi_of b) (live g h))) long
-    ∙ ap (by_half g h b) (ap (λ (z : ℕ). by_spi z (live g h)) named ∙ found)
-    ∙ ap (λ (z : ℕ). acts.Drop g why.BadSpi ∷ unless (bad_spi_stands g z h) (tells g h (notices.BadSpi z))) named
+    ap (arrive_by_view g own h o) e
+    ∙ ap (λ z. if z then esp_acts g h b else arrive_by_entry g o (first_entry (force g h) In v) ∷ []) own_is
+    ∙ ap (λ z. if z then drops g why.Short else arrive_by_half g h b (by_spi (spi_of b) (live g h))) long
+    ∙ ap (arrive_by_half g h b) (ap (λ (z : ℕ). by_spi z (live g h)) named ∙ found)
+    ∙ ap (λ (z : ℕ). acts.Drop g why.BadSpi ∷ unless (does_bad_spi_stand g z h) (tells g h (notices.BadSpi z))) named
     ∙ w
 
 -- ---- events that are no arrival
@@ -186,7 +186,7 @@ is_quiet (events.ArriveFlip g k offset bit) = false
 is_quiet (events.ArriveTtl g k ttl) = false
 is_quiet _ = true
 
-quiet-one : (header : Header) (p : Past) (e : Event) → is_quiet e ≡ true → forges header p e ≡ false
+quiet-one : (header : Header) (p : Past) (e : Event) → is_quiet e ≡ true → is_forgery header p e ≡ false
 quiet-one header p (events.Arrive g o) q = absurd (no q)
 quiet-one header p (events.ArriveSent g k) q = absurd (no q)
 quiet-one header p (events.ArriveFlip g k offset bit) q = absurd (no q)

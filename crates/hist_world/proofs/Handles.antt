@@ -13,14 +13,14 @@ use Rattle.reply_table.specs.Reply.{Outcome, absent, delete_sad, exists, full, h
 use Rattle.hist_acts.specs.declared.act.Act.{Act}
 use Rattle.hist_acts.specs.declared.act.Act.TheVariants as acts
 use Rattle.hist_acts.specs.Past.{after}
-use Rattle.hist_acts.specs.Sessions.{handled, is_session, next_request, order_at, taken}
+use Rattle.hist_acts.specs.Sessions.{handled, is_session, next_request, order_at, session_taken}
 use Rattle.hist_halves.specs.Halves.{is_live, live}
 use Rattle.hist_gateway.specs.Rows.{row_of, tree_of}
 use Rattle.hist_gateway.specs.May.{AreNumbered, has_half}
 use Rattle.hist_gateway.specs.Handle.{answer_of, handle_acts, reply_acts, requests}
 use Rattle.hist_gateway.proofs.ReadingsLemmas.{live-is}
 use Rattle.hist_gateway.proofs.SessionsLemmas.{requests-are}
-use Rattle.hist_safety.specs.Law.{IsLawful, MayAll, is_ready}
+use Rattle.hist_safety.specs.Law.{IsLawful, AllMayHappen, is_ready}
 use Rattle.hist_safety.proofs.Basics.{no, eq-nat, name-is}
 use Rattle.hist_safety.proofs.Sessions.{openings-at}
 
@@ -42,14 +42,14 @@ plus-if false n p q = q
 idle : (gs : List Peer) (g : List ℕ) (h : List Act) → IsLawful gs h → handled g 0 h ≡ 0
 idle gs g [] l = refl
 idle gs g (acts.Handled f t k a ∷ h) l =
-    let some : t ≡ 0 → ⊥ = λ z. no-request (taken f h) (order_at f (taken f h) (handled f (taken f h) h + 1) h) l.0.2.0 (sym l.0.0 ∙ z) l.0.2.1 in
+    let some : t ≡ 0 → ⊥ = λ z. no-request (session_taken f h) (order_at f (session_taken f h) (handled f (session_taken f h) h + 1) h) l.0.2.0 (sym l.0.0 ∙ z) l.0.2.1 in
     plus-if (is_session f t g 0) (handled g 0 h) (idle-not (bytes_eq f g) (t == 0) (λ e. some (eq-nat t 0 e))) (idle gs g h l.1)
 idle gs g (a ∷ h) l = idle gs g h l.1
 
 -- a gateway numbers sessions as they are opened, and a request by the session that it has taken
 pub numbered : (gs : List Peer) (g : List ℕ) (h : List Act) → IsLawful gs h → AreNumbered g h
 numbered gs g [] l = tt
-numbered gs g (acts.Handled f t k a ∷ h) l = ((λ e. l.0.0 ∙ ap (λ (z : List ℕ). taken z h) (name-is f g e)), numbered gs g h l.1)
+numbered gs g (acts.Handled f t k a ∷ h) l = ((λ e. l.0.0 ∙ ap (λ (z : List ℕ). session_taken z h) (name-is f g e)), numbered gs g h l.1)
 numbered gs g (acts.Opened f s ∷ h) l = ((λ e. let p = l.0.1 in let q = openings-at f g h e in omega (arith, p, q)), numbered gs g h l.1)
 numbered gs g (acts.Boot f ∷ h) l = ((λ e. idle gs g h l.1), numbered gs g h l.1)
 numbered gs g (a ∷ h) l = (tt, numbered gs g h l.1)
@@ -65,7 +65,7 @@ row-is-live g x h = rows-have g x h (live g h) ∙ live-is g x h
 
 -- what may happen after the number of an event, and leaves no question
 abbrev pub Goes : List Peer → List Act → List Act → Type 0
-Goes gs w xs = MayAll gs w xs × (is_ready (after w xs) ≡ true)
+Goes gs w xs = AllMayHappen gs w xs × (is_ready (after w xs) ≡ true)
 
 goes-if : (gs : List Peer) (w : List Act) (b : Bool) (F : Outcome → List Act) (x y : Outcome) → (b ≡ true → Goes gs w (F x)) → (b ≡ false → Goes gs w (F y)) → Goes gs w (F (if b then x else y))
 goes-if gs w true F x y p q = p refl
@@ -73,7 +73,7 @@ goes-if gs w false F x y p q = q refl
 
 -- the request that is handled, with its number
 record IsHandled (g : List ℕ) (s k : ℕ) (o : Order) (w : List Act) : Type 0 where
-  pub session : s ≡ taken g w
+  pub session : s ≡ session_taken g w
   pub number : k ≡ handled g s w + 1
   pub request : next_request g w ≡ Some o
 
@@ -112,8 +112,8 @@ handle-goes gs g s k n (asks.Remove x) h i = remove-goes gs g s k n x h i
 
 -- the answer to the next request
 pub handle-may : (gs : List Peer) (g : List ℕ) (n : ℕ) (o : Order) (h : List Act) → IsLawful gs (acts.Took n ∷ h) → next_request g (acts.Took n ∷ h) ≡ Some o
-    → Goes gs (acts.Took n ∷ h) (handle_acts g (taken g (acts.Took n ∷ h)) (requests g (acts.Took n ∷ h) + 1) (acts.Took n ∷ h) (Ok (ask_of o)))
+    → Goes gs (acts.Took n ∷ h) (handle_acts g (session_taken g (acts.Took n ∷ h)) (requests g (acts.Took n ∷ h) + 1) (acts.Took n ∷ h) (Ok (ask_of o)))
 handle-may gs g n o h l next =
     let w : List Act = acts.Took n ∷ h in
-    let m : requests g w + 1 ≡ handled g (taken g w) w + 1 = ap (λ (z : ℕ). z + 1) (requests-are g w (numbered gs g w l)) in
-    handle-goes gs g (taken g w) (requests g w + 1) n o h (record { session = refl; number = m; request = next })
+    let m : requests g w + 1 ≡ handled g (session_taken g w) w + 1 = ap (λ (z : ℕ). z + 1) (requests-are g w (numbered gs g w l)) in
+    handle-goes gs g (session_taken g w) (requests g w + 1) n o h (record { session = refl; number = m; request = next })

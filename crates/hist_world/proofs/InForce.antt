@@ -9,7 +9,7 @@ use Rattle.ikeless_tree.specs.declared.order.Order.TheVariants as asks
 use Rattle.ikeless_tree.specs.declared.reply.GoneWhy.TheVariants as gone
 use Rattle.hist_acts.specs.declared.act.Act.{Act}
 use Rattle.hist_acts.specs.declared.act.Act.TheVariants as acts
-use Rattle.hist_acts.specs.Sessions.{handled, is_session, next_request, openings, order_at, orders, taken}
+use Rattle.hist_acts.specs.Sessions.{handled, is_session, next_request, openings, order_at, orders, session_taken}
 use Rattle.hist_controller.specs.Machine.{place}
 use Rattle.hist_safety.specs.Law.{IsAnswer, IsLawful, MayHappen, is_ready}
 use Rattle.hist_safety.proofs.Basics.{no, if-old, more, name-is, name-true, self, both}
@@ -79,7 +79,7 @@ answers-there g f o a (b ∷ h) m q = absurd q
 
 -- The order of the list put in force last is handled, or its answer comes next.
 abbrev Behind : List ℕ → ℕ → ℕ → List Act → Type 0
-Behind g s k h = (k ≤ handled g s h) ⊎ (IsPolicyAt g h × (s ≡ taken g h) × (k ≡ handled g s h + 1))
+Behind g s k h = (k ≤ handled g s h) ⊎ (IsPolicyAt g h × (s ≡ session_taken g h) × (k ≡ handled g s h + 1))
 
 ready-behind : (g : List ℕ) (s k : ℕ) (h : List Act) → is_ready h ≡ true → Behind g s k h → k ≤ handled g s h
 ready-behind g s k h r (inl p) = p
@@ -93,7 +93,7 @@ behind-more : (gs : List Peer) (g : List ℕ) (s k : ℕ) (a : Act) (h : List Ac
 behind-more gs g s k (acts.Handled f t j a) h m (inl p) = more (is_session f t g s) k (handled g s h) p
 behind-more gs g s k (acts.Handled f t j a) h m (inr p) =
     let at = answers-there g f m.2.0 a h m.2.2 p.0 in
-    let same : t ≡ s = m.0 ∙ ap (λ (z : List ℕ). taken z h) at ∙ sym p.1 in
+    let same : t ≡ s = m.0 ∙ ap (λ (z : List ℕ). session_taken z h) at ∙ sym p.1 in
     let here : is_session f t g s ≡ true = both (bytes_eq f g) (t == s) (name-true f g at) (ap (λ (z : ℕ). z == s) same ∙ self s) in
     one-more (is_session f t g s) k (handled g s h) here p.2
 behind-more gs g s k a h m (inl p) = p
@@ -172,7 +172,7 @@ lower s n k m t p e q = by (s == t) refl where
 new-list : (gs : List Peer) (g : List ℕ) (all : List (List SpdEntry)) (at : ℕ → ℕ → ℕ) (list : List SpdEntry) (h : List Act) → IsLawful gs h → is_ready h ≡ true → next_request g h ≡ Some (asks.Policy list)
     → Placing g all at h → Ordered g all at h (put_in_force g h) → Last g all at (acts.Policy g list ∷ h) (put_in_force g h ++ list ∷ [])
 new-list gs g all at list h l ready next p q =
-    let t : ℕ = taken g h in
+    let t : ℕ = session_taken g h in
     let m : ℕ = handled g t h + 1 in
     let order : order_at g t m h ≡ Some (asks.Policy list) = next-is g (asks.Policy list) h next in
     let last : t ≡ openings g h = taken-is t (openings g h) (taken-last gs g h l) (some-session t (order_at g t m h) (asks.Policy list) next) in
@@ -186,11 +186,11 @@ new-list gs g all at list h l ready next p q =
       opened = omega (arith, last);
       behind = inr (refl, refl, refl);
     } where
-      stand-case : Ordered g all at h (put_in_force g h) → place (at (taken g h) (handled g (taken g h) h + 1)) all ≡ Some list
-          → Between 0 (at (taken g h) (handled g (taken g h) h + 1)) all (put_in_force g h ++ list ∷ [])
-      stand-case (inl e) w = subst (λ z. Between 0 (at (taken g h) (handled g (taken g h) h + 1)) all (z ++ list ∷ [])) (sym e) (at (taken g h) (handled g (taken g h) h + 1), omega arith, w, omega arith)
+      stand-case : Ordered g all at h (put_in_force g h) → place (at (session_taken g h) (handled g (session_taken g h) h + 1)) all ≡ Some list
+          → Between 0 (at (session_taken g h) (handled g (session_taken g h) h + 1)) all (put_in_force g h ++ list ∷ [])
+      stand-case (inl e) w = subst (λ z. Between 0 (at (session_taken g h) (handled g (session_taken g h) h + 1)) all (z ++ list ∷ [])) (sym e) (at (session_taken g h) (handled g (session_taken g h) h + 1), omega arith, w, omega arith)
       stand-case (inr q) w =
-          let t : ℕ = taken g h in
+          let t : ℕ = session_taken g h in
           let m : ℕ = handled g t h + 1 in
           let order : order_at g t m h ≡ Some (asks.Policy list) = next-is g (asks.Policy list) h next in
           let last : t ≡ openings g h = taken-is t (openings g h) (taken-last gs g h l) (some-session t (order_at g t m h) (asks.Policy list) next) in

@@ -19,14 +19,14 @@ use Rattle.hist_acts.specs.declared.act.Act.TheVariants as acts
 use Rattle.hist_acts.specs.Past.{after, force}
 use Rattle.hist_halves.specs.Sealed.{esp_of, is_inbound, next_header}
 use Rattle.hist_halves.specs.Halves.{is_live, live, put_of, sent}
-use Rattle.hist_gateway.specs.Stands.{acquire_stands, overflow_given}
+use Rattle.hist_gateway.specs.Stands.{does_acquire_stand, was_overflow_given}
 use Rattle.hist_gateway.specs.Datagram.{datagram, fault_why, flow_of, outer_of}
 use Rattle.hist_gateway.specs.Look.{look, tells}
-use Rattle.hist_gateway.specs.Let.{by_action, by_entry, by_half, by_view, let_acts, newer, newest, seals, sends, unless}
+use Rattle.hist_gateway.specs.Let.{let_by_action, let_by_entry, let_by_half, let_by_view, let_acts, newer, newest, may_seal, send_acts, unless}
 use Rattle.hist_gateway.specs.Block.{Gateway}
-use Rattle.hist_gateway.specs.May.{AllMay, IsLetOut, IsSealedLet, MayFollow}
+use Rattle.hist_gateway.specs.May.{GatewayMayActAll, IsLetOut, IsSealedLet, GatewayMayAct}
 use Rattle.hist_safety.specs.Carried.{Sends, keying_of}
-use Rattle.hist_safety.specs.Law.{IsLawful, MayAll, MayHappen, is_ready}
+use Rattle.hist_safety.specs.Law.{IsLawful, AllMayHappen, MayHappen, is_ready}
 use Rattle.hist_clear.specs.Safe.{ClearIsLet}
 use Rattle.hist_safety.proofs.Basics.{no, both-right, some-is}
 use Rattle.hist_safety.specs.Kept.{IsOneOf}
@@ -45,15 +45,15 @@ live-ends gs g e h l p = let o = put-order gs g e.name e h l p in ends gs e.name
 -- ---- the newest half for a packet
 
 abbrev IsNewest : ℕ → Packet → List SadEntry → SadEntry → Type 0
-IsNewest r v es e = IsOneOf e es × (seals r v e ≡ true)
+IsNewest r v es e = IsOneOf e es × (may_seal r v e ≡ true)
 
-newest-last : (r : ℕ) (v : Packet) (d e : SadEntry) (es : List SadEntry) (b : Bool) → seals r v d ≡ b → (if b then Some d else None) ≡ Some e → IsNewest r v (d ∷ es) e
-newest-last r v d e es true q p = let s = some-is d e p in (inl s, subst (λ (z : SadEntry). seals r v z ≡ true) s q)
+newest-last : (r : ℕ) (v : Packet) (d e : SadEntry) (es : List SadEntry) (b : Bool) → may_seal r v d ≡ b → (if b then Some d else None) ≡ Some e → IsNewest r v (d ∷ es) e
+newest-last r v d e es true q p = let s = some-is d e p in (inl s, subst (λ (z : SadEntry). may_seal r v z ≡ true) s q)
 newest-last r v d e es false q p = cc
 
 newest-case : (r : ℕ) (v : Packet) (d e : SadEntry) (es : List SadEntry) (found : Option SadEntry) → (found ≡ Some e → IsNewest r v es e) → newer r v d found ≡ Some e → IsNewest r v (d ∷ es) e
 newest-case r v d e es (Some x) ih p = let t = ih p in (inr t.0, t.1)
-newest-case r v d e es None ih p = newest-last r v d e es (seals r v d) refl p
+newest-case r v d e es None ih p = newest-last r v d e es (may_seal r v d) refl p
 
 newest-is : (r : ℕ) (v : Packet) (es : List SadEntry) (e : SadEntry) → newest r v es ≡ Some e → IsNewest r v es e
 newest-is r v [] e p = cc
@@ -125,31 +125,31 @@ pub shaped-if : (ok : Act → Type 0) (b : Bool) (xs ys : List Act) → Shaped o
 shaped-if ok true xs ys p q = p
 shaped-if ok false xs ys p q = q
 
-let-half : (g o : List ℕ) (q : ℕ) (h : List Act) (v : Packet) (p : SpdEntry) (found : Option SadEntry) → Shaped (LetAnswer g) (by_half g q h o v p found)
+let-half : (g o : List ℕ) (q : ℕ) (h : List Act) (v : Packet) (p : SpdEntry) (found : Option SadEntry) → Shaped (LetAnswer g) (let_by_half g q h o v p found)
 let-half g o q h v p None =
     let told : List Act = tells g h (notices.Acquire p.name (flow_of v)) in
-    shaped (LetAnswer g) (acts.Drop g why.NoSa) (unless (acquire_stands g p.name h) told) refl (unless-follows (acquire_stands g p.name h) told refl)
+    shaped (LetAnswer g) (acts.Drop g why.NoSa) (unless (does_acquire_stand g p.name h) told) refl (unless-follows (does_acquire_stand g p.name h) told refl)
 let-half g o q h v p (Some e) =
     let told : List Act = tells g h (notices.SeqOverflow e.name) in
     let n : ℕ = sent g e.name h + 1 in
     let d : List ℕ = datagram e n v o in
-    shaped-if (LetAnswer g) (nat_le q (sent g e.name h)) (acts.Drop g why.SeqLimit ∷ unless (overflow_given g e.name h) told) (sends g h e n d)
-    (shaped (LetAnswer g) (acts.Drop g why.SeqLimit) (unless (overflow_given g e.name h) told) refl (unless-follows (overflow_given g e.name h) told refl))
+    shaped-if (LetAnswer g) (nat_le q (sent g e.name h)) (acts.Drop g why.SeqLimit ∷ unless (was_overflow_given g e.name h) told) (send_acts g h e n d)
+    (shaped (LetAnswer g) (acts.Drop g why.SeqLimit) (unless (was_overflow_given g e.name h) told) refl (unless-follows (was_overflow_given g e.name h) told refl))
     (shaped (LetAnswer g) (acts.Sent g e.name n d) (look g (acts.Sent g e.name n d ∷ h) (e ∷ [])) refl (look-follows g (acts.Sent g e.name n d ∷ h) (e ∷ [])))
 
-let-action : (g o : List ℕ) (q : ℕ) (h : List Act) (v : Packet) (p : SpdEntry) (a : Action) → Shaped (LetAnswer g) (by_action g q h o v p a)
+let-action : (g o : List ℕ) (q : ℕ) (h : List Act) (v : Packet) (p : SpdEntry) (a : Action) → Shaped (LetAnswer g) (let_by_action g q h o v p a)
 let-action g o q h v p actions.Protect = let-half g o q h v p (newest p.reqid v (live g h))
 let-action g o q h v p actions.Bypass = shaped (LetAnswer g) (acts.Clear g o) [] refl refl
 let-action g o q h v p actions.Discard = shaped (LetAnswer g) (acts.Drop g why.Discard) [] refl refl
 
-let-entry : (g o : List ℕ) (q : ℕ) (h : List Act) (v : Packet) (found : Option SpdEntry) → Shaped (LetAnswer g) (by_entry g q h o v found)
+let-entry : (g o : List ℕ) (q : ℕ) (h : List Act) (v : Packet) (found : Option SpdEntry) → Shaped (LetAnswer g) (let_by_entry g q h o v found)
 let-entry g o q h v None = shaped (LetAnswer g) (acts.Drop g why.NoPolicy) [] refl refl
 let-entry g o q h v (Some p) = let-action g o q h v p p.action
 
-let-view : (g o : List ℕ) (q : ℕ) (h : List Act) (r : Result Packet NotPacket) → Shaped (LetAnswer g) (by_view g q h o r)
+let-view : (g o : List ℕ) (q : ℕ) (h : List Act) (r : Result Packet NotPacket) → Shaped (LetAnswer g) (let_by_view g q h o r)
 let-view g o q h (Err fault) = shaped (LetAnswer g) (acts.Drop g (fault_why fault)) [] refl refl
 let-view g o q h (Ok v) =
-    shaped-if (LetAnswer g) (nat_lt 65000 (length o)) (acts.Drop g why.TooLong ∷ []) (by_entry g q h o v (first_entry (force g h) Out v))
+    shaped-if (LetAnswer g) (nat_lt 65000 (length o)) (acts.Drop g why.TooLong ∷ []) (let_by_entry g q h o v (first_entry (force g h) Out v))
     (shaped (LetAnswer g) (acts.Drop g why.TooLong) [] refl refl) (let-entry g o q h v (first_entry (force g h) Out v))
 
 pub let-shape : (g o : List ℕ) (q : ℕ) (h : List Act) → Shaped (LetAnswer g) (let_acts g q h o)
@@ -164,7 +164,7 @@ clear-may h f o s = record {
 }
 
 answer-may : (gs : List Peer) (c : Gateway) (g o : List ℕ) (h : List Act) (a : Act) → IsLawful gs h → c.seq_last < 2 ^ 32
-    → LetAnswer g a → MayFollow c (acts.Let g o ∷ h) a → MayHappen gs a (acts.Let g o ∷ h) × (is_ready (a ∷ acts.Let g o ∷ h) ≡ true)
+    → LetAnswer g a → GatewayMayAct c (acts.Let g o ∷ h) a → MayHappen gs a (acts.Let g o ∷ h) × (is_ready (a ∷ acts.Let g o ∷ h) ≡ true)
 answer-may gs c g o h (acts.Clear f p) l low fits m = (clear-may (acts.Let g o ∷ h) f p m, refl)
 answer-may gs c g o h (acts.Sent f x n d) l low fits m =
     let m2 : IsSealedLet c (acts.Let g o ∷ h) g x n d = subst (λ (z : List ℕ). IsSealedLet c (acts.Let g o ∷ h) z x n d) fits m in
@@ -174,13 +174,13 @@ answer-may gs c g o h a l low fits m = absurd fits
 
 -- the answer to a packet and what follows it
 pub let-may : (gs : List Peer) (c : Gateway) (g o : List ℕ) (h : List Act) → IsLawful gs h → c.seq_last < 2 ^ 32
-    → AllMay c (acts.Let g o ∷ h) (let_acts g c.seq_last (acts.Let g o ∷ h) o)
-    → MayAll gs (acts.Let g o ∷ h) (let_acts g c.seq_last (acts.Let g o ∷ h) o) × (is_ready (after (acts.Let g o ∷ h) (let_acts g c.seq_last (acts.Let g o ∷ h) o)) ≡ true)
+    → GatewayMayActAll c (acts.Let g o ∷ h) (let_acts g c.seq_last (acts.Let g o ∷ h) o)
+    → AllMayHappen gs (acts.Let g o ∷ h) (let_acts g c.seq_last (acts.Let g o ∷ h) o) × (is_ready (after (acts.Let g o ∷ h) (let_acts g c.seq_last (acts.Let g o ∷ h) o)) ≡ true)
 let-may gs c g o h l low all =
     let w : List Act = acts.Let g o ∷ h in
     let s = let-shape g o c.seq_last w in
-    let all2 : AllMay c w (s.first ∷ s.rest) = subst (AllMay c w) s.parts all in
+    let all2 : GatewayMayActAll c w (s.first ∷ s.rest) = subst (GatewayMayActAll c w) s.parts all in
     let a = answer-may gs c g o h s.first l low s.fits all2.0 in
     let f = follow gs (s.first ∷ w) s.rest a.1 s.follow in
-    let P : List Act → Type 0 = λ xs. MayAll gs w xs × (is_ready (after w xs) ≡ true) in
+    let P : List Act → Type 0 = λ xs. AllMayHappen gs w xs × (is_ready (after w xs) ≡ true) in
     subst P (sym s.parts) ((a.0, f.0), f.1)

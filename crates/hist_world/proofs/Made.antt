@@ -16,11 +16,11 @@ use Rattle.reply_table.specs.declared.ask.Change.TheVariants as changes
 use Rattle.hist_acts.specs.declared.act as happened
 use Rattle.hist_acts.specs.declared.act.Act.TheVariants as acts
 use Rattle.hist_acts.specs.Past as world_past
-use Rattle.hist_acts.specs.Sessions.{answer_at, handled, is_session, next_request, taken}
+use Rattle.hist_acts.specs.Sessions.{answer_at, handled, is_session, next_request, session_taken}
 use Rattle.hist_gateway.specs.Handle.{answer_of, change_acts, requests}
 use Rattle.hist_gateway.specs.Rows.{tree_of}
-use Rattle.hist_controller.specs.Acts.{Act, Order, Read, Policy, PutIn, PutOut, RemoveIn, RemoveOut, Opened, Cut, Answered, Heard, Ordered, Accepted, Refused}
-use Rattle.hist_controller.specs.Clauses.{IsPast}
+use Rattle.hist_controller.specs.Acts.{ControllerAct, ControllerOrder, Read, Policy, PutIn, PutOut, RemoveIn, RemoveOut, Opened, Cut, Answered, Heard, Ordered, Accepted, Refused}
+use Rattle.hist_controller.specs.Clauses.{IsControllerPast}
 use Rattle.hist_controller.specs.Halves.{PlainAnswers, is_plain}
 use Rattle.hist_controller.specs.Past.{oldest, queue}
 use Rattle.hist_controller.specs.Table.{AllFit}
@@ -82,7 +82,7 @@ none-part (a ∷ h) n = none-part h n
 plain-made : (n : ℕ) → n ≡ 201 → ((n == 201) || nat_le 400 n) ≡ true
 plain-made n e = grind (arith, e)
 
-plain-one : (ps : List Peer) (o : Option Order) (n : ℕ) → ((e : SadEntry) → option_map (order_told ps) o ≡ Some (asks.Put e) → n ≡ 201) → is_plain o n ≡ true
+plain-one : (ps : List Peer) (o : Option ControllerOrder) (n : ℕ) → ((e : SadEntry) → option_map (order_told ps) o ≡ Some (asks.Put e) → n ≡ 201) → is_plain o n ≡ true
 plain-one ps None n m = refl
 plain-one ps (Some Read) n m = refl
 plain-one ps (Some (Policy list)) n m = refl
@@ -91,7 +91,7 @@ plain-one ps (Some (PutOut x)) n m = plain-made n (m (out_entry ps x) refl)
 plain-one ps (Some (RemoveIn k)) n m = refl
 plain-one ps (Some (RemoveOut k)) n m = refl
 
-plain-told : (ps : List Peer) (p : ℕ) (c : List Act) → IsPast p c → Named ps → AllFit (length ps) c → NoneRefused (past_told ps c) → PlainAnswers c
+plain-told : (ps : List Peer) (p : ℕ) (c : List ControllerAct) → IsControllerPast p c → Named ps → AllFit (length ps) c → NoneRefused (past_told ps c) → PlainAnswers c
 plain-told ps p [] l names f n = tt
 plain-told ps p (Opened g s ∷ c) l names f n = plain-told ps p c l.1 names f.1 n
 plain-told ps p (Cut g s ∷ c) l names f n = plain-told ps p c l.1 names f.1 n
@@ -103,7 +103,7 @@ plain-told ps p (Answered g s k a ∷ c) l names f n =
     let t = told-at ps p g s k a c l names f.1 f.0 in
     (plain-one ps (oldest (queue g c)) a.status (λ e q. n.0 e (t ∙ q)), plain-told ps p c l.1 names f.1 n.1)
 
-pub plain : (ps : List Peer) (w : List happened.Act.Act) (c : List Act) → IsLawful ps w → Meet ps w c → Named ps → AllCreated w → PlainAnswers c
+pub plain : (ps : List Peer) (w : List happened.Act.Act) (c : List ControllerAct) → IsLawful ps w → Meet ps w c → Named ps → AllCreated w → PlainAnswers c
 plain ps w c l m names all = plain-told ps (length ps) c m.past names m.fit (subst NoneRefused m.part (none-part w (none-refused ps w l all)))
 
 -- ---- a put that is handled
@@ -113,17 +113,17 @@ made-reply : (t : Tree) (e : SadEntry) → list_any (is_row e.name) t.sad ≡ fa
 unfolding reply
 made-reply t e name spi full = rw (name, spi, full) refl
 
-put-made : (ps : List Peer) (w : List happened.Act.Act) (c : List Act) (g : List ℕ) (e : SadEntry) → IsLawful ps w → Meet ps w c → Named ps → AllCreated w → is_ready w ≡ true
+put-made : (ps : List Peer) (w : List happened.Act.Act) (c : List ControllerAct) (g : List ℕ) (e : SadEntry) → IsLawful ps w → Meet ps w c → Named ps → AllCreated w → is_ready w ≡ true
     → next_request g w ≡ Some (asks.Put e) → (reply (tree_of g w) (ask_of (asks.Put e))).status ≡ 201
 put-made ps w c g e l m names all r next =
     made-reply (tree_of g w) e (row-is-live g e.name w ∙ name-free ps g g e w l r next) (spi-free ps g e w l r next) (room ps w c g e l m names (plain ps w c l m names all) r next)
 
 -- the answer to the next request, whatever it is
-pub next-made : (ps : List Peer) (w : List happened.Act.Act) (c : List Act) (g : List ℕ) (o : tree.Order.Order) → IsLawful ps w → Meet ps w c → Named ps → AllCreated w → is_ready w ≡ true
-    → next_request g w ≡ Some o → IsCreated g (taken g w) (requests g w + 1) (answer_of (reply (tree_of g w) (ask_of o))) w
+pub next-made : (ps : List Peer) (w : List happened.Act.Act) (c : List ControllerAct) (g : List ℕ) (o : tree.Order.Order) → IsLawful ps w → Meet ps w c → Named ps → AllCreated w → is_ready w ≡ true
+    → next_request g w ≡ Some o → IsCreated g (session_taken g w) (requests g w + 1) (answer_of (reply (tree_of g w) (ask_of o))) w
 next-made ps w c g o l m names all r next = λ e q.
-    let k : requests g w + 1 ≡ handled g (taken g w) w + 1 = ap (λ (z : ℕ). z + 1) (requests-are g w (numbered ps g w l)) in
-    let same : o ≡ asks.Put e = some-is o (asks.Put e) (sym (next-at g (taken g w) (requests g w + 1) o w refl k next) ∙ q) in
+    let k : requests g w + 1 ≡ handled g (session_taken g w) w + 1 = ap (λ (z : ℕ). z + 1) (requests-are g w (numbered ps g w l)) in
+    let same : o ≡ asks.Put e = some-is o (asks.Put e) (sym (next-at g (session_taken g w) (requests g w + 1) o w refl k next) ∙ q) in
     subst (λ (z : tree.Order.Order). (reply (tree_of g w) (ask_of z)).status ≡ 201) (sym same)
     (put-made ps w c g e l m names all r (next ∙ ap (λ (z : tree.Order.Order). Some z) same))
 

@@ -8,8 +8,8 @@ use Rattle.ikeless_tree.specs.Half.{is_inbound}
 use Rattle.hist_acts.specs.declared.act.Act.{Act}
 use Rattle.hist_acts.specs.declared.act.Act.TheVariants as acts
 use Rattle.hist_acts.specs.Sessions.{answered, is_open, is_session, openings, order_at, orders}
-use Rattle.hist_safety.specs.Law.{MayOrder, MayPutIn, MayPutOut, MayRemoveIn, MayRemoveOut}
-use Rattle.hist_safety.specs.Orders.{aes_part, inbounds, in_half, is_doomed, is_key_used, is_left, is_made, is_put, is_removal, order_of, ordered, out_half, site}
+use Rattle.hist_safety.specs.Law.{OrderMayHappen, PutInMayHappen, PutOutMayHappen, RemoveInMayHappen, RemoveOutMayHappen}
+use Rattle.hist_safety.specs.Orders.{aes_part, inbounds, in_half, is_removal_ordered, is_key_used, is_removal_answered, is_put_accepted, is_put, is_removal, order_of, was_order_given, out_half, site}
 use Rattle.hist_world.specs.Parts.{controllers_part}
 
 if-both : {A : Type 0} (b : Bool) (x y z : A) → y ≡ z → (if b then x else y) ≡ (if b then x else z)
@@ -46,7 +46,7 @@ order-at-part g s k [] = refl
 order-at-part g s k (acts.Order f t j o ∷ h) = if-both (is_session f t g s && (j == k)) (Some o) _ _ (order-at-part g s k h)
 order-at-part g s k (a ∷ h) = order-at-part g s k h
 
-ordered-part : (x : List ℕ) (h : List Act) → ordered x h ≡ ordered x (controllers_part h)
+ordered-part : (x : List ℕ) (h : List Act) → was_order_given x h ≡ was_order_given x (controllers_part h)
 ordered-part x [] = refl
 ordered-part x (acts.Order f t j (asks.Put e) ∷ h) = ap (λ b. bytes_eq e.name x || b) (ordered-part x h)
 ordered-part x (a ∷ h) = ordered-part x h
@@ -71,27 +71,27 @@ key-part part [] = refl
 key-part part (acts.Order f t j (asks.Put e) ∷ h) = ap (λ b. bytes_eq (aes_part e.key) part || b) (key-part part h)
 key-part part (a ∷ h) = key-part part h
 
-doomed-part : (x : List ℕ) (h : List Act) → is_doomed x h ≡ is_doomed x (controllers_part h)
+doomed-part : (x : List ℕ) (h : List Act) → is_removal_ordered x h ≡ is_removal_ordered x (controllers_part h)
 doomed-part x [] = refl
 doomed-part x (acts.Order f t j (asks.Remove y) ∷ h) = ap (λ b. bytes_eq y x || b) (doomed-part x h)
 doomed-part x (a ∷ h) = doomed-part x h
 
-made-part : (x : List ℕ) (h : List Act) → is_made x h ≡ is_made x (controllers_part h)
+made-part : (x : List ℕ) (h : List Act) → is_put_accepted x h ≡ is_put_accepted x (controllers_part h)
 made-part x [] = refl
 made-part x (acts.Answered f s k a ∷ h) =
-    ap (λ (o : Option Order). (is_put x o && nat_lt a.status 400) || is_made x h) (order-at-part f s k h)
+    ap (λ (o : Option Order). (is_put x o && nat_lt a.status 400) || is_put_accepted x h) (order-at-part f s k h)
     ∙ ap (λ b. (is_put x (order_at f s k (controllers_part h)) && nat_lt a.status 400) || b) (made-part x h)
 made-part x (a ∷ h) = made-part x h
 
-pub left-part : (x : List ℕ) (h : List Act) → is_left x h ≡ is_left x (controllers_part h)
+pub left-part : (x : List ℕ) (h : List Act) → is_removal_answered x h ≡ is_removal_answered x (controllers_part h)
 left-part x [] = refl
 left-part x (acts.Answered f s k a ∷ h) =
-    ap (λ (o : Option Order). is_removal x o || is_left x h) (order-at-part f s k h)
+    ap (λ (o : Option Order). is_removal x o || is_removal_answered x h) (order-at-part f s k h)
     ∙ ap (λ b. is_removal x (order_at f s k (controllers_part h)) || b) (left-part x h)
 left-part x (a ∷ h) = left-part x h
 
 -- an order that may be given after the controller's part may be given
-put-in-part : (e : SadEntry) (h : List Act) → MayPutIn e (controllers_part h) → MayPutIn e h
+put-in-part : (e : SadEntry) (h : List Act) → PutInMayHappen e (controllers_part h) → PutInMayHappen e h
 put-in-part e h m =
     let n = inbounds-part h in
     record {
@@ -102,7 +102,7 @@ put-in-part e h m =
       ends = m.ends;
     }
 
-put-out-part : (g : List ℕ) (e : SadEntry) (h : List Act) → MayPutOut g e (controllers_part h) → MayPutOut g e h
+put-out-part : (g : List ℕ) (e : SadEntry) (h : List Act) → PutOutMayHappen g e (controllers_part h) → PutOutMayHappen g e h
 put-out-part g e h m = record {
   serial = m.serial;
   name = m.name;
@@ -119,26 +119,26 @@ put-out-part g e h m = record {
   stays = doomed-part (in_half m.serial) h ∙ m.stays;
 }
 
-last-part : (serial : List ℕ) (h : List Act) → (ordered (out_half serial) (controllers_part h) ≡ false) ⊎ (is_left (out_half serial) (controllers_part h) ≡ true)
-    → (ordered (out_half serial) h ≡ false) ⊎ (is_left (out_half serial) h ≡ true)
+last-part : (serial : List ℕ) (h : List Act) → (was_order_given (out_half serial) (controllers_part h) ≡ false) ⊎ (is_removal_answered (out_half serial) (controllers_part h) ≡ true)
+    → (was_order_given (out_half serial) h ≡ false) ⊎ (is_removal_answered (out_half serial) h ≡ true)
 last-part serial h (inl a) = inl (ordered-part (out_half serial) h ∙ a)
 last-part serial h (inr a) = inr (left-part (out_half serial) h ∙ a)
 
-remove-in-part : (g x : List ℕ) (h : List Act) → MayRemoveIn g x (controllers_part h) → MayRemoveIn g x h
+remove-in-part : (g x : List ℕ) (h : List Act) → RemoveInMayHappen g x (controllers_part h) → RemoveInMayHappen g x h
 remove-in-part g x h m = record { serial = m.serial; name = m.name; order = ordered-part x h ∙ m.order; here = m.here ∙ sym (site-part x h); last = last-part m.serial h m.last }
 
-remove-out-part : (g x : List ℕ) (h : List Act) → MayRemoveOut g x (controllers_part h) → MayRemoveOut g x h
+remove-out-part : (g x : List ℕ) (h : List Act) → RemoveOutMayHappen g x (controllers_part h) → RemoveOutMayHappen g x h
 remove-out-part g x h m = record { serial = m.serial; name = m.name; order = ordered-part x h ∙ m.order; here = m.here ∙ sym (site-part x h) }
 
-put-part : (g : List ℕ) (e : SadEntry) (h : List Act) → MayPutIn e (controllers_part h) ⊎ MayPutOut g e (controllers_part h) → MayPutIn e h ⊎ MayPutOut g e h
+put-part : (g : List ℕ) (e : SadEntry) (h : List Act) → PutInMayHappen e (controllers_part h) ⊎ PutOutMayHappen g e (controllers_part h) → PutInMayHappen e h ⊎ PutOutMayHappen g e h
 put-part g e h (inl m) = inl (put-in-part e h m)
 put-part g e h (inr m) = inr (put-out-part g e h m)
 
-remove-part : (g x : List ℕ) (h : List Act) → MayRemoveIn g x (controllers_part h) ⊎ MayRemoveOut g x (controllers_part h) → MayRemoveIn g x h ⊎ MayRemoveOut g x h
+remove-part : (g x : List ℕ) (h : List Act) → RemoveInMayHappen g x (controllers_part h) ⊎ RemoveOutMayHappen g x (controllers_part h) → RemoveInMayHappen g x h ⊎ RemoveOutMayHappen g x h
 remove-part g x h (inl m) = inl (remove-in-part g x h m)
 remove-part g x h (inr m) = inr (remove-out-part g x h m)
 
-pub order-part : (g : List ℕ) (o : Order) (h : List Act) → MayOrder g o (controllers_part h) → MayOrder g o h
+pub order-part : (g : List ℕ) (o : Order) (h : List Act) → OrderMayHappen g o (controllers_part h) → OrderMayHappen g o h
 order-part g asks.Read h m = tt
 order-part g (asks.Policy list) h m = tt
 order-part g (asks.Put e) h m = put-part g e h m

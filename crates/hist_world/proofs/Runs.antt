@@ -16,22 +16,22 @@ use Rattle.hist_acts.specs.declared.event.Event.{Event}
 use Rattle.hist_acts.specs.declared.event.Event.TheVariants as events
 use Rattle.hist_acts.specs.declared.event.Header.{Header}
 use Rattle.hist_acts.specs.Past.{after, clock, events_taken}
-use Rattle.hist_acts.specs.Sessions.{next_answer, next_notice, next_request, taken}
+use Rattle.hist_acts.specs.Sessions.{next_answer, next_notice, next_request, session_taken}
 use Rattle.hist_gateway.specs.Block as node
 use Rattle.hist_gateway.specs.Handle.{answer_of, requests}
 use Rattle.hist_gateway.specs.Rows.{tree_of}
 use Rattle.hist_gateway.proofs.MayLemmas.{may-arrive, may-let}
 use Rattle.hist_controller.specs.Acts as controller
-use Rattle.hist_controller.specs.Law.{number_of}
+use Rattle.hist_controller.specs.Law.{peer_number}
 use Rattle.hist_controller.specs.Past as controller_past
-use Rattle.hist_controller.specs.Told.{all_told, name_of}
+use Rattle.hist_controller.specs.Told.{all_told, peer_name}
 use Rattle.hist_controller.proofs.Turns.{idle-block}
 use Rattle.hist_safety.specs.Carried.{address_in, address_of}
-use Rattle.hist_safety.specs.Law.{IsLawful, MayAll, is_ready}
+use Rattle.hist_safety.specs.Law.{IsLawful, AllMayHappen, is_ready}
 use Rattle.hist_safety.proofs.Basics.{no, name-is, some-is}
 use Rattle.hist_safety.proofs.Blocks.{lawful-after}
 use Rattle.hist_world.specs.Arrivals.{flipped, is_forged, sent_at}
-use Rattle.hist_world.specs.Block.{Past, Shows, arrival_of, arrives_at, at_gateway, block, boots, by_arrival, by_event, controller_acts, controller_event, forges, forges_at, gateway_acts, gateway_at, handles_at, history, is_forgery, looks, nothing, past_after, raised, reads_clock, took, unless_forged, with_peer}
+use Rattle.hist_world.specs.Block.{Past, Shows, arrival_of, arrives_at, at_gateway, block, boots, by_arrival, by_event, controller_acts, controller_event, is_forgery, is_forgery_at, gateway_acts, gateway_at, handles_at, history, is_forgery, looks, nothing, past_after, raised, clock_block, took, unless_forged, with_peer}
 use Rattle.hist_world.specs.Events.{AreEventsOf, IsEventOf, IsKnown}
 use Rattle.hist_world.specs.Headers.{IsHeader}
 use Rattle.hist_world.specs.Parts.{controllers_part}
@@ -64,7 +64,7 @@ gateway-is header g c e = let q = gateway-case header g c (find (λ p. bytes_eq 
 
 -- they may happen, leave no question, and leave the controller's part
 record Fits (gs : List Peer) (w xs : List Act) : Type 0 where
-  pub may : MayAll gs w xs
+  pub may : AllMayHappen gs w xs
   pub ready : is_ready (after w xs) ≡ true
   pub own : are_own xs ≡ true
 
@@ -103,7 +103,7 @@ request-fits header g n o h (Some c) e l next =
     let next2 : next_request c.name w ≡ Some o = ap (λ (z : List ℕ). next_request z w) is.name ∙ next in
     let m = handle-may header.gateways c.name n o h l next2 in
     let r = reply (tree_of c.name w) (ask_of o) in
-    record { may = m.0; ready = m.1; own = changes-own c.name (taken c.name w) (requests c.name w + 1) r (answer_of r) r.change }
+    record { may = m.0; ready = m.1; own = changes-own c.name (session_taken c.name w) (requests c.name w + 1) r (answer_of r) r.change }
 
 handle-fits : (header : Header) (g : List ℕ) (n : ℕ) (h : List Act) (o : Option Order) → IsLawful header.gateways (acts.Took n ∷ h) → next_request g (acts.Took n ∷ h) ≡ o
     → Fits header.gateways (acts.Took n ∷ h) (handles_at (acts.Took n ∷ h) (gateway_at header g) o)
@@ -114,7 +114,7 @@ raised-follow : (header : Header) (w : List Act) (b : Bool) → are_followers (r
 raised-follow header w true = looks-follow w header.gateways
 raised-follow header w false = refl
 
-clock-fits : (header : Header) (t : ℕ) (w : List Act) → is_ready w ≡ true → Fits header.gateways w (reads_clock header w t)
+clock-fits : (header : Header) (t : ℕ) (w : List Act) → is_ready w ≡ true → Fits header.gateways w (clock_block header w t)
 clock-fits header t w r =
     let a : Act = acts.Now (max t (clock w)) in
     let xs : List Act = raised header (a ∷ w) (nat_lt (clock w) t) in
@@ -129,8 +129,8 @@ boot-fits header g w (Some c) r = record { may = (r, tt); ready = refl; own = re
 -- ---- what holds between events
 
 -- a block that may happen, and after it what holds again
-pub record Step (header : Header) (p : Past) (xs : List Act) (cs : List controller.Act) : Type 0 where
-  pub may : MayAll header.gateways p.world xs
+pub record Step (header : Header) (p : Past) (xs : List Act) (cs : List controller.ControllerAct) : Type 0 where
+  pub may : AllMayHappen header.gateways p.world xs
   pub stands : Stands header (record { world = after p.world xs; controller = controller_past.after p.controller cs })
 
 took-meet : (header : Header) (p : Past) → Stands header p → Meet header.gateways (took p.world) p.controller
@@ -140,7 +140,7 @@ of-gateways : (header : Header) (p : Past) (xs : List Act) → Stands header p �
 of-gateways header p xs s f =
     let w : List Act = took p.world in
     let e = append-nil xs in
-    let may : MayAll header.gateways w (xs ++ []) = subst (MayAll header.gateways w) (sym e) f.may in
+    let may : AllMayHappen header.gateways w (xs ++ []) = subst (AllMayHappen header.gateways w) (sym e) f.may in
     let part : controllers_part (after w (xs ++ [])) ≡ controllers_part w = ap (λ z. controllers_part (after w z)) e ∙ own-part w xs f.own in
     record {
       may = (s.ready, may);
@@ -152,7 +152,7 @@ of-gateways header p xs s f =
       };
     }
 
-of-controller : (header : Header) (p : Past) (e : controller.Event) → IsHeader header → Stands header p → Told_all header.gateways (took p.world) p.controller (by_event header.gateways p.controller (Some e))
+of-controller : (header : Header) (p : Past) (e : controller.ControllerEvent) → IsHeader header → Stands header p → Told_all header.gateways (took p.world) p.controller (by_event header.gateways p.controller (Some e))
     → Step header p (acts.Took (events_taken p.world + 1) ∷ all_told header.gateways (by_event header.gateways p.controller (Some e))) (by_event header.gateways p.controller (Some e))
 of-controller header p e i s t = record {
   may = (s.ready, t.0);
@@ -172,40 +172,40 @@ nothing-done header p s = of-gateways header p [] s (none-fits header.gateways (
 minus-one : (n : ℕ) → (n + 1 == 0) ≡ false
 minus-one n = grind arith
 
-pub name-number : (g : List ℕ) (ps : List Peer) → number_of g ps < length ps → name_of ps (number_of g ps) ≡ g
+pub name-number : (g : List ℕ) (ps : List Peer) → peer_number g ps < length ps → peer_name ps (peer_number g ps) ≡ g
 name-number g [] i = absurd (omega (arith, i))
 name-number g (p ∷ ps) i = name-case (bytes_eq p.name g) g p ps (name-is p.name g) (name-number g ps) i where
-  name-case : (b : Bool) (g : List ℕ) (p : Peer) (ps : List Peer) → (b ≡ true → p.name ≡ g) → (number_of g ps < length ps → name_of ps (number_of g ps) ≡ g)
-      → (if b then 0 else number_of g ps + 1) < suc (length ps) → name_of (p ∷ ps) (if b then 0 else number_of g ps + 1) ≡ g
+  name-case : (b : Bool) (g : List ℕ) (p : Peer) (ps : List Peer) → (b ≡ true → p.name ≡ g) → (peer_number g ps < length ps → peer_name ps (peer_number g ps) ≡ g)
+      → (if b then 0 else peer_number g ps + 1) < suc (length ps) → peer_name (p ∷ ps) (if b then 0 else peer_number g ps + 1) ≡ g
   name-case true g p ps e ih i = e refl
   name-case false g p ps e ih i =
-      let z = minus-one (number_of g ps) in
-      let j : number_of g ps < length ps = omega (arith, i) in
-      let m : number_of g ps + 1 - 1 ≡ number_of g ps = omega arith in
-      rw z (ap (name_of ps) m ∙ ih j)
+      let z = minus-one (peer_number g ps) in
+      let j : peer_number g ps < length ps = omega (arith, i) in
+      let m : peer_number g ps + 1 - 1 ≡ peer_number g ps = omega arith in
+      rw z (ap (peer_name ps) m ∙ ih j)
 
 -- ---- each event
 
 answer-event : (header : Header) (p : Past) (g : List ℕ) (a : Option Answer) → IsHeader header → IsKnown header g → Stands header p → next_answer g p.world ≡ a
-    → Step header p (acts.Took (events_taken p.world + 1) ∷ all_told header.gateways (by_event header.gateways p.controller (Rattle.hist_world.specs.Block.answers (number_of g header.gateways) a))) (by_event header.gateways p.controller (Rattle.hist_world.specs.Block.answers (number_of g header.gateways) a))
+    → Step header p (acts.Took (events_taken p.world + 1) ∷ all_told header.gateways (by_event header.gateways p.controller (Rattle.hist_world.specs.Block.answers (peer_number g header.gateways) a))) (by_event header.gateways p.controller (Rattle.hist_world.specs.Block.answers (peer_number g header.gateways) a))
 answer-event header p g None i k s e = nothing-done header p s
 answer-event header p g (Some a) i k s e =
-    let n : ℕ = number_of g header.gateways in
-    let next : next_answer (name_of header.gateways n) (took p.world) ≡ Some a = ap (λ (z : List ℕ). next_answer z p.world) (name-number g header.gateways k) ∙ e in
+    let n : ℕ = peer_number g header.gateways in
+    let next : next_answer (peer_name header.gateways n) (took p.world) ≡ Some a = ap (λ (z : List ℕ). next_answer z p.world) (name-number g header.gateways k) ∙ e in
     of-controller header p (controller.Answers n a) i s (block-goes header.gateways (took p.world) p.controller (controller.Answers n a) i.named i.family refl (took-meet header p s) k next)
 
 notice-event : (header : Header) (p : Past) (g : List ℕ) (t : Option Notice) → IsHeader header → IsKnown header g → Stands header p
-    → Step header p (acts.Took (events_taken p.world + 1) ∷ all_told header.gateways (by_event header.gateways p.controller (Rattle.hist_world.specs.Block.hears (number_of g header.gateways) t))) (by_event header.gateways p.controller (Rattle.hist_world.specs.Block.hears (number_of g header.gateways) t))
+    → Step header p (acts.Took (events_taken p.world + 1) ∷ all_told header.gateways (by_event header.gateways p.controller (Rattle.hist_world.specs.Block.hears (peer_number g header.gateways) t))) (by_event header.gateways p.controller (Rattle.hist_world.specs.Block.hears (peer_number g header.gateways) t))
 notice-event header p g None i k s = nothing-done header p s
 notice-event header p g (Some t) i k s =
-    let n : ℕ = number_of g header.gateways in
+    let n : ℕ = peer_number g header.gateways in
     of-controller header p (controller.Notices n t) i s (block-goes header.gateways (took p.world) p.controller (controller.Notices n t) i.named i.family refl (took-meet header p s) k tt)
 
 told-event : (header : Header) (p : Past) (c : _) → IsHeader header → Stands header p
     → Step header p (acts.Took (events_taken p.world + 1) ∷ all_told header.gateways (by_event header.gateways p.controller (Some (controller.Told c)))) (by_event header.gateways p.controller (Some (controller.Told c)))
 told-event header p c i s = of-controller header p (controller.Told c) i s (block-goes header.gateways (took p.world) p.controller (controller.Told c) i.named i.family refl (took-meet header p s) tt tt)
 
-pub step : (shows : Shows) (header : Header) (p : Past) (e : Event) → IsHeader header → IsEventOf header e → Stands header p → forges header p e ≡ false
+pub step : (shows : Shows) (header : Header) (p : Past) (e : Event) → IsHeader header → IsEventOf header e → Stands header p → is_forgery header p e ≡ false
     → Step header p (block shows header p e) (controller_acts header p e)
 step shows header p (events.Let g o) i k s n = of-gateways header p _ s (let-fits header g o (took p.world) (gateway_at header g) refl i (s.ready, s.lawful) refl)
 step shows header p (events.Arrive g o) i k s n = of-gateways header p _ s (arrive-fits header g o (took p.world) (gateway_at header g) refl n refl)
@@ -217,13 +217,13 @@ step shows header p (events.Boot g) i k s n = of-gateways header p _ s (boot-fit
 step shows header p (events.Down g) i k s n = of-gateways header p _ s (handle-fits header g (events_taken p.world + 1) p.world (next_request g (took p.world)) (s.ready, s.lawful) refl)
 step shows header p (events.Wire g lane) i k s n =
     let xs : List Act = acts.Wire g lane (shows g lane (took p.world)) ∷ [] in
-    let may : MayAll header.gateways (took p.world) xs = (refl, tt) in
+    let may : AllMayHappen header.gateways (took p.world) xs = (refl, tt) in
     of-gateways header p xs s (record { may = may; ready = refl; own = refl })
 step shows header p (events.Open g) i k s n =
-    let m : ℕ = number_of g header.gateways in
+    let m : ℕ = peer_number g header.gateways in
     of-controller header p (controller.Opens m) i s (block-goes header.gateways (took p.world) p.controller (controller.Opens m) i.named i.family refl (took-meet header p s) k tt)
 step shows header p (events.Cut g) i k s n =
-    let m : ℕ = number_of g header.gateways in
+    let m : ℕ = peer_number g header.gateways in
     of-controller header p (controller.Cuts m) i s (block-goes header.gateways (took p.world) p.controller (controller.Cuts m) i.named i.family refl (took-meet header p s) k tt)
 step shows header p (events.Up g) i k s n = answer-event header p g (next_answer g p.world) i k s refl
 step shows header p (events.Note g) i k s n = notice-event header p g (next_notice g p.world) i k s
@@ -235,17 +235,17 @@ step shows header p (events.Keys key) i k s n = told-event header p (commands.Ke
 
 -- ---- a forged arrival
 
-forged-at : (gs : List Peer) (w : List Act) (o : List ℕ) (c : Option node.Gateway) → is_forgery w o c ≡ true → is_ready w ≡ true → MayAll gs w (arrives_at w o c)
+forged-at : (gs : List Peer) (w : List Act) (o : List ℕ) (c : Option node.Gateway) → is_forgery w o c ≡ true → is_ready w ≡ true → AllMayHappen gs w (arrives_at w o c)
 forged-at gs w o None e r = absurd (no e)
 forged-at gs w o (Some c) e r = forged-case gs c w o (is_forged c.name c.address w o) e r where
-  forged-case : (gs : List Peer) (c : node.Gateway) (w : List Act) (o : List ℕ) (b : Bool) → b ≡ true → is_ready w ≡ true → MayAll gs w (if b then acts.Arrived c.name o ∷ [] else node.gw_block c w (node.Arrive o))
+  forged-case : (gs : List Peer) (c : node.Gateway) (w : List Act) (o : List ℕ) (b : Bool) → b ≡ true → is_ready w ≡ true → AllMayHappen gs w (if b then acts.Arrived c.name o ∷ [] else node.gw_block c w (node.Arrive o))
   forged-case gs c w o true e r = (r, tt)
   forged-case gs c w o false e r = absurd (no e)
 
-forged-block : (header : Header) (p : Past) (xs : List Act) → Stands header p → MayAll header.gateways (took p.world) xs → MayAll header.gateways p.world (acts.Took (events_taken p.world + 1) ∷ (xs ++ []))
-forged-block header p xs s m = (s.ready, subst (MayAll header.gateways (took p.world)) (sym (append-nil xs)) m)
+forged-block : (header : Header) (p : Past) (xs : List Act) → Stands header p → AllMayHappen header.gateways (took p.world) xs → AllMayHappen header.gateways p.world (acts.Took (events_taken p.world + 1) ∷ (xs ++ []))
+forged-block header p xs s m = (s.ready, subst (AllMayHappen header.gateways (took p.world)) (sym (append-nil xs)) m)
 
-forged-step : (shows : Shows) (header : Header) (p : Past) (e : Event) → Stands header p → forges header p e ≡ true → MayAll header.gateways p.world (block shows header p e)
+forged-step : (shows : Shows) (header : Header) (p : Past) (e : Event) → Stands header p → is_forgery header p e ≡ true → AllMayHappen header.gateways p.world (block shows header p e)
 forged-step shows header p (events.Arrive g o) s f = forged-block header p _ s (forged-at header.gateways (took p.world) o (gateway_at header g) f refl)
 forged-step shows header p (events.ArriveSent g m) s f = forged-block header p _ s (forged-at header.gateways (took p.world) (sent_at m (took p.world)) (gateway_at header g) f refl)
 forged-step shows header p (events.ArriveFlip g m offset bit) s f = forged-block header p _ s (forged-at header.gateways (took p.world) (flipped offset bit (sent_at m (took p.world))) (gateway_at header g) f refl)
@@ -264,8 +264,8 @@ start header = record { lawful = tt; ready = refl; meet = record { part = refl; 
 pub lawful-history : (shows : Shows) (header : Header) (p : Past) (es : List Event) → IsHeader header → AreEventsOf header es → Stands header p
     → IsLawful header.gateways (after p.world (history shows header p es))
 lawful-history shows header p [] i k s = s.lawful
-lawful-history shows header p (e ∷ es) i k s = lawful-case (forges header p e) refl (λ t. lawful-history shows header (past_after shows header p e) es i k.1 t) where
-  lawful-case : (b : Bool) → forges header p e ≡ b
+lawful-history shows header p (e ∷ es) i k s = lawful-case (is_forgery header p e) refl (λ t. lawful-history shows header (past_after shows header p e) es i k.1 t) where
+  lawful-case : (b : Bool) → is_forgery header p e ≡ b
       → (Stands header (past_after shows header p e) → IsLawful header.gateways (after (past_after shows header p e).world (history shows header (past_after shows header p e) es)))
       → IsLawful header.gateways (after p.world (block shows header p e ++ unless_forged b (history shows header (past_after shows header p e) es)))
   lawful-case true f ih =

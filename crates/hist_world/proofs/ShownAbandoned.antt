@@ -30,7 +30,7 @@ cut_off_acts =
     ∷ acts.Took 20 ∷ acts.Policy b list_b ∷ acts.Handled b 2 2 (plain 204)
     ∷ acts.Took 21 ∷ acts.Handled b 2 3 (refused 404 tags.InvalidValue) ∷ []
 
-abbrev pub cut_off_own : List own.Act
+abbrev pub cut_off_own : List own.ControllerAct
 cut_off_own =
     own.Cut 1 1
     ∷ own.Opened 1 2 ∷ own.Ordered 1 2 1 own.Read ∷ own.Ordered 1 2 2 (own.Policy list_b)

@@ -62,7 +62,7 @@ ended_acts =
     ∷ acts.Took 33 ∷ acts.Answered a 1 5 (plain 201) ∷ acts.Order b 1 6 (asks.Remove (codes "out/2"))
     ∷ acts.Took 34 ∷ acts.Answered a 1 6 (plain 204) ∷ acts.Order b 1 7 (asks.Remove (codes "in/1")) ∷ []
 
-abbrev pub ended_own : List own.Act
+abbrev pub ended_own : List own.ControllerAct
 ended_own =
     own.Accepted (own.Keys key3)
     ∷ own.Accepted (own.Keys key4)

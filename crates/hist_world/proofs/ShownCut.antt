@@ -41,7 +41,7 @@ cut_late_acts =
     ∷ acts.Took 32 ∷ acts.Answered b 1 4 (plain 201)
     ∷ acts.Took 33 ∷ acts.Answered b 1 5 (plain 204) ∷ acts.Order b 1 6 (asks.Put in3) ∷ []
 
-abbrev pub cut_late_own : List own.Act
+abbrev pub cut_late_own : List own.ControllerAct
 cut_late_own =
     own.Accepted (own.Keys key3)
     ∷ own.Cut 0 1
@@ -91,7 +91,7 @@ cut_under_way_acts =
     ∷ acts.Took 28 ∷ acts.Answered a 2 2 (plain 204)
     ∷ acts.Took 29 ∷ acts.Answered a 2 3 (plain 204) ∷ acts.Order b 1 5 (asks.Remove (codes "in/1")) ∷ []
 
-abbrev pub cut_under_way_own : List own.Act
+abbrev pub cut_under_way_own : List own.ControllerAct
 cut_under_way_own =
     own.Accepted (own.Keys key3)
     ∷ own.Cut 0 1
@@ -134,7 +134,7 @@ cut_early_acts =
     ∷ acts.Took 25 ∷ acts.Policy a list_a ∷ acts.Handled a 2 2 (plain 204)
     ∷ acts.Took 26 ∷ acts.Handled a 2 3 (refused 404 tags.InvalidValue) ∷ []
 
-abbrev pub cut_early_own : List own.Act
+abbrev pub cut_early_own : List own.ControllerAct
 cut_early_own =
     own.Accepted (own.Keys key3)
     ∷ own.Cut 0 1

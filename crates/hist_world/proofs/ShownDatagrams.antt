@@ -20,14 +20,14 @@ use Rattle.hist_acts.specs.declared.act.Act.{Act}
 use Rattle.hist_acts.specs.declared.act.Act.TheVariants as acts
 use Rattle.hist_acts.specs.declared.event.Event.{Event}
 use Rattle.hist_acts.specs.Past.{events_taken}
-use Rattle.hist_halves.specs.Halves.{is_sealed, live, taken}
+use Rattle.hist_halves.specs.Halves.{is_sealed, live, numbers_taken}
 use Rattle.hist_halves.specs.Sealed.{by_spi, esp_of, other_half, payload_of}
 use Rattle.hist_gateway.specs.Arrive.{by_text}
 use Rattle.hist_gateway.specs.Block as node
 use Rattle.hist_gateway.specs.Datagram.{datagram}
 use Rattle.hist_gateway.specs.Let.{unless}
 use Rattle.hist_gateway.specs.Look.{tells}
-use Rattle.hist_gateway.specs.Stands.{bad_spi_stands}
+use Rattle.hist_gateway.specs.Stands.{does_bad_spi_stand}
 use Rattle.hist_safety.proofs.Basics.{both, name-self, name-true, or-left}
 use Rattle.hist_world.specs.Block.{Past, Shows, took}
 use Rattle.hist_world.proofs.Goes.{Comes, Goes, answers-no-half, answers-seen, answers-text, arrived, arrives, genuine-no-half, genuine-sent}
@@ -107,7 +107,7 @@ opens-at e d n k = ap (λ (z : Keying). opened z (octets e n)) k ∙ opened_find
 
 -- it is fresh: it opens, and what was sealed is looked at
 pub gives : (shows : Shows) (p : Past) (v : Event) (o : List ℕ) (e d : SadEntry) (n : ℕ) (xs : List Act) → Comes shows (two greatest) p v gateway_b o → Carries o e n → At e d n (took p.world)
-    → verdict_over d.window (taken b d.name (acts.Arrived b o ∷ took p.world)) n ≡ Fresh → by_text b (acts.Arrived b o ∷ took p.world) d n (Some text) ≡ xs
+    → verdict_over d.window (numbers_taken b d.name (acts.Arrived b o ∷ took p.world)) n ≡ Fresh → by_text b (acts.Arrived b o ∷ took p.world) d n (Some text) ≡ xs
     → Goes shows (two greatest) p (v ∷ []) (acts.Took (events_taken p.world + 1) ∷ acts.Arrived b o ∷ xs) (arrived p (acts.Arrived b o ∷ xs))
 gives shows p v o e d n xs m c i fresh w =
     let h : List Act = took p.world in
@@ -118,7 +118,7 @@ gives shows p v o e d n xs m c i fresh w =
 
 -- its number was taken
 pub repeats : (shows : Shows) (p : Past) (v : Event) (o : List ℕ) (e d : SadEntry) (n : ℕ) → Comes shows (two greatest) p v gateway_b o → Carries o e n → At e d n (took p.world)
-    → verdict_over d.window (taken b d.name (acts.Arrived b o ∷ took p.world)) n ≡ Seen
+    → verdict_over d.window (numbers_taken b d.name (acts.Arrived b o ∷ took p.world)) n ≡ Seen
     → Goes shows (two greatest) p (v ∷ []) (acts.Took (events_taken p.world + 1) ∷ acts.Arrived b o ∷ acts.Drop b why.Seen ∷ []) (arrived p (acts.Arrived b o ∷ acts.Drop b why.Seen ∷ []))
 repeats shows p v o e d n m c i seen =
     let h : List Act = took p.world in
@@ -130,7 +130,7 @@ repeats shows p v o e d n m c i seen =
 -- no half has its SPI
 pub comes-to-none : (shows : Shows) (p : Past) (v : Event) (o : List ℕ) (e : SadEntry) (n : ℕ) (xs : List Act) → Comes shows (two greatest) p v gateway_b o → Carries o e n
     → by_spi e.spi (live b (took p.world)) ≡ None
-    → acts.Drop b why.BadSpi ∷ unless (bad_spi_stands b e.spi (acts.Arrived b o ∷ took p.world)) (tells b (acts.Arrived b o ∷ took p.world) (notices.BadSpi e.spi)) ≡ xs
+    → acts.Drop b why.BadSpi ∷ unless (does_bad_spi_stand b e.spi (acts.Arrived b o ∷ took p.world)) (tells b (acts.Arrived b o ∷ took p.world) (notices.BadSpi e.spi)) ≡ xs
     → Goes shows (two greatest) p (v ∷ []) (acts.Took (events_taken p.world + 1) ∷ acts.Arrived b o ∷ xs) (arrived p (acts.Arrived b o ∷ xs))
 comes-to-none shows p v o e n xs m c f w =
     let h : List Act = took p.world in

@@ -38,7 +38,7 @@ both_expired_acts =
     ∷ acts.Took 29 ∷ acts.Heard b 1 (notices.Expire (codes "out/2") true (limits 3600 0 0 3600))
     ∷ acts.Took 30 ∷ acts.Order a 1 5 (asks.Put in4) ∷ []
 
-abbrev pub both_expired_own : List own.Act
+abbrev pub both_expired_own : List own.ControllerAct
 both_expired_own =
     own.Accepted (own.Keys key3)
     ∷ own.Heard 1 1 (notices.Expire (codes "in/1") true (limits 3600 88 1 3600)) ∷ own.Ordered 1 1 5 (own.PutIn association3)

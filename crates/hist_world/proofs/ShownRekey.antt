@@ -45,7 +45,7 @@ expired_acts =
     ∷ acts.Took 29 ∷ acts.Put b in3 ∷ acts.Handled b 1 5 (plain 201)
     ∷ acts.Took 30 ∷ acts.Answered b 1 5 (plain 201) ∷ acts.Order a 1 5 (asks.Put out3) ∷ []
 
-abbrev pub expired_own : List own.Act
+abbrev pub expired_own : List own.ControllerAct
 expired_own =
     own.Accepted (own.Keys key3)
     ∷ own.Heard 1 1 (notices.Expire (codes "in/1") true (limits 3600 88 1 3600)) ∷ own.Ordered 1 1 5 (own.PutIn association3)
@@ -113,7 +113,7 @@ abbrev pub retired_acts : List Act
 retired_acts =
     acts.Took 34 ∷ acts.Answered a 1 5 (plain 201) ∷ acts.Order a 1 6 (asks.Remove (codes "out/1")) ∷ []
 
-abbrev pub retired_own : List own.Act
+abbrev pub retired_own : List own.ControllerAct
 retired_own =
     own.Answered 0 1 5 (plain 201) ∷ own.Ordered 0 1 6 (own.RemoveOut 1) ∷ []
 
@@ -169,7 +169,7 @@ removed_acts =
     ∷ acts.Took 39 ∷ acts.Gone b (codes "in/1") gone.Removed ∷ acts.Handled b 1 6 (plain 204)
     ∷ acts.Took 40 ∷ acts.Answered b 1 6 (plain 204) ∷ []
 
-abbrev pub removed_own : List own.Act
+abbrev pub removed_own : List own.ControllerAct
 removed_own =
     own.Answered 0 1 6 (plain 204) ∷ own.Ordered 1 1 6 (own.RemoveIn 1)
     ∷ own.Answered 1 1 6 (plain 204) ∷ []

@@ -59,7 +59,7 @@ reopened_acts =
     ∷ acts.Took 29 ∷ acts.Cut b 1
     ∷ acts.Took 30 ∷ acts.Opened b 2 ∷ acts.Order b 2 1 asks.Read ∷ acts.Order b 2 2 (asks.Policy list_b) ∷ []
 
-abbrev pub reopened_own : List own.Act
+abbrev pub reopened_own : List own.ControllerAct
 reopened_own =
     own.Accepted (own.Keys key3)
     ∷ own.Cut 1 1
@@ -97,7 +97,7 @@ recovered_acts =
     ∷ acts.Took 33 ∷ acts.Answered b 2 1 (plain 200) ∷ acts.Order b 2 3 (asks.Put in3)
     ∷ acts.Took 34 ∷ acts.Heard b 2 (notices.BadSpi 257) ∷ acts.Order b 2 4 asks.Read ∷ []
 
-abbrev pub recovered_own : List own.Act
+abbrev pub recovered_own : List own.ControllerAct
 recovered_own =
     own.Answered 1 2 1 (plain 200) ∷ own.Ordered 1 2 3 (own.PutIn association3)
     ∷ own.Heard 1 2 (notices.BadSpi 257) ∷ own.Ordered 1 2 4 own.Read ∷ []

@@ -40,7 +40,7 @@ begun_acts =
     ∷ acts.Took 14 ∷ acts.Answered b 1 1 (plain 200) ∷ acts.Order b 1 3 (asks.Put in1) ∷ acts.Order a 1 3 (asks.Put in2)
     ∷ acts.Took 15 ∷ acts.Answered b 1 2 (plain 204) ∷ []
 
-abbrev pub begun_own : List own.Act
+abbrev pub begun_own : List own.ControllerAct
 begun_own =
     own.Accepted (own.SetPolicy 0 list_a)
     ∷ own.Accepted (own.SetPolicy 1 list_b)
@@ -73,7 +73,7 @@ inbound_acts =
     ∷ acts.Took 18 ∷ acts.Answered b 1 3 (plain 201) ∷ acts.Order a 1 4 (asks.Put out1)
     ∷ acts.Took 19 ∷ acts.Answered a 1 3 (plain 201) ∷ acts.Order b 1 4 (asks.Put out2) ∷ []
 
-abbrev pub inbound_own : List own.Act
+abbrev pub inbound_own : List own.ControllerAct
 inbound_own =
     own.Answered 1 1 3 (plain 201) ∷ own.Ordered 0 1 4 (own.PutOut association1)
     ∷ own.Answered 0 1 3 (plain 201) ∷ own.Ordered 1 1 4 (own.PutOut association2) ∷ []
@@ -112,7 +112,7 @@ second_outbound_acts =
     ∷ acts.Took 22 ∷ acts.Answered a 1 4 (plain 201)
     ∷ acts.Took 23 ∷ acts.Answered b 1 4 (plain 201) ∷ []
 
-abbrev pub second_outbound_own : List own.Act
+abbrev pub second_outbound_own : List own.ControllerAct
 second_outbound_own =
     own.Answered 0 1 4 (plain 201)
     ∷ own.Answered 1 1 4 (plain 201) ∷ []

@@ -13,7 +13,7 @@ use Rattle.hist_acts.specs.declared.event.Event.{Event}
 use Rattle.hist_acts.specs.declared.event.Event.TheVariants as events
 use Rattle.hist_acts.specs.declared.event.Header.{Header}
 use Rattle.hist_acts.specs.Past.{after, clock}
-use Rattle.hist_acts.specs.Sessions.{next_request, taken}
+use Rattle.hist_acts.specs.Sessions.{next_request, session_taken}
 use Rattle.hist_halves.specs.Halves.{live}
 use Rattle.hist_gateway.specs.Arrive.{arrive_acts}
 use Rattle.hist_gateway.specs.Block as node
@@ -28,7 +28,7 @@ use Rattle.hist_controller.specs.Told.{all_told, told}
 use Rattle.hist_controller.proofs.Few.{few-left}
 use Rattle.hist_safety.proofs.Basics.{no, both, both-left, both-right}
 use Rattle.hist_world.specs.Arrivals.{is_forged}
-use Rattle.hist_world.specs.Block.{Past, Shows, arrival_of, arrives_at, at_gateway, block, boots, by_arrival, controller_acts, forges, gateway_acts, gateway_at, handles_at, history, looks, nothing, past_after, raised, took, unless_forged, with_peer}
+use Rattle.hist_world.specs.Block.{Past, Shows, arrival_of, arrives_at, at_gateway, block, boots, by_arrival, controller_acts, is_forgery, gateway_acts, gateway_at, handles_at, history, looks, nothing, past_after, raised, took, unless_forged, with_peer}
 use Rattle.hist_world.specs.Events.{AreEventsOf}
 use Rattle.hist_world.specs.Headers.{IsHeader}
 use Rattle.hist_world.specs.Puts.{NoneRefused}
@@ -106,7 +106,7 @@ boots-silent : (g : List ℕ) (c : Option node.Gateway) → are_silent (boots g 
 boots-silent g None = refl
 boots-silent g (Some c) = refl
 
-one-told : (ps : List Peer) (a : controller.Act) → are_silent (told ps a) ≡ true
+one-told : (ps : List Peer) (a : controller.ControllerAct) → are_silent (told ps a) ≡ true
 one-told ps (controller.Opened g s) = refl
 one-told ps (controller.Cut g s) = refl
 one-told ps (controller.Answered g s n a) = refl
@@ -115,7 +115,7 @@ one-told ps (controller.Ordered g s n o) = refl
 one-told ps (controller.Accepted c) = refl
 one-told ps (controller.Refused w) = refl
 
-told-silent : (ps : List Peer) (xs : List controller.Act) → are_silent (all_told ps xs) ≡ true
+told-silent : (ps : List Peer) (xs : List controller.ControllerAct) → are_silent (all_told ps xs) ≡ true
 told-silent ps [] = refl
 told-silent ps (a ∷ xs) = joined (told ps a) (all_told ps xs) (one-told ps a) (told-silent ps xs)
 
@@ -135,7 +135,7 @@ handles-made header p g (Some o) (Some x) i s m e =
     let w : List Act = took p.world in
     let r = reply (tree_of g w) (ask_of o) in
     let made = next-made header.gateways w p.controller g o (s.ready, s.lawful) (record { part = s.meet.part; past = s.meet.past; fit = s.meet.fit }) i.named m refl e in
-    reply-made g (taken g w) (requests g w + 1) r (answer_of r) r.change w made m
+    reply-made g (session_taken g w) (requests g w + 1) r (answer_of r) r.change w made m
 
 down-made : (shows : Shows) (header : Header) (p : Past) (g : List ℕ) → IsHeader header → Stands header p → AllCreated p.world → AllCreated (after p.world (block shows header p (events.Down g)))
 down-made shows header p g i s m =
@@ -157,8 +157,8 @@ step-made shows header p e i s m = silent-block shows header p e (arrival-silent
 made-history : (shows : Shows) (header : Header) (p : Past) (es : List Event) → IsHeader header → AreEventsOf header es → Stands header p → AllCreated p.world
     → AllCreated (after p.world (history shows header p es))
 made-history shows header p [] i k s m = m
-made-history shows header p (e ∷ es) i k s m = made-case (forges header p e) refl (λ t. made-history shows header (past_after shows header p e) es i k.1 t (step-made shows header p e i s m)) where
-  made-case : (b : Bool) → forges header p e ≡ b
+made-history shows header p (e ∷ es) i k s m = made-case (is_forgery header p e) refl (λ t. made-history shows header (past_after shows header p e) es i k.1 t (step-made shows header p e i s m)) where
+  made-case : (b : Bool) → is_forgery header p e ≡ b
       → (Stands header (past_after shows header p e) → AllCreated (after (past_after shows header p e).world (history shows header (past_after shows header p e) es)))
       → AllCreated (after p.world (block shows header p e ++ unless_forged b (history shows header (past_after shows header p e) es)))
   made-case true f ih = subst (λ (z : List Act). AllCreated (after p.world z)) (sym (append-nil (block shows header p e))) (step-made shows header p e i s m)

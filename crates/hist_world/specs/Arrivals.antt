@@ -12,7 +12,7 @@ use Rattle.replay_win.specs.Marks.{verdict_over}
 use Rattle.hist_acts.specs.declared.act.Act.{Act}
 use Rattle.hist_acts.specs.declared.act.Act.TheVariants as acts
 use Rattle.hist_halves.specs.Sealed.{by_spi, number_of, other_half}
-use Rattle.hist_halves.specs.Halves.{is_sealed, live, taken}
+use Rattle.hist_halves.specs.Halves.{is_sealed, live, numbers_taken}
 use Rattle.hist_gateway.specs.Arrive.{is_sealed_for}
 
 -- ---- what was sent comes again, as it was or damaged
@@ -51,7 +51,7 @@ does_open (Some x) = true
 abbrev pub is_half_forged : List ℕ → List Act → List ℕ → Option SadEntry → Bool
 is_half_forged g h b None = false
 is_half_forged g h b (Some e) =
-    is_fresh (verdict_over e.window (taken g e.name h) (number_of e (taken g e.name h) b))
+    is_fresh (verdict_over e.window (numbers_taken g e.name h) (number_of e (numbers_taken g e.name h) b))
     && (does_open (opened (keying e.spi e.key) b) && not (is_sealed (other_half e.name) b h))
 
 abbrev pub is_esp_forged : List ℕ → List Act → List ℕ → Bool

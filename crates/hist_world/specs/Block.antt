@@ -29,7 +29,7 @@ use Rattle.hist_world.specs.Arrivals.{flipped, is_forged, sent_at}
 -- association each order is of.
 pub record Past : Type 0 where
   pub world : List Act
-  pub controller : List controller.Act
+  pub controller : List controller.ControllerAct
 
 abbrev pub nothing : Past
 nothing = record { world = []; controller = [] }
@@ -49,7 +49,7 @@ abbrev pub gateway_at : Header → List ℕ → Option node.Gateway
 gateway_at header g = with_peer header g (find (λ p. bytes_eq p.name g) header.gateways)
 
 -- an event of a gateway that there is
-abbrev pub at_gateway : List Act → node.Event → Option node.Gateway → List Act
+abbrev pub at_gateway : List Act → node.GatewayEvent → Option node.Gateway → List Act
 at_gateway h e None = []
 at_gateway h e (Some c) = node.gw_block c h e
 
@@ -71,8 +71,8 @@ abbrev pub raised : Header → List Act → Bool → List Act
 raised header h true = looks h header.gateways
 raised header h false = []
 
-abbrev pub reads_clock : Header → List Act → ℕ → List Act
-reads_clock header h t = acts.Now (max t (clock h)) ∷ raised header (acts.Now (max t (clock h)) ∷ h) (nat_lt (clock h) t)
+abbrev pub clock_block : Header → List Act → ℕ → List Act
+clock_block header h t = acts.Now (max t (clock h)) ∷ raised header (acts.Now (max t (clock h)) ∷ h) (nat_lt (clock h) t)
 
 abbrev pub boots : List ℕ → Option node.Gateway → List Act
 boots g None = []
@@ -93,7 +93,7 @@ by_arrival header h (Some a) = arrives_at h a.1 (gateway_at header a.0)
 -- the acts of the gateways at an event
 abbrev pub gateway_acts : Shows → Header → List Act → Event → List Act
 gateway_acts shows header h (events.Let g o) = at_gateway h (node.Let o) (gateway_at header g)
-gateway_acts shows header h (events.Now t) = reads_clock header h t
+gateway_acts shows header h (events.Now t) = clock_block header h t
 gateway_acts shows header h (events.Boot g) = boots g (gateway_at header g)
 gateway_acts shows header h (events.Down g) = handles_at h (gateway_at header g) (next_request g h)
 gateway_acts shows header h (events.Wire g lane) = acts.Wire g lane (shows g lane h) ∷ []
@@ -101,20 +101,20 @@ gateway_acts shows header h e = by_arrival header h (arrival_of h e)
 
 -- ---- the controller
 
-abbrev pub answers : ℕ → Option Answer → Option controller.Event
-answers n None = None
-answers n (Some a) = Some (controller.Answers n a)
+abbrev pub answer_event : ℕ → Option Answer → Option controller.ControllerEvent
+answer_event n None = None
+answer_event n (Some a) = Some (controller.Answers n a)
 
-abbrev pub hears : ℕ → Option Notice → Option controller.Event
+abbrev pub hears : ℕ → Option Notice → Option controller.ControllerEvent
 hears n None = None
 hears n (Some t) = Some (controller.Notices n t)
 
 -- what comes to the controller at an event
-abbrev pub controller_event : List Peer → List Act → Event → Option controller.Event
-controller_event peers h (events.Open g) = Some (controller.Opens (controller_law.number_of g peers))
-controller_event peers h (events.Cut g) = Some (controller.Cuts (controller_law.number_of g peers))
-controller_event peers h (events.Up g) = answers (controller_law.number_of g peers) (next_answer g h)
-controller_event peers h (events.Note g) = hears (controller_law.number_of g peers) (next_notice g h)
+abbrev pub controller_event : List Peer → List Act → Event → Option controller.ControllerEvent
+controller_event peers h (events.Open g) = Some (controller.Opens (controller_law.peer_number g peers))
+controller_event peers h (events.Cut g) = Some (controller.Cuts (controller_law.peer_number g peers))
+controller_event peers h (events.Up g) = answer_event (controller_law.peer_number g peers) (next_answer g h)
+controller_event peers h (events.Note g) = hears (controller_law.peer_number g peers) (next_notice g h)
 controller_event peers h (events.Policy g list) = Some (controller.Told (commands.Policy g list))
 controller_event peers h (events.Tunnel spec) = Some (controller.Told (commands.Tunnel spec))
 controller_event peers h (events.End reqid) = Some (controller.Told (commands.End reqid))
@@ -122,12 +122,12 @@ controller_event peers h (events.Rekey reqid) = Some (controller.Told (commands.
 controller_event peers h (events.Keys key) = Some (controller.Told (commands.Keys key))
 controller_event peers h _ = None
 
-abbrev pub by_event : List Peer → List controller.Act → Option controller.Event → List controller.Act
+abbrev pub by_event : List Peer → List controller.ControllerAct → Option controller.ControllerEvent → List controller.ControllerAct
 by_event peers c None = []
 by_event peers c (Some e) = controller_law.block peers c e
 
 -- the controller's own acts at an event
-abbrev pub controller_acts : Header → Past → Event → List controller.Act
+abbrev pub controller_acts : Header → Past → Event → List controller.ControllerAct
 controller_acts header p e = by_event header.gateways p.controller (controller_event header.gateways p.world e)
 
 -- ---- blocks
@@ -152,13 +152,13 @@ abbrev pub is_forgery : List Act → List ℕ → Option node.Gateway → Bool
 is_forgery h o None = false
 is_forgery h o (Some c) = is_forged c.name c.address h o
 
-abbrev pub forges_at : Header → List Act → Option (List ℕ × List ℕ) → Bool
-forges_at header h None = false
-forges_at header h (Some a) = is_forgery h a.1 (gateway_at header a.0)
+abbrev pub is_forgery_at : Header → List Act → Option (List ℕ × List ℕ) → Bool
+is_forgery_at header h None = false
+is_forgery_at header h (Some a) = is_forgery h a.1 (gateway_at header a.0)
 
 -- the event is a forged arrival
-abbrev pub forges : Header → Past → Event → Bool
-forges header p e = forges_at header (took p.world) (arrival_of (took p.world) e)
+abbrev pub is_forgery : Header → Past → Event → Bool
+is_forgery header p e = is_forgery_at header (took p.world) (arrival_of (took p.world) e)
 
 abbrev pub unless_forged : Bool → List Act → List Act
 unless_forged true more = []
@@ -168,4 +168,4 @@ unless_forged false more = more
 abbrev pub history : Shows → Header → Past → List Event → List Act
 history shows header p [] = []
 history shows header p (e ∷ es) =
-    block shows header p e ++ unless_forged (forges header p e) (history shows header (past_after shows header p e) es)
+    block shows header p e ++ unless_forged (is_forgery header p e) (history shows header (past_after shows header p e) es)

@@ -3,11 +3,11 @@ use Rattle.std.specs.Prelude.{ℕ, ◌<◌, List, [], ◌∷◌, length}
 use Rattle.hist_acts.specs.declared.event.Event.{Event}
 use Rattle.hist_acts.specs.declared.event.Event.TheVariants as events
 use Rattle.hist_acts.specs.declared.event.Header.{Header}
-use Rattle.hist_controller.specs.Law.{number_of}
+use Rattle.hist_controller.specs.Law.{peer_number}
 
 -- a gateway of the header
 abbrev pub IsKnown : Header → List ℕ → Type 0
-IsKnown header g = number_of g header.gateways < length header.gateways
+IsKnown header g = peer_number g header.gateways < length header.gateways
 
 -- an event of the controller's with a gateway names one of the header
 abbrev pub IsEventOf : Header → Event → Type 0

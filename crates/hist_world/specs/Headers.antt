@@ -2,10 +2,10 @@
 use Rattle.std.specs.Prelude.{ℕ, ◌<◌, ◌^◌, length}
 use Rattle.ip_packet.specs.Outer.{AreOneFamily}
 use Rattle.hist_acts.specs.declared.event.Header.{Header}
-use Rattle.hist_controller.specs.Told.{Named, address_of}
+use Rattle.hist_controller.specs.Told.{Named, peer_address}
 
 pub record IsHeader (header : Header) : Type 0 where
   pub numbers : header.seq_last < 2 ^ 32
   pub named : Named header.gateways
   pub family : (f g : ℕ) → f < length header.gateways → g < length header.gateways
-      → AreOneFamily (address_of header.gateways f) (address_of header.gateways g)
+      → AreOneFamily (peer_address header.gateways f) (peer_address header.gateways g)

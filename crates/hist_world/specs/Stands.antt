@@ -5,17 +5,17 @@ use Rattle.hist_acts.specs.declared.act as happened
 use Rattle.hist_acts.specs.declared.event.Event.{Event}
 use Rattle.hist_acts.specs.declared.event.Header.{Header}
 use Rattle.hist_controller.specs.Acts as controller
-use Rattle.hist_controller.specs.Clauses.{IsPast, NotIdle}
+use Rattle.hist_controller.specs.Clauses.{IsControllerPast, NotIdle}
 use Rattle.hist_controller.specs.Table.{AllFit}
 use Rattle.hist_controller.specs.Told.{past_told}
 use Rattle.hist_safety.specs.Law.{IsLawful, is_ready}
-use Rattle.hist_world.specs.Block.{Past, Shows, forges, past_after}
+use Rattle.hist_world.specs.Block.{Past, Shows, is_forgery, past_after}
 use Rattle.hist_world.specs.Parts.{controllers_part}
 
 -- the controller's part of what happened is its own past, told; and each act of that may stand after those before it
-pub record Meet (peers : List Peer) (h : List happened.Act.Act) (c : List controller.Act) : Type 0 where
+pub record Meet (peers : List Peer) (h : List happened.Act.Act) (c : List controller.ControllerAct) : Type 0 where
   pub part : controllers_part h ≡ past_told peers c
-  pub past : IsPast (length peers) c
+  pub past : IsControllerPast (length peers) c
   pub fit : AllFit (length peers) c
 
 -- what happened is lawful and has no open question, the controller's part is its own past, and no direction of a tunnel
@@ -34,4 +34,4 @@ past_at shows header p (e ∷ es) = past_at shows header (past_after shows heade
 -- no arrival among these events is forged
 abbrev pub AreGenuine : Shows → Header → Past → List Event → Type 0
 AreGenuine shows header p [] = Unit {0}
-AreGenuine shows header p (e ∷ es) = (forges header p e ≡ false) × AreGenuine shows header (past_after shows header p e) es
+AreGenuine shows header p (e ∷ es) = (is_forgery header p e ≡ false) × AreGenuine shows header (past_after shows header p e) es

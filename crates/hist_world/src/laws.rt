@@ -5,13 +5,13 @@ ghost use Rattle.hist_acts.specs.declared.event.Header.{Header};
 ghost use Rattle.hist_acts.specs.Past.{after};
 ghost use Rattle.hist_halves.specs.Halves.{live};
 ghost use Rattle.hist_controller.specs.Acts.{Way};
-ghost use Rattle.hist_controller.specs.Counts.{lists};
+ghost use Rattle.hist_controller.specs.Counts.{lists_accepted};
 ghost use Rattle.hist_controller.specs.Halves.{PlainAnswers};
 ghost use Rattle.hist_controller.specs.Past.{left};
-ghost use Rattle.hist_controller.specs.Told.{name_of};
+ghost use Rattle.hist_controller.specs.Told.{peer_name};
 ghost use Rattle.hist_safety.specs.Law.{IsLawful};
 ghost use Rattle.hist_safety.specs.Safe.{Safe};
-ghost use Rattle.hist_world.specs.Block.{Past, Shows, forges, history, nothing, past_after};
+ghost use Rattle.hist_world.specs.Block.{Past, Shows, is_forgery, history, nothing, past_after};
 ghost use Rattle.hist_world.specs.Events.{AreEventsOf, IsEventOf, IsKnown};
 ghost use Rattle.hist_world.specs.Headers.{IsHeader};
 ghost use Rattle.hist_world.specs.Lists.{NeverBack, commanded, put_in_force};
@@ -38,7 +38,7 @@ pub fn is_every_history_safe()
 pub fn stands_between_events()
     ensures start { (header : Header) → Stands header nothing }
     ensures event { (shows : Shows) (header : Header) (p : Past) (e : Event) → IsHeader header → IsEventOf header e → Stands header p
-        → forges header p e ≡ false → Stands header (past_after shows header p e) }
+        → is_forgery header p e ≡ false → Stands header (past_after shows header p e) }
     ensures history { (shows : Shows) (header : Header) (events : List Event) → IsHeader header → AreEventsOf header events
         → AreGenuine shows header nothing events → Stands header (past_at shows header nothing events) }
     ensures past { (shows : Shows) (header : Header) (events : List Event) → AreGenuine shows header nothing events
@@ -68,9 +68,9 @@ pub fn few_halves_are_live()
 /// and at the end of every history, with a forged arrival or without.
 pub fn lists_never_go_back()
     ensures between { (header : Header) (p : Past) → IsHeader header → Stands header p → (g : ℕ) → g < length header.gateways
-        → NeverBack (lists g p.controller) (put_in_force (name_of header.gateways g) p.world) }
+        → NeverBack (lists_accepted g p.controller) (put_in_force (peer_name header.gateways g) p.world) }
     ensures accepted { (shows : Shows) (header : Header) (events : List Event) → IsHeader header → (g : ℕ) → g < length header.gateways
-        → lists g (past_at shows header nothing events).controller ≡ commanded (name_of header.gateways g) events }
+        → lists_accepted g (past_at shows header nothing events).controller ≡ commanded (peer_name header.gateways g) events }
     ensures history { (shows : Shows) (header : Header) (events : List Event) → IsHeader header → AreEventsOf header events → (g : List ℕ) → IsKnown header g
         → NeverBack (commanded g events) (put_in_force g (after [] (history shows header nothing events))) }
 {}

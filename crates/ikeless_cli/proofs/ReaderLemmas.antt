@@ -19,7 +19,7 @@ use Rattle.ikl_base.specs.declared.status.Status.TheVariants as statuses
 use Rattle.ikl_base.specs.declared.status.LineFault.{LineFault}
 use Rattle.ikl_base.specs.declared.status.LineFault.TheVariants as faults
 use Rattle.hist_acts.specs.Past.{events_taken}
-use Rattle.hist_clear.specs.Safe.{Safe}
+use Rattle.hist_clear.specs.Safe.{IsSafeInClear}
 use Rattle.hist_clear.proofs.SafeLemmas.{history_safe, events_taken-history}
 use Rattle.ikeless_cli.specs.Script.{HasNoLf, is_inside}
 use Rattle.ikeless_cli.specs.Run.{Taken, Ran, BrokeOff, Cause, Refuses, is_write_fault}
@@ -88,7 +88,7 @@ lines-length (Some w) lines events stands =
     let taken = stands.state.taken in
     omega (arith, all, more, counted, taken)
 
-acts-safe : (header : Option Header) (events : List Event) → Safe (after [] (acts_of header events))
+acts-safe : (header : Option Header) (events : List Event) → IsSafeInClear (after [] (acts_of header events))
 acts-safe None events = tt
 acts-safe (Some h) events = history_safe h.gateways [] events tt
 

@@ -9,7 +9,7 @@ use Rattle.ikl_base.specs.declared.status.LineFault.TheVariants as faults
 use Rattle.hist_acts.specs.declared.event.Event.{Event}
 use Rattle.hist_acts.specs.declared.event.Header.{Header}
 use Rattle.hist_acts.specs.Past.{after}
-use Rattle.hist_clear.specs.Safe.{Safe}
+use Rattle.hist_clear.specs.Safe.{IsSafeInClear}
 use Rattle.event_lines.specs.Header.{header_of}
 use Rattle.script_lines.specs.Text.{text_of}
 use Rattle.ikeless_cli.specs.Script.{HasNoLf, IsLine, AreLines, joined, line_event, IsScript, acts_of}
@@ -20,7 +20,7 @@ pub record Taken (input text : List ℕ) (header : Option Header) (lines : List 
   pub each : AreLines lines
   pub script : IsScript header lines events
   pub written : text ≡ text_of (acts_of header events)
-  pub safe : Safe (after [] (acts_of header events))
+  pub safe : IsSafeInClear (after [] (acts_of header events))
 
 -- the next line can't be taken, for this reason
 abbrev pub Refuses : Option Header → List ℕ → LineFault → Type 0

@@ -10,7 +10,7 @@ use Rattle.ikeless_tree.specs.declared.order.Answer.{Answer}
 use Rattle.ikeless_tree.specs.declared.order.Notice.{Notice}
 use Rattle.hist_acts.specs.declared.act.Act.{Act}
 use Rattle.hist_acts.specs.declared.act.Act.TheVariants as acts
-use Rattle.hist_acts.specs.Sessions.{openings, is_open, taken, is_session, orders, handled, answered, order_at, answer_at, notices, heard, next_request, next_answer, next_notice}
+use Rattle.hist_acts.specs.Sessions.{openings, is_open, session_taken, is_session, orders, handled, answered, order_at, answer_at, notices, notices_heard, next_request, next_answer, next_notice}
 use Rattle.session_pipe.specs.Sessions.{KeepsSessions}
 use Rattle.session_pipe.specs.Past.{requests, responses, lines}
 use Rattle.session_pipe.proofs.Names.{same_name, both_left, both_right, same_number, other_session, if_not}
@@ -29,13 +29,13 @@ opened_there : (f : List ℕ) (s : ℕ) (g : List ℕ) (h : List Act) → s ≡ 
 opened_there f s g h is e = is ∙ ap (λ name. openings name h + 1) (same_name f g e)
 
 -- the session taken is the last one opened, or none
-pub taken_last : (g : List ℕ) (h : List Act) → KeepsSessions h → (taken g h ≡ 0) ⊎ (taken g h ≡ openings g h)
+pub taken_last : (g : List ℕ) (h : List Act) → KeepsSessions h → (session_taken g h ≡ 0) ⊎ (session_taken g h ≡ openings g h)
 taken_last g [] l = inl refl
-taken_last g (acts.Opened f s ∷ h) l = last-opened (bytes_eq f g) s (taken g h) (openings g h) (opened_there f s g h l.0.1) (taken_last g h l.1)
-taken_last g (acts.Boot f ∷ h) l = last-boot (bytes_eq f g) (taken g h) (openings g h) (taken_last g h l.1)
+taken_last g (acts.Opened f s ∷ h) l = last-opened (bytes_eq f g) s (session_taken g h) (openings g h) (opened_there f s g h l.0.1) (taken_last g h l.1)
+taken_last g (acts.Boot f ∷ h) l = last-boot (bytes_eq f g) (session_taken g h) (openings g h) (taken_last g h l.1)
 taken_last g (_ ∷ h) l = taken_last g h l.1
 
-pub taken_bound : (g : List ℕ) (h : List Act) → KeepsSessions h → taken g h ≤ openings g h
+pub taken_bound : (g : List ℕ) (h : List Act) → KeepsSessions h → session_taken g h ≤ openings g h
 taken_bound g h l = let last = taken_last g h l in grind arith
 
 open-opened : (here b : Bool) (o : ℕ) → (b ≡ true → 0 < o) → (here || b) ≡ true → 0 < (if here then o + 1 else o)
@@ -67,7 +67,7 @@ no_requests request g s (acts.Order f t k o ∷ h) l p =
     ∙ no_requests request g s h l.1 p
 no_requests request g s (_ ∷ h) l p = no_requests request g s h l.1 p
 
-taken_below : (f g : List ℕ) (t s : ℕ) (h : List Act) → KeepsSessions h → t ≡ taken f h → openings g h < s → f ≡ g → t < s
+taken_below : (f g : List ℕ) (t s : ℕ) (h : List Act) → KeepsSessions h → t ≡ session_taken f h → openings g h < s → f ≡ g → t < s
 taken_below f g t s h l is q = let bound = taken_bound f h l in below f g t s h (omega (arith, bound, is)) q
 
 pub no_responses : (response : List Act → Answer → List ℕ) (g : List ℕ) (s : ℕ) (h : List Act) → KeepsSessions h → openings g h < s → responses response g s h ≡ []
@@ -206,10 +206,10 @@ one_taken : (here : Bool) (n m : ℕ) → n ≤ m → (here ≡ true → n < m) 
 one_taken true n m p q = let r = q refl in omega arith
 one_taken false n m p q = p
 
-request_there : (request : List Act → Order → List ℕ) (f : List ℕ) (t : ℕ) (o : Order) (h : List Act) → KeepsSessions h → t ≡ taken f h → next_request f h ≡ Some o → handled f t h < length (requests request f t h)
+request_there : (request : List Act → Order → List ℕ) (f : List ℕ) (t : ℕ) (o : Order) (h : List Act) → KeepsSessions h → t ≡ session_taken f h → next_request f h ≡ Some o → handled f t h < length (requests request f t h)
 request_there request f t o h l is e =
     let P : ℕ → Type 0 = λ n. handled f n h < length (requests request f n h) in
-    let n = taken f h in
+    let n = session_taken f h in
     let at = where_none (n == 0) (order_at f n (handled f n h + 1) h) o e in
     subst P (sym is) (place_within request (order_at f n (handled f n h + 1) h) o (requests request f n h) (handled f n h) at.1 (order_place request f n (handled f n h) h l))
 
@@ -263,17 +263,17 @@ notice_place line g s k [] = refl
 notice_place line g s k (acts.Notice f t n ∷ h) = notice_more line h n (is_session f t g s) (notices g s h) (lines line g s h) k (count_lines line g s h) (notice_place line g s k h)
 notice_place line g s k (_ ∷ h) = notice_place line g s k h
 
-notice_there : (line : List Act → Notice → List ℕ) (f : List ℕ) (t : ℕ) (n : Notice) (h : List Act) → t ≡ openings f h → next_notice f h ≡ Some n → heard f t h < length (lines line f t h)
+notice_there : (line : List Act → Notice → List ℕ) (f : List ℕ) (t : ℕ) (n : Notice) (h : List Act) → t ≡ openings f h → next_notice f h ≡ Some n → notices_heard f t h < length (lines line f t h)
 notice_there line f t n h is e =
-    let P : ℕ → Type 0 = λ s. heard f s h < length (lines line f s h) in
+    let P : ℕ → Type 0 = λ s. notices_heard f s h < length (lines line f s h) in
     let s = openings f h in
-    let at = else_none (is_open f h) (slice_get (notices f s h) (heard f s h)) n e in
-    subst P (sym is) (place_within line (slice_get (notices f s h) (heard f s h)) n (lines line f s h) (heard f s h) at.1 (notice_place line f s (heard f s h) h))
+    let at = else_none (is_open f h) (slice_get (notices f s h) (notices_heard f s h)) n e in
+    subst P (sym is) (place_within line (slice_get (notices f s h) (notices_heard f s h)) n (lines line f s h) (notices_heard f s h) at.1 (notice_place line f s (notices_heard f s h) h))
 
-pub heard_bound : (line : List Act → Notice → List ℕ) (g : List ℕ) (s : ℕ) (h : List Act) → KeepsSessions h → heard g s h ≤ length (lines line g s h)
+pub heard_bound : (line : List Act → Notice → List ℕ) (g : List ℕ) (s : ℕ) (h : List Act) → KeepsSessions h → notices_heard g s h ≤ length (lines line g s h)
 heard_bound line g s [] l = omega arith
-heard_bound line g s (acts.Notice f t n ∷ h) l = more_there (is_session f t g s) (heard g s h) (lines line g s h) (line h n) (heard_bound line g s h l.1)
+heard_bound line g s (acts.Notice f t n ∷ h) l = more_there (is_session f t g s) (notices_heard g s h) (lines line g s h) (line h n) (heard_bound line g s h l.1)
 heard_bound line g s (acts.Heard f t n ∷ h) l =
-    one_taken (is_session f t g s) (heard g s h) (length (lines line g s h)) (heard_bound line g s h l.1)
-    (λ e. there f t g s (λ a b. heard a b h < length (lines line a b h)) e (notice_there line f t n h l.0.0 l.0.1))
+    one_taken (is_session f t g s) (notices_heard g s h) (length (lines line g s h)) (heard_bound line g s h l.1)
+    (λ e. there f t g s (λ a b. notices_heard a b h < length (lines line a b h)) e (notice_there line f t n h l.0.0 l.0.1))
 heard_bound line g s (_ ∷ h) l = heard_bound line g s h l.1

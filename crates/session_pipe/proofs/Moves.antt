@@ -11,7 +11,7 @@ use Rattle.ikeless_tree.specs.declared.order.Notice.{Notice}
 use Rattle.ikeless_tree.specs.declared.order.Lane.TheVariants as lanes
 use Rattle.hist_acts.specs.declared.act.Act.{Act}
 use Rattle.hist_acts.specs.declared.act.Act.TheVariants as acts
-use Rattle.hist_acts.specs.Sessions.{openings, is_open, taken, handled, answered, order_at, answer_at, notices, heard, next_request, next_answer, next_notice}
+use Rattle.hist_acts.specs.Sessions.{openings, is_open, session_taken, handled, answered, order_at, answer_at, notices, notices_heard, next_request, next_answer, next_notice}
 use Rattle.session_pipe.specs.UnderWay.{UnderWay, after_open, after_cut, after_boot, after_push, after_take, next_message}
 use Rattle.session_pipe.specs.Sessions.{KeepsSessions}
 use Rattle.session_pipe.specs.Past.{requests, responses, lines, pipe_of, after_act, is_at}
@@ -142,51 +142,51 @@ pub moves : (request : List Act → Order → List ℕ) (response : List Act →
     → KeepsSessions (a ∷ h) → pipe_of request response line g (a ∷ h) ≡ (if is_at g a then after_act request response line a h (pipe_of request response line g h) else pipe_of request response line g h)
 moves request response line g (acts.Opened f s) h l =
     let number = named (λ n. s ≡ openings n h + 1) f g l.0.1 in
-    opened_moves (bytes_eq f g) (is_open g h) (openings g h) (taken g h) s
-    (λ n. drop (handled g n h) (requests request g n h)) (λ n. drop (answered g n h) (responses response g n h)) (λ n. drop (heard g n h) (lines line g n h))
+    opened_moves (bytes_eq f g) (is_open g h) (openings g h) (session_taken g h) s
+    (λ n. drop (handled g n h) (requests request g n h)) (λ n. drop (answered g n h) (responses response g n h)) (λ n. drop (notices_heard g n h) (lines line g n h))
     (named (λ n. is_open n h ≡ false) f g l.0.0) number
     (λ e. ap (drop (handled g s h)) (no_requests request g s h l.1 (above (openings g h) s (number e))) ∙ drop_none (handled g s h))
     (λ e. ap (drop (answered g (openings g h + 1) h)) (no_responses response g (openings g h + 1) h l.1 (above (openings g h) (openings g h + 1) refl)) ∙ drop_none (answered g (openings g h + 1) h))
-    (λ e. ap (drop (heard g (openings g h + 1) h)) (no_lines line g (openings g h + 1) h l.1 (above (openings g h) (openings g h + 1) refl)) ∙ drop_none (heard g (openings g h + 1) h))
+    (λ e. ap (drop (notices_heard g (openings g h + 1) h)) (no_lines line g (openings g h + 1) h l.1 (above (openings g h) (openings g h + 1) refl)) ∙ drop_none (notices_heard g (openings g h + 1) h))
 moves request response line g (acts.Cut f s) h l =
-    cut_moves (bytes_eq f g) (is_open g h) (not (taken g h == 0)) (openings g h) (if taken g h == 0 then [] else drop (handled g (taken g h) h) (requests request g (taken g h) h))
-    (drop (answered g (openings g h) h) (responses response g (openings g h) h)) (drop (heard g (openings g h) h) (lines line g (openings g h) h))
+    cut_moves (bytes_eq f g) (is_open g h) (not (session_taken g h == 0)) (openings g h) (if session_taken g h == 0 then [] else drop (handled g (session_taken g h) h) (requests request g (session_taken g h) h))
+    (drop (answered g (openings g h) h) (responses response g (openings g h) h)) (drop (notices_heard g (openings g h) h) (lines line g (openings g h) h))
     (named (λ n. is_open n h ≡ true) f g l.0.0)
 moves request response line g (acts.Boot f) h l =
-    boot_moves (bytes_eq f g) (is_open g h) (openings g h) (taken g h) (λ n. drop (handled g n h) (requests request g n h))
+    boot_moves (bytes_eq f g) (is_open g h) (openings g h) (session_taken g h) (λ n. drop (handled g n h) (requests request g n h))
     (if is_open g h then drop (answered g (openings g h) h) (responses response g (openings g h) h) else [])
-    (if is_open g h then drop (heard g (openings g h) h) (lines line g (openings g h) h) else [])
+    (if is_open g h then drop (notices_heard g (openings g h) h) (lines line g (openings g h) h) else [])
 moves request response line g (acts.Order f s k o) h l =
-    order_moves (bytes_eq f g) (is_open g h) (taken g h == 0) (s == taken g h) (openings g h) (handled g (taken g h) h) (requests request g (taken g h) h)
+    order_moves (bytes_eq f g) (is_open g h) (session_taken g h == 0) (s == session_taken g h) (openings g h) (handled g (session_taken g h) h) (requests request g (session_taken g h) h)
     (if is_open g h then drop (answered g (openings g h) h) (responses response g (openings g h) h) else [])
-    (if is_open g h then drop (heard g (openings g h) h) (lines line g (openings g h) h) else []) (request h o)
+    (if is_open g h then drop (notices_heard g (openings g h) h) (lines line g (openings g h) h) else []) (request h o)
     (named (λ n. is_open n h ≡ true) f g l.0.0)
-    (λ e. is_last s (taken g h) (openings g h) (named (λ n. s ≡ openings n h) f g l.0.1 e) (taken_last g h l.1))
-    (handled_bound request g (taken g h) h l.1)
+    (λ e. is_last s (session_taken g h) (openings g h) (named (λ n. s ≡ openings n h) f g l.0.1 e) (taken_last g h l.1))
+    (handled_bound request g (session_taken g h) h l.1)
 moves request response line g (acts.Handled f s k a) h l =
-    let next = where_none (taken f h == 0) (order_at f (taken f h) (handled f (taken f h) h + 1) h) l.0.2.0 l.0.2.1 in
-    let some = named (λ n. (taken n h == 0) ≡ false) f g next.0 in
-    let own = named (λ n. s ≡ taken n h) f g l.0.0 in
-    handled_moves (bytes_eq f g) (is_open g h) (taken g h == 0) (s == taken g h) (s == openings g h) (openings g h) (handled g (taken g h) h) (answered g (openings g h) h)
-    (requests request g (taken g h) h) (responses response g (openings g h) h)
-    (if is_open g h then drop (heard g (openings g h) h) (lines line g (openings g h) h) else []) (response h a)
-    some (λ e. is_equal s (taken g h) (own e)) (λ e. is_own s (taken g h) (openings g h) (own e) (taken_last g h l.1) (some e)) (answered_bound response g (openings g h) h l.1)
+    let next = where_none (session_taken f h == 0) (order_at f (session_taken f h) (handled f (session_taken f h) h + 1) h) l.0.2.0 l.0.2.1 in
+    let some = named (λ n. (session_taken n h == 0) ≡ false) f g next.0 in
+    let own = named (λ n. s ≡ session_taken n h) f g l.0.0 in
+    handled_moves (bytes_eq f g) (is_open g h) (session_taken g h == 0) (s == session_taken g h) (s == openings g h) (openings g h) (handled g (session_taken g h) h) (answered g (openings g h) h)
+    (requests request g (session_taken g h) h) (responses response g (openings g h) h)
+    (if is_open g h then drop (notices_heard g (openings g h) h) (lines line g (openings g h) h) else []) (response h a)
+    some (λ e. is_equal s (session_taken g h) (own e)) (λ e. is_own s (session_taken g h) (openings g h) (own e) (taken_last g h l.1) (some e)) (answered_bound response g (openings g h) h l.1)
 moves request response line g (acts.Answered f s k a) h l =
     let next = else_none (is_open f h) (answer_at f (openings f h) (answered f (openings f h) h + 1) h) a l.0.2 in
-    answered_moves (bytes_eq f g) (is_open g h) (not (taken g h == 0)) (s == openings g h) (openings g h) (answered g (openings g h) h)
-    (if taken g h == 0 then [] else drop (handled g (taken g h) h) (requests request g (taken g h) h))
-    (responses response g (openings g h) h) (if is_open g h then drop (heard g (openings g h) h) (lines line g (openings g h) h) else [])
+    answered_moves (bytes_eq f g) (is_open g h) (not (session_taken g h == 0)) (s == openings g h) (openings g h) (answered g (openings g h) h)
+    (if session_taken g h == 0 then [] else drop (handled g (session_taken g h) h) (requests request g (session_taken g h) h))
+    (responses response g (openings g h) h) (if is_open g h then drop (notices_heard g (openings g h) h) (lines line g (openings g h) h) else [])
     (named (λ n. is_open n h ≡ true) f g next.0) (λ e. is_equal s (openings g h) (named (λ n. s ≡ openings n h) f g l.0.0 e))
 moves request response line g (acts.Notice f s n) h l =
-    let own = named (λ m. s ≡ taken m h) f g l.0 in
-    notice_moves (bytes_eq f g) (is_open g h) (taken g h == 0) (s == openings g h) (openings g h) (heard g (openings g h) h)
-    (if taken g h == 0 then [] else drop (handled g (taken g h) h) (requests request g (taken g h) h))
+    let own = named (λ m. s ≡ session_taken m h) f g l.0 in
+    notice_moves (bytes_eq f g) (is_open g h) (session_taken g h == 0) (s == openings g h) (openings g h) (notices_heard g (openings g h) h)
+    (if session_taken g h == 0 then [] else drop (handled g (session_taken g h) h) (requests request g (session_taken g h) h))
     (if is_open g h then drop (answered g (openings g h) h) (responses response g (openings g h) h) else []) (lines line g (openings g h) h) (line h n)
-    (λ e b. is_own s (taken g h) (openings g h) (own e) (taken_last g h l.1)) (λ e b. is_other s (taken g h) (openings g h) (own e) (open_some g h l.1 b)) (heard_bound line g (openings g h) h l.1)
+    (λ e b. is_own s (session_taken g h) (openings g h) (own e) (taken_last g h l.1)) (λ e b. is_other s (session_taken g h) (openings g h) (own e) (open_some g h l.1 b)) (heard_bound line g (openings g h) h l.1)
 moves request response line g (acts.Heard f s n) h l =
-    let next = else_none (is_open f h) (slice_get (notices f (openings f h) h) (heard f (openings f h) h)) n l.0.1 in
-    heard_moves (bytes_eq f g) (is_open g h) (not (taken g h == 0)) (s == openings g h) (openings g h) (heard g (openings g h) h)
-    (if taken g h == 0 then [] else drop (handled g (taken g h) h) (requests request g (taken g h) h))
+    let next = else_none (is_open f h) (slice_get (notices f (openings f h) h) (notices_heard f (openings f h) h)) n l.0.1 in
+    heard_moves (bytes_eq f g) (is_open g h) (not (session_taken g h == 0)) (s == openings g h) (openings g h) (notices_heard g (openings g h) h)
+    (if session_taken g h == 0 then [] else drop (handled g (session_taken g h) h) (requests request g (session_taken g h) h))
     (if is_open g h then drop (answered g (openings g h) h) (responses response g (openings g h) h) else []) (lines line g (openings g h) h)
     (named (λ m. is_open m h ≡ true) f g next.0) (λ e. is_equal s (openings g h) (named (λ m. s ≡ openings m h) f g l.0.0 e))
 moves request response line g (_) h l = refl
@@ -216,7 +216,7 @@ next_where message false value xs p = refl
 pub request_next : (request : List Act → Order → List ℕ) (response : List Act → Answer → List ℕ) (line : List Act → Notice → List ℕ) (g : List ℕ) (h : List Act) → KeepsSessions h
     → IsNext request (next_request g h) (next_message lanes.Down (pipe_of request response line g h))
 request_next request response line g h l =
-    let t = taken g h in let n = handled g t h in
+    let t = session_taken g h in let n = handled g t h in
     next_unless request (t == 0) (order_at g t (n + 1) h) (drop n (requests request g t h)) (next_place request (order_at g t (n + 1) h) (requests request g t h) n (order_place request g t n h l))
 
 pub answer_next : (request : List Act → Order → List ℕ) (response : List Act → Answer → List ℕ) (line : List Act → Notice → List ℕ) (g : List ℕ) (h : List Act) → KeepsSessions h
@@ -228,5 +228,5 @@ answer_next request response line g h l =
 pub notice_next : (request : List Act → Order → List ℕ) (response : List Act → Answer → List ℕ) (line : List Act → Notice → List ℕ) (g : List ℕ) (h : List Act) → KeepsSessions h
     → IsNext line (next_notice g h) (next_message lanes.Note (pipe_of request response line g h))
 notice_next request response line g h l =
-    let s = openings g h in let n = heard g s h in
+    let s = openings g h in let n = notices_heard g s h in
     next_where line (is_open g h) (slice_get (notices g s h) n) (drop n (lines line g s h)) (next_place line (slice_get (notices g s h) n) (lines line g s h) n (notice_place line g s n h))

@@ -8,7 +8,7 @@ use Rattle.ikeless_tree.specs.declared.order.Notice.{Notice}
 use Rattle.ikeless_tree.specs.declared.order.Lane.TheVariants as lanes
 use Rattle.hist_acts.specs.declared.act.Act.{Act}
 use Rattle.hist_acts.specs.declared.act.Act.TheVariants as acts
-use Rattle.hist_acts.specs.Sessions.{openings, is_open, taken, is_session, handled, answered, heard}
+use Rattle.hist_acts.specs.Sessions.{openings, is_open, session_taken, is_session, handled, answered, notices_heard}
 use Rattle.session_pipe.specs.UnderWay.{UnderWay, after_open, after_cut, after_boot, after_push, after_take}
 
 -- the messages of the orders of a session, of its answers and of its notices, oldest first
@@ -33,10 +33,10 @@ abbrev pub pipe_of : (List Act → Order → List ℕ) → (List Act → Answer 
 pipe_of request response line g h = record {
   openings = openings g h;
   is_open = is_open g h;
-  is_taken = not (taken g h == 0);
-  down = if taken g h == 0 then [] else drop (handled g (taken g h) h) (requests request g (taken g h) h);
+  is_taken = not (session_taken g h == 0);
+  down = if session_taken g h == 0 then [] else drop (handled g (session_taken g h) h) (requests request g (session_taken g h) h);
   up = if is_open g h then drop (answered g (openings g h) h) (responses response g (openings g h) h) else [];
-  note = if is_open g h then drop (heard g (openings g h) h) (lines line g (openings g h) h) else [];
+  note = if is_open g h then drop (notices_heard g (openings g h) h) (lines line g (openings g h) h) else [];
 }
 
 -- what the calls of an act at the gateway make of its pipe: a handled request is taken, and its answer pushed
