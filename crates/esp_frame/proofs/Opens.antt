@@ -1,4 +1,4 @@
--- `opened` and `packet_of` are exact, and what is sealed opens.
+-- `opened` and `inner_packet` are exact, and what is sealed opens.
 use Rattle.std.proofs.Common.{◌≡◌, ℕ, ◌+◌, ◌-◌, ◌<◌, ◌≤◌, ◌^◌, ◌&&◌, Bool, true, false, cond, leb, List, ◌++◌, Option, Some, None, Ok, Err, MatchOption, length, get_or, take, drop, refl, ap, sym, ◌∙◌, arith, Decides, length-append, length-drop, length-take, append_assoc}
 use Rattle.std.specs.Prelude.{slice_index, slice_range, bit_xor}
 use Rattle.std.specs.Int.{w32, w64, to_be_bytes, from_be_bytes}
@@ -13,7 +13,7 @@ use Rattle.std.proofs.lemmas.Nat.{from_be_bytes-to_be_bytes_4}
 use Rattle.gcm_seal.specs.Gcm.{sealed, stream, tag_of}
 use Rattle.gcm_seal.proofs.Texts.{sealed_twice}
 use Rattle.esp_frame.specs.Esp.{EspOpens, Inner, Keying, NoInner, aad_of, esp, esp_len, icv_of, iv_of, pad_len, padded, padding, seq_of, spi_of, text_of, with_text}
-use Rattle.esp_frame.specs.Open.{NoText, Packet, by_packet, by_text, left_by, open_leaves, open_result, opened, packet_of}
+use Rattle.esp_frame.specs.Open.{NoText, InnerPacket, by_packet, by_text, left_by, open_leaves, open_result, opened, inner_packet}
 use Rattle.esp_frame.specs.declared.frame.OpenFault.TheVariants.{Padding, Short, Tag}
 use Rattle.esp_frame.proofs.Frames.{aad_is, icv_is, iv_is, text_is}
 use Rattle.esp_frame.proofs.Trailers.{inner_found, length-padded, next_at, packet_at, pad_len_at, pads_at}
@@ -95,7 +95,7 @@ packet_decides x =
     (Decides-and (leb 2 (length x)) (leb (pad_at x) (end x)) (Decides-leb 2 (length x)) (Decides-leb (pad_at x) (end x)))
     (bytes_eq-Decides (pads x) (padding (pad_at x)))
 
-abbrev packet_in : List ℕ → Packet
+abbrev packet_in : List ℕ → InnerPacket
 packet_in x = record { next = slice_index x (length x - 1); octets = take (end x - pad_at x) x }
 
 read_pad : (x : List ℕ) (i : ℕ) → i < pad_at x → pad_at x ≤ end x → get_or (pads x) i 0 ≡ get_or x (end x - pad_at x + i) 0
@@ -122,23 +122,23 @@ to_trailed x p next inner =
           ∙ sym (get_or-range_with_len 1 (pad_at x) i 0 small ∙ omega arith)),
     )
 
-pub packet_is : (x : List ℕ) → MatchOption (packet_of x) (NoInner x) (λ p. Inner x p.next p.octets)
-unfolding packet_of
+pub packet_is : (x : List ℕ) → MatchOption (inner_packet x) (NoInner x) (λ p. Inner x p.next p.octets)
+unfolding inner_packet
 packet_is x =
     let d = packet_decides x in
     chosen (packet_test x) (packet_in x) (NoInner x) (λ p. Inner x p.next p.octets) (λ e. from_trailed x (d.0 e))
     (λ e. λ next p inner. refuted (packet_test x) d e (to_trailed x p next inner))
 
-pub packet_finds : (x p : List ℕ) (next : ℕ) → Inner x next p → packet_of x ≡ Some (record { next = next; octets = p })
-unfolding packet_of
+pub packet_finds : (x p : List ℕ) (next : ℕ) → Inner x next p → inner_packet x ≡ Some (record { next = next; octets = p })
+unfolding inner_packet
 packet_finds x p next inner =
     let t = to_trailed x p next inner in
     let same = inner_once x (take (end x - pad_at x) x) p (slice_index x (length x - 1)) next (from_trailed x t) inner in
     let goal : packet_in x ≡ record { next = next; octets = p } = (λ i. record { next = same.0 i; octets = same.1 i }) in
     chosen_true (packet_test x) (packet_in x) (record { next = next; octets = p }) ((packet_decides x).1 t) goal
 
-pub packet_none : (x : List ℕ) → NoInner x → packet_of x ≡ None
-packet_none x none = none_found (packet_of x) (NoInner x) (λ p. Inner x p.next p.octets) (packet_is x) (λ p inner. none p.next p.octets inner)
+pub packet_none : (x : List ℕ) → NoInner x → inner_packet x ≡ None
+packet_none x none = none_found (inner_packet x) (NoInner x) (λ p. Inner x p.next p.octets) (packet_is x) (λ p inner. none p.next p.octets inner)
 
 -- ---- what is sealed
 length-sealed : (e : List ℕ → List ℕ) (nonce x : List ℕ) → length (sealed e nonce x) ≡ length x

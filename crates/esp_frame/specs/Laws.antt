@@ -3,7 +3,7 @@ use Rattle.std.specs.Prelude.{◌≡◌, ℕ, ◌^◌, ◌<◌, List, ◌++◌, 
 use Rattle.std.specs.Int.{w64, to_be_bytes}
 use Rattle.gcm_seal.specs.Gcm.{sealed}
 use Rattle.esp_frame.specs.Esp.{EspOpens, Inner, Keying, NoInner, esp, esp_len, iv_of, pad_len, padded, seq_of, spi_of, text_of}
-use Rattle.esp_frame.specs.Open.{NoText, opened, packet_of}
+use Rattle.esp_frame.specs.Open.{NoText, opened, inner_packet}
 
 -- what `seal` writes opens, and to the packet with the least padding
 abbrev pub SealedOpens : Type 0
@@ -24,7 +24,7 @@ OpensOnce = (k : Keying) (b x : List ℕ) → EspOpens k b x → x ≡ sealed k.
 abbrev pub InnerOnce : Type 0
 InnerOnce = (x p p' : List ℕ) (next next' : ℕ) → Inner x next p → Inner x next' p' → (next ≡ next') × (p ≡ p')
 
--- `opened` is the text that b opens to, and `packet_of` the packet that a text has
+-- `opened` is the text that b opens to, and `inner_packet` the packet that a text has
 abbrev pub OpenedIs : Type 0
 OpenedIs = (k : Keying) (b : List ℕ) → MatchOption (opened k b) (NoText k b) (EspOpens k b)
 
@@ -32,7 +32,7 @@ abbrev pub OpenedFinds : Type 0
 OpenedFinds = (k : Keying) (b x : List ℕ) → EspOpens k b x → opened k b ≡ Some x
 
 abbrev pub PacketIs : Type 0
-PacketIs = (x : List ℕ) → MatchOption (packet_of x) (NoInner x) (λ p. Inner x p.next p.octets)
+PacketIs = (x : List ℕ) → MatchOption (inner_packet x) (NoInner x) (λ p. Inner x p.next p.octets)
 
 abbrev pub PacketFinds : Type 0
-PacketFinds = (x p : List ℕ) (next : ℕ) → Inner x next p → packet_of x ≡ Some (record { next = next; octets = p })
+PacketFinds = (x p : List ℕ) (next : ℕ) → Inner x next p → inner_packet x ≡ Some (record { next = next; octets = p })

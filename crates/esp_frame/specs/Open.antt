@@ -17,13 +17,13 @@ opened k b =
     if nat_le 34 (length b) && bytes_eq (icv_of b) (tag_of k.cipher (k.salt ++ iv_of b) (aad_of b) (text_of b))
     then Some (sealed k.cipher (k.salt ++ iv_of b) (text_of b)) else None
 
-pub record Packet : Type 0 where
+pub record InnerPacket : Type 0 where
   pub next : ℕ
   pub octets : List ℕ
 
 -- the next header and the packet in a text
-unfoldable pub packet_of : List ℕ → Option Packet
-packet_of x =
+unfoldable pub inner_packet : List ℕ → Option InnerPacket
+inner_packet x =
     let n : ℕ = length x - 2 in
     let q : ℕ = slice_index x n in
     if nat_le 2 (length x) && nat_le q n && bytes_eq (slice_range x (n - q) n) (padding q)
@@ -31,13 +31,13 @@ packet_of x =
 
 -- ---- `open`
 
-abbrev pub by_packet : Option Packet → Result Opened OpenFault
+abbrev pub by_packet : Option InnerPacket → Result Opened OpenFault
 by_packet None = Err Padding
 by_packet (Some p) = Ok (record { next = p.next; start = 16; end = 16 + length p.octets })
 
 abbrev pub by_text : List ℕ → Option (List ℕ) → Result Opened OpenFault
 by_text b None = Err (if nat_lt (length b) 34 then Short else Tag)
-by_text b (Some x) = by_packet (packet_of x)
+by_text b (Some x) = by_packet (inner_packet x)
 
 -- what `open` answers
 abbrev pub open_result : Keying → List ℕ → Result Opened OpenFault

@@ -129,15 +129,15 @@ fits-inner g e n next p (Ok v) =
     fits-if (not (arrive.is_told_version next p)) (acts.Drop g why.Inner) (if holds_packet e.selector In v then acts.Gave g e.name n p else acts.Drop g why.Selector) refl
     (fits-if (holds_packet e.selector In v) (acts.Gave g e.name n p) (acts.Drop g why.Selector) refl refl)
 
-fits-packet : (g : List ℕ) (e : SadEntry) (n : ℕ) (p : Option esp.Packet) → is_arrival_answer (arrive.by_packet g e n p) ≡ true
+fits-packet : (g : List ℕ) (e : SadEntry) (n : ℕ) (p : Option esp.InnerPacket) → is_arrival_answer (arrive.by_packet g e n p) ≡ true
 fits-packet g e n None = refl
 fits-packet g e n (Some p) = fits-if (p.next == 59) (acts.Drop g why.Dummy) (arrive.by_inner g e n p.next p.octets (view_of p.octets)) refl (fits-inner g e n p.next p.octets (view_of p.octets))
 
 in-text : (g : List ℕ) (h : List Act) (e : SadEntry) (n : ℕ) (x : Option (List ℕ)) → is_answered_by is_arrival_answer (arrive.by_text g h e n x) ≡ true
 in-text g h e n None = refl
 in-text g h e n (Some x) =
-    let a : Act = arrive.by_packet g e n (esp.packet_of x) in
-    first-of is_arrival_answer a (look g (a ∷ h) (e ∷ [])) (fits-packet g e n (esp.packet_of x)) (some-look g (a ∷ h) (e ∷ []))
+    let a : Act = arrive.by_packet g e n (esp.inner_packet x) in
+    first-of is_arrival_answer a (look g (a ∷ h) (e ∷ [])) (fits-packet g e n (esp.inner_packet x)) (some-look g (a ∷ h) (e ∷ []))
 
 in-verdict : (g b : List ℕ) (h : List Act) (e : SadEntry) (n : ℕ) (w : Verdict) → is_answered_by is_arrival_answer (arrive.by_verdict g h b e n w) ≡ true
 in-verdict g b h e n verdicts.Zero = refl

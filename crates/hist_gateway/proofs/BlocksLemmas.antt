@@ -156,19 +156,19 @@ use-inner : (g p : List ℕ) (e : SadEntry) (n next : ℕ) (r : Result Packet No
 use-inner g p e n next (Err fault) = inr (why.Inner, refl, refl)
 use-inner g p e n next (Ok v) = use-version g p e n v (not (arrive.is_told_version next p))
 
-use-dummy : (g : List ℕ) (e : SadEntry) (n : ℕ) (p : esp.Packet) (b : Bool) →
+use-dummy : (g : List ℕ) (e : SadEntry) (n : ℕ) (p : esp.InnerPacket) (b : Bool) →
     UseAct g e n (if b then acts.Drop g why.Dummy else arrive.by_inner g e n p.next p.octets (view_of p.octets))
 use-dummy g e n p true = inr (why.Dummy, refl, refl)
 use-dummy g e n p false = use-inner g p.octets e n p.next (view_of p.octets)
 
-use-packet : (g : List ℕ) (e : SadEntry) (n : ℕ) (p : Option esp.Packet) → UseAct g e n (arrive.by_packet g e n p)
+use-packet : (g : List ℕ) (e : SadEntry) (n : ℕ) (p : Option esp.InnerPacket) → UseAct g e n (arrive.by_packet g e n p)
 use-packet g e n None = inr (why.Padding, refl, refl)
 use-packet g e n (Some p) = use-dummy g e n p (p.next == 59)
 
 in-text : (g o : List ℕ) (h : List Act) (e : SadEntry) (n : ℕ) (text : Option (List ℕ)) → arrival g h ≡ Some o → is_for e.name (live g h) (Some o) ≡ true →
     in_by_text g (state_of g h) o (half_of g h e) n text ≡ arrive.by_text g h e n text
 in-text g o h e n None came mine = refl
-in-text g o h e n (Some x) came mine = use-look g o h e n (arrive.by_packet g e n (esp.packet_of x)) came mine (use-packet g e n (esp.packet_of x))
+in-text g o h e n (Some x) came mine = use-look g o h e n (arrive.by_packet g e n (esp.inner_packet x)) came mine (use-packet g e n (esp.inner_packet x))
 
 in-verdict : (g o b : List ℕ) (h : List Act) (e : SadEntry) (n : ℕ) (w : Verdict) → arrival g h ≡ Some o → is_for e.name (live g h) (Some o) ≡ true →
     in_by_verdict g (state_of g h) o b (half_of g h e) n w ≡ arrive.by_verdict g h b e n w

@@ -184,7 +184,7 @@ not-false true e = refl
 not-false false e = cc
 
 may-inner : (q : Gateway) (h : List Act) (g : List ℕ) (came : OpensArrival q h g) (n : ℕ) (p : List ℕ) (next : ℕ) (r : Result Packet NotPacket) →
-    n ≡ number_of came.half (numbers_taken g came.half.name h) came.outer.payload → esp.packet_of came.text ≡ Some (record { next = next; octets = p }) → view_of p ≡ r →
+    n ≡ number_of came.half (numbers_taken g came.half.name h) came.outer.payload → esp.inner_packet came.text ≡ Some (record { next = next; octets = p }) → view_of p ≡ r →
     GatewayMayAct q h (arrive.by_inner g came.half n next p r)
 may-inner q h g came n p next (Err fault) number packet seen = came
 may-inner q h g came n p next (Ok w) number packet seen =
@@ -194,8 +194,8 @@ may-inner q h g came n p next (Ok w) number packet seen =
     (λ held. record { opens = came; inner = w; next = next; name = refl; number = number; packet = packet; inner_view = seen; version = not-false (arrive.is_told_version next p) told; held = held })
     (λ _. came))
 
-may-packet : (q : Gateway) (h : List Act) (g : List ℕ) (came : OpensArrival q h g) (n : ℕ) (p : Option esp.Packet) →
-    n ≡ number_of came.half (numbers_taken g came.half.name h) came.outer.payload → esp.packet_of came.text ≡ p → GatewayMayAct q h (arrive.by_packet g came.half n p)
+may-packet : (q : Gateway) (h : List Act) (g : List ℕ) (came : OpensArrival q h g) (n : ℕ) (p : Option esp.InnerPacket) →
+    n ≡ number_of came.half (numbers_taken g came.half.name h) came.outer.payload → esp.inner_packet came.text ≡ p → GatewayMayAct q h (arrive.by_packet g came.half n p)
 may-packet q h g came n None number packet = came
 may-packet q h g came n (Some p) number packet =
     follow-if q h (p.next == 59) (acts.Drop g why.Dummy) (arrive.by_inner g came.half n p.next p.octets (view_of p.octets)) (λ _. came)
@@ -208,9 +208,9 @@ may-text : (q : Gateway) (h older : List Act) (g o : List ℕ) (v : Packet) (e :
 may-text q h older g o v e None before seen own spi fresh op = (tt, tt)
 may-text q h older g o v e (Some x) before seen own spi fresh op =
     let n : ℕ = number_of e (numbers_taken g e.name h) v.payload in
-    let a : Act = arrive.by_packet g e n (esp.packet_of x) in
+    let a : Act = arrive.by_packet g e n (esp.inner_packet x) in
     let came : OpensArrival q h g = record { older = older; octets = o; outer = v; half = e; text = x; before = before; view = seen; own = own; spi = spi; fresh = fresh; opened = op } in
-    (may-packet q h g came n (esp.packet_of x) refl refl, all-plain q (a ∷ h) (look g (a ∷ h) (e ∷ [])) (says-look g (a ∷ h) (e ∷ [])))
+    (may-packet q h g came n (esp.inner_packet x) refl refl, all-plain q (a ∷ h) (look g (a ∷ h) (e ∷ [])) (says-look g (a ∷ h) (e ∷ [])))
 
 may-verdict : (q : Gateway) (h older : List Act) (g o : List ℕ) (v : Packet) (e : SadEntry) (w : Verdict) → h ≡ acts.Arrived g o ∷ older → view_of o ≡ Ok v →
     arrive.is_sealed_for q.address v ≡ true → by_spi (spi_of v.payload) (live g h) ≡ Some e →

@@ -135,15 +135,15 @@ one-inner g e n next p (Ok v) =
     one-if g (not (arrive.is_told_version next p)) (acts.Drop g why.Inner) (if holds_packet e.selector In v then acts.Gave g e.name n p else acts.Drop g why.Selector) (mine g)
     (one-if g (holds_packet e.selector In v) (acts.Gave g e.name n p) (acts.Drop g why.Selector) (mine g) (mine g))
 
-one-packet : (g : List ℕ) (e : SadEntry) (n : ℕ) (p : Option esp.Packet) → is_strange g (arrive.by_packet g e n p) ≡ false
+one-packet : (g : List ℕ) (e : SadEntry) (n : ℕ) (p : Option esp.InnerPacket) → is_strange g (arrive.by_packet g e n p) ≡ false
 one-packet g e n None = mine g
 one-packet g e n (Some p) = one-if g (p.next == 59) (acts.Drop g why.Dummy) (arrive.by_inner g e n p.next p.octets (view_of p.octets)) (mine g) (one-inner g e n p.next p.octets (view_of p.octets))
 
 own-text : (g : List ℕ) (h : List Act) (e : SadEntry) (n : ℕ) (x : Option (List ℕ)) → own g (arrive.by_text g h e n x)
 own-text g h e n None = own-drop g why.Auth [] refl
 own-text g h e n (Some x) =
-    let a : Act = arrive.by_packet g e n (esp.packet_of x) in
-    own-first g a (look g (a ∷ h) (e ∷ [])) (one-packet g e n (esp.packet_of x)) (own-look g (a ∷ h) (e ∷ []))
+    let a : Act = arrive.by_packet g e n (esp.inner_packet x) in
+    own-first g a (look g (a ∷ h) (e ∷ [])) (one-packet g e n (esp.inner_packet x)) (own-look g (a ∷ h) (e ∷ []))
 
 own-verdict : (g b : List ℕ) (h : List Act) (e : SadEntry) (n : ℕ) (w : Verdict) → own g (arrive.by_verdict g h b e n w)
 own-verdict g b h e n verdicts.Zero = own-drop g why.Zero [] refl

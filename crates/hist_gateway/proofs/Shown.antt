@@ -253,7 +253,7 @@ unfolding reply
 shown_put = refl
 
 shown_gave : Opens in_1 → gw_block gateway_b put_1 (Arrive datagram_1) ≡ acts.Arrived b datagram_1 ∷ acts.Gave b (codes "in/1") 1 packet_6 ∷ []
-unfolding arrive.arrive_acts view_of upper_of holds_packet esp.packet_of
+unfolding arrive.arrive_acts view_of upper_of holds_packet esp.inner_packet
 shown_gave opens = ap (λ text. acts.Arrived b datagram_1 ∷ arrive.by_text b (acts.Arrived b datagram_1 ∷ put_1) in_1 1 text) opens
 
 abbrev gave_1 : List Act
@@ -272,7 +272,7 @@ put_once = acts.Handled b 1 1 (done 201) ∷ acts.Put b in_once ∷ acts.Opened 
 
 shown_ended : Opens in_once → gw_block gateway_b put_once (Arrive datagram_1)
     ≡ acts.Arrived b datagram_1 ∷ acts.Gave b (codes "in/1") 1 packet_6 ∷ acts.Gone b (codes "in/1") gone.Hard ∷ acts.Notice b 1 (notices.Expire (codes "in/1") false (limits 0 88 1 0)) ∷ []
-unfolding arrive.arrive_acts view_of upper_of holds_packet esp.packet_of
+unfolding arrive.arrive_acts view_of upper_of holds_packet esp.inner_packet
 shown_ended opens = ap (λ text. acts.Arrived b datagram_1 ∷ arrive.by_text b (acts.Arrived b datagram_1 ∷ put_once) in_once 1 text) opens
 
 shown_after : gw_block gateway_b (acts.Gone b (codes "in/1") gone.Hard ∷ acts.Gave b (codes "in/1") 1 packet_6 ∷ acts.Arrived b datagram_1 ∷ put_once) (Arrive datagram_1)
@@ -289,7 +289,7 @@ put_other = acts.Put b in_other ∷ []
 
 shown_selector : Opens in_other → gw_block gateway_b put_other (Arrive datagram_1)
     ≡ acts.Arrived b datagram_1 ∷ acts.Drop b why.Selector ∷ acts.Notice b 0 (notices.Expire (codes "in/1") true (limits 0 88 1 0)) ∷ []
-unfolding arrive.arrive_acts view_of upper_of holds_packet esp.packet_of
+unfolding arrive.arrive_acts view_of upper_of holds_packet esp.inner_packet
 shown_selector opens = ap (λ text. acts.Arrived b datagram_1 ∷ arrive.by_text b (acts.Arrived b datagram_1 ∷ put_other) in_other 1 text) opens
 
 shown_taken : gw_block gateway_b (acts.Drop b why.Selector ∷ acts.Arrived b datagram_1 ∷ put_other) (Arrive datagram_1) ≡ acts.Arrived b datagram_1 ∷ acts.Drop b why.Seen ∷ []
@@ -303,7 +303,7 @@ shown_auth fails = ap (λ text. acts.Arrived b datagram_1 ∷ arrive.by_text b (
 
 shown_again : Opens in_1 → gw_block gateway_b (acts.Drop b why.Auth ∷ acts.Arrived b datagram_1 ∷ put_1) (Arrive datagram_1)
     ≡ acts.Arrived b datagram_1 ∷ acts.Gave b (codes "in/1") 1 packet_6 ∷ []
-unfolding arrive.arrive_acts view_of upper_of holds_packet esp.packet_of
+unfolding arrive.arrive_acts view_of upper_of holds_packet esp.inner_packet
 shown_again opens = ap (λ text. acts.Arrived b datagram_1 ∷ arrive.by_text b (acts.Arrived b datagram_1 ∷ acts.Drop b why.Auth ∷ acts.Arrived b datagram_1 ∷ put_1) in_1 1 text) opens
 
 -- ---- numbers that aren't fresh, and octets that are too few

@@ -50,7 +50,7 @@ by_inner g e n next p (Ok v) =
     else if holds_packet e.selector In v then acts.Gave g e.name n p
     else acts.Drop g why.Selector
 
-abbrev pub by_packet : List ℕ → SadEntry → ℕ → Option esp.Packet → Act
+abbrev pub by_packet : List ℕ → SadEntry → ℕ → Option esp.InnerPacket → Act
 by_packet g e n None = acts.Drop g why.Padding
 by_packet g e n (Some p) = if p.next == 59 then acts.Drop g why.Dummy else by_inner g e n p.next p.octets (view_of p.octets)
 
@@ -59,7 +59,7 @@ by_packet g e n (Some p) = if p.next == 59 then acts.Drop g why.Dummy else by_in
 -- the text that the octets open to; its number is taken, whatever is found in it
 abbrev pub by_text : List ℕ → List Act → SadEntry → ℕ → Option (List ℕ) → List Act
 by_text g h e n None = drops g why.Auth
-by_text g h e n (Some x) = use_acts g h e (by_packet g e n (esp.packet_of x))
+by_text g h e n (Some x) = use_acts g h e (by_packet g e n (esp.inner_packet x))
 
 abbrev pub by_verdict : List ℕ → List Act → List ℕ → SadEntry → ℕ → Verdict → List Act
 by_verdict g h b e n verdicts.Zero = drops g why.Zero

@@ -96,7 +96,7 @@ uses_of g s o x n a = a ∷ look_of g s.session s.clock (take_number s.clock (oc
 
 abbrev pub in_by_text : List ℕ → GatewayState → List ℕ → Half → ℕ → Option (List ℕ) → List Act
 in_by_text g s o x n None = arrive.drops g why.Auth
-in_by_text g s o x n (Some text) = uses_of g s o x n (arrive.by_packet g x.entry n (esp.packet_of text))
+in_by_text g s o x n (Some text) = uses_of g s o x n (arrive.by_packet g x.entry n (esp.inner_packet text))
 
 abbrev pub in_by_verdict : List ℕ → GatewayState → List ℕ → List ℕ → Half → ℕ → Verdict → List Act
 in_by_verdict g s o b x n verdicts.Zero = arrive.drops g why.Zero

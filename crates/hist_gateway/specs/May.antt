@@ -91,7 +91,7 @@ pub record IsOpenedArrival (c : Gateway) (h : List Act) (g x : List ℕ) (n : �
   pub next : ℕ
   pub name : x ≡ opens.half.name
   pub number : n ≡ number_of opens.half (numbers_taken g x h) opens.outer.payload
-  pub packet : esp.packet_of opens.text ≡ Some (record { next = next; octets = p })
+  pub packet : esp.inner_packet opens.text ≡ Some (record { next = next; octets = p })
   pub inner_view : view_of p ≡ Ok inner
   pub version : is_told_version next p ≡ true
   pub held : holds_packet opens.half.selector In inner ≡ true
@@ -224,7 +224,7 @@ pub record IsDelivery (c : Gateway) (h : List Act) (o : List ℕ) (outer inner :
   pub spi : by_spi (spi_of outer.payload) (live c.name h) ≡ Some e
   pub fresh : verdict_over e.window (numbers_taken c.name e.name h) (number_of e (numbers_taken c.name e.name h) outer.payload) ≡ verdicts.Fresh
   pub opened : esp.opened (keying e.spi e.key) outer.payload ≡ Some text
-  pub packet : esp.packet_of text ≡ Some (record { next = next; octets = p })
+  pub packet : esp.inner_packet text ≡ Some (record { next = next; octets = p })
   pub inner_view : view_of p ≡ Ok inner
   pub version : is_told_version next p ≡ true
   pub held : holds_packet e.selector In inner ≡ true

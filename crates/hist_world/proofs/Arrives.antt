@@ -103,12 +103,12 @@ opens-at k b x (Some y) m e = let s : y ≡ x = grind (arith, e) in subst (EspOp
 opens-to : (k : Keying) (b x : List ℕ) → esp.opened k b ≡ Some x → EspOpens k b x
 opens-to k b x e = opens-at k b x (esp.opened k b) (opened_is k b) e
 
-inner-at : (x : List ℕ) (p : esp.Packet) (found : Option esp.Packet) → MatchOption found (NoInner x) (λ q. Inner x q.next q.octets) → found ≡ Some p → Inner x p.next p.octets
+inner-at : (x : List ℕ) (p : esp.InnerPacket) (found : Option esp.InnerPacket) → MatchOption found (NoInner x) (λ q. Inner x q.next q.octets) → found ≡ Some p → Inner x p.next p.octets
 inner-at x p None m e = cc
-inner-at x p (Some q) m e = let s : q ≡ p = grind (arith, e) in subst (λ (z : esp.Packet). Inner x z.next z.octets) s m
+inner-at x p (Some q) m e = let s : q ≡ p = grind (arith, e) in subst (λ (z : esp.InnerPacket). Inner x z.next z.octets) s m
 
-inner-of : (x : List ℕ) (p : esp.Packet) → esp.packet_of x ≡ Some p → Inner x p.next p.octets
-inner-of x p e = inner-at x p (esp.packet_of x) (packet_is x) e
+inner-of : (x : List ℕ) (p : esp.InnerPacket) → esp.inner_packet x ≡ Some p → Inner x p.next p.octets
+inner-of x p e = inner-at x p (esp.inner_packet x) (packet_is x) e
 
 -- ---- no forged arrival
 
@@ -216,7 +216,7 @@ inner-answer g e n next p (Ok v) = told-answer (is_told_version next p) (holds_p
   told-answer true false = refl
   told-answer false b = refl
 
-packet-answer : (g : List ℕ) (e : SadEntry) (n : ℕ) (found : Option esp.Packet) → ArriveAnswer g (by_packet g e n found)
+packet-answer : (g : List ℕ) (e : SadEntry) (n : ℕ) (found : Option esp.InnerPacket) → ArriveAnswer g (by_packet g e n found)
 packet-answer g e n None = refl
 packet-answer g e n (Some p) = dummy-answer (p.next == 59) (inner-answer g e n p.next p.octets (view_of p.octets)) where
   dummy-answer : (b : Bool) → ArriveAnswer g (by_inner g e n p.next p.octets (view_of p.octets)) → ArriveAnswer g (if b then acts.Drop g why.Dummy else by_inner g e n p.next p.octets (view_of p.octets))
@@ -226,8 +226,8 @@ packet-answer g e n (Some p) = dummy-answer (p.next == 59) (inner-answer g e n p
 text-shape : (g : List ℕ) (h : List Act) (e : SadEntry) (n : ℕ) (found : Option (List ℕ)) → Shaped (ArriveAnswer g) (by_text g h e n found)
 text-shape g h e n None = shaped (ArriveAnswer g) (acts.Drop g why.Auth) [] refl refl
 text-shape g h e n (Some x) =
-    let a : Act = by_packet g e n (esp.packet_of x) in
-    shaped (ArriveAnswer g) a (look g (a ∷ h) (e ∷ [])) (packet-answer g e n (esp.packet_of x)) (look-follows g (a ∷ h) (e ∷ []))
+    let a : Act = by_packet g e n (esp.inner_packet x) in
+    shaped (ArriveAnswer g) a (look g (a ∷ h) (e ∷ [])) (packet-answer g e n (esp.inner_packet x)) (look-follows g (a ∷ h) (e ∷ []))
 
 verdict-shape : (g : List ℕ) (h : List Act) (b : List ℕ) (e : SadEntry) (n : ℕ) (v : Verdict) → Shaped (ArriveAnswer g) (by_verdict g h b e n v)
 verdict-shape g h b e n verdicts.Zero = shaped (ArriveAnswer g) (acts.Drop g why.Zero) [] refl refl

@@ -8,7 +8,7 @@ use Rattle.ip_packet.specs.View.{view_of}
 use Rattle.ikeless_tree.specs.declared.reply.DropWhy.TheVariants as why
 use Rattle.gcm_seal.specs.Gcm.{sealed, tag_of}
 use Rattle.esp_frame.specs.Esp.{Keying, aad_of, esp, iv_of, keying, seq_of, spi_of, text_of}
-use Rattle.esp_frame.specs.Open.{opened, packet_of}
+use Rattle.esp_frame.specs.Open.{opened, inner_packet}
 use Rattle.esp_frame.proofs.Opens.{opened_none}
 use Rattle.spd_match.specs.Match.{holds_packet}
 use Rattle.hist_acts.specs.declared.act.Act.{Act}
@@ -110,7 +110,7 @@ abbrev pub after_given_then : Past
 after_given_then = record { world = after after_refused_tag.world given_then_acts; controller = after_refused_tag.controller }
 
 pub given_then-goes : (shows : Shows) → Goes shows (two greatest) after_refused_tag given_then given_then_acts after_given_then
-unfolding view_of upper_of holds_packet packet_of packet_6 behind_a behind_b
+unfolding view_of upper_of holds_packet inner_packet packet_6 behind_a behind_b
 given_then-goes shows =
     gives shows after_refused_tag (events.ArriveSent b 1) (sent out1 1) out1 in1 1 (acts.Gave b (codes "in/1") 1 packet_6 ∷ []) (record { acts = refl; none = refl; test = refl }) carries1
     (record { found = refl; key = refl; sealed = was-sealed out1 1 1 (sent out1 1) (codes "out/1") a (acts.Let a packet_6 ∷ acts.Took 24 ∷ after_second_outbound.world) carries1 }) refl refl
@@ -160,7 +160,7 @@ abbrev pub after_routed : Past
 after_routed = record { world = after after_let_in.world routed_acts; controller = after_let_in.controller }
 
 pub routed-goes : (shows : Shows) → Goes shows (two greatest) after_let_in routed routed_acts after_routed
-unfolding with_ttl view_of datagram outer_header esp sealed tag_of keying packet_6 upper_of holds_packet packet_of behind_a behind_b
+unfolding with_ttl view_of datagram outer_header esp sealed tag_of keying packet_6 upper_of holds_packet inner_packet behind_a behind_b
 routed-goes shows =
     gives shows after_let_in (events.ArriveTtl b 1 61) routed_on out1 in1 1 (acts.Gave b (codes "in/1") 1 packet_6 ∷ []) (record { acts = refl; none = refl; test = refl }) (record { view = refl; long = refl; spi = refl; number = refl })
     (record { found = refl; key = refl; sealed = was-sealed out1 1 1 (sent out1 1) (codes "out/1") a (acts.Let a packet_6 ∷ acts.Took 24 ∷ after_second_outbound.world) carries1 }) refl refl

@@ -10,7 +10,7 @@ use Rattle.ikeless_tree.specs.declared.reply.GoneWhy.TheVariants as gone
 use Rattle.reply_table.specs.Reply.{reply}
 use Rattle.gcm_seal.specs.Gcm.{sealed, tag_of}
 use Rattle.esp_frame.specs.Esp.{esp, keying}
-use Rattle.esp_frame.specs.Open.{packet_of}
+use Rattle.esp_frame.specs.Open.{inner_packet}
 use Rattle.spd_match.specs.Match.{holds_packet}
 use Rattle.hist_acts.specs.declared.act.Act.{Act}
 use Rattle.hist_acts.specs.declared.act.Act.TheVariants as acts
@@ -136,7 +136,7 @@ abbrev pub after_new_given : Past
 after_new_given = record { world = after after_retired.world new_given_acts; controller = after_retired.controller }
 
 pub new_given-goes : (shows : Shows) → Goes shows (two greatest) after_retired new_given new_given_acts after_new_given
-unfolding view_of upper_of holds_packet packet_of packet_6 behind_a behind_b
+unfolding view_of upper_of holds_packet inner_packet packet_6 behind_a behind_b
 new_given-goes shows =
     gives shows after_retired (events.ArriveSent b 3) (sent out3 1) out3 in3 1 (acts.Gave b (codes "in/3") 1 packet_6 ∷ []) (record { acts = refl; none = refl; test = refl }) carries3
     (record { found = refl; key = refl; sealed = was-sealed out3 1 1 (sent out3 1) (codes "out/3") a (acts.Let a packet_6 ∷ acts.Took 33 ∷ after_renewed.world) carries3 }) refl refl
@@ -152,7 +152,7 @@ abbrev pub after_old_given : Past
 after_old_given = record { world = after after_new_given.world old_given_acts; controller = after_new_given.controller }
 
 pub old_given-goes : (shows : Shows) → Goes shows (two greatest) after_new_given old_given old_given_acts after_old_given
-unfolding view_of upper_of holds_packet packet_of packet_6 behind_a behind_b
+unfolding view_of upper_of holds_packet inner_packet packet_6 behind_a behind_b
 old_given-goes shows =
     gives shows after_new_given (events.ArriveSent b 2) (sent out1 2) out1 in1 2 (acts.Gave b (codes "in/1") 2 packet_6 ∷ []) (record { acts = refl; none = refl; test = refl }) carries2
     (record { found = refl; key = refl; sealed = was-sealed out1 2 2 (sent out1 2) (codes "out/1") a (acts.Let a packet_6 ∷ acts.Took 31 ∷ after_expired.world) carries2 }) refl refl
