@@ -28,7 +28,7 @@ use Rattle.hist_controller.specs.Told.{Named, peer_name}
 use Rattle.hist_controller.proofs.Policies.{lists-right}
 use Rattle.hist_controller.proofs.Transcript.{order-told}
 use Rattle.hist_safety.proofs.Basics.{no, not-true, name-is, name-true}
-use Rattle.hist_world.specs.Block.{Past, Shows, arrives_at, block, controller_acts, is_forgery, gateway_at, history, is_forgery, past_after, unless_forged}
+use Rattle.hist_world.specs.Block.{Past, Shows, arrives_at, block, controller_acts, gateway_at, history, past_after, unless_forged, is_forgery, is_forged_event}
 use Rattle.hist_world.specs.Block as whole
 use Rattle.hist_world.specs.Arrivals.{is_forged}
 use Rattle.hist_world.specs.Events.{AreEventsOf}
@@ -188,7 +188,7 @@ forged-at g w o (Some c) e = by (is_forged c.name c.address w o) e where
   by false e = absurd (no e)
 
 -- a forged arrival puts no list in force
-forged-lists : (shows : Shows) (header : Header) (p : Past) (e : Event) (g : List ℕ) → is_forgery header p e ≡ true → put_in_force g (world_past.after p.world (block shows header p e)) ≡ put_in_force g p.world
+forged-lists : (shows : Shows) (header : Header) (p : Past) (e : Event) (g : List ℕ) → is_forged_event header p e ≡ true → put_in_force g (world_past.after p.world (block shows header p e)) ≡ put_in_force g p.world
 forged-lists shows header p (events.Arrive f o) g e = forged-at g (whole.took p.world) o (gateway_at header f) e
 forged-lists shows header p (events.ArriveSent f k) g e = forged-at g (whole.took p.world) _ (gateway_at header f) e
 forged-lists shows header p (events.ArriveFlip f k offset bit) g e = forged-at g (whole.took p.world) _ (gateway_at header f) e
@@ -198,11 +198,11 @@ forged-lists shows header p a g e = absurd (no e)
 history-from : (shows : Shows) (header : Header) (p : Past) (es : List Event) (g : ℕ) → IsHeader header → AreEventsOf header es → Stands header p → g < length header.gateways
     → NeverBack (lists_accepted g p.controller ++ commanded (peer_name header.gateways g) es) (put_in_force (peer_name header.gateways g) (world_past.after p.world (history shows header p es)))
 history-from shows header p [] g i k s m = stand-more 0 (lists_accepted g p.controller) [] _ (between header p i s g m)
-history-from shows header p (e ∷ es) g i k s m = by (is_forgery header p e) refl (λ t. history-from shows header (past_after shows header p e) es g i k.1 t m) where
+history-from shows header p (e ∷ es) g i k s m = by (is_forged_event header p e) refl (λ t. history-from shows header (past_after shows header p e) es g i k.1 t m) where
   name : List ℕ
   name = peer_name header.gateways g
 
-  by : (b : Bool) → is_forgery header p e ≡ b
+  by : (b : Bool) → is_forged_event header p e ≡ b
       → (Stands header (past_after shows header p e) → NeverBack (lists_accepted g (past_after shows header p e).controller ++ commanded (peer_name header.gateways g) es)
       (put_in_force (peer_name header.gateways g) (world_past.after (past_after shows header p e).world (history shows header (past_after shows header p e) es))))
       → NeverBack (lists_accepted g p.controller ++ commanded (peer_name header.gateways g) (e ∷ es))

@@ -25,11 +25,10 @@ use Rattle.hist_gateway.specs.Block as node
 use Rattle.hist_gateway.specs.Let.{unless}
 use Rattle.hist_gateway.specs.Look.{tells}
 use Rattle.hist_gateway.specs.Stands.{does_bad_spi_stand}
-use Rattle.hist_controller.specs.Past as controller_past
 use Rattle.hist_controller.specs.Told.{all_told}
 use Rattle.hist_safety.proofs.Basics.{and-false, both-left, both-right, no}
 use Rattle.hist_world.specs.Arrivals.{does_open, is_esp_forged, is_forged, is_fresh, is_half_forged, is_view_forged}
-use Rattle.hist_world.specs.Block.{Past, Shows, arrives_at, block, controller_acts, is_forgery, gateway_acts, history, past_after, took, unless_forged}
+use Rattle.hist_world.specs.Block.{Past, Shows, arrives_at, block, controller_acts, gateway_acts, history, past_after, took, unless_forged, is_forged_event}
 use Rattle.hist_world.specs.Stands.{AreGenuine, past_at}
 
 -- these events have these acts after what happened, leave this, and no arrival among them is forged
@@ -69,7 +68,7 @@ and-then {shows = shows} {header = header} {p = p} {r = r} {es = es} {fs = fs} {
 
 -- a forged arrival ends the history
 pub ends : {shows : Shows} {header : Header} {p q : Past} {es : List Event} {xs : List Act} (e : Event) (fs : List Event) (ys : List Act) → Goes shows header p es xs q
-    → is_forgery header q e ≡ true → block shows header q e ≡ ys → history shows header p (es ++ e ∷ fs) ≡ xs ++ ys
+    → is_forged_event header q e ≡ true → block shows header q e ≡ ys → history shows header p (es ++ e ∷ fs) ≡ xs ++ ys
 ends {shows = shows} {header = header} {p = p} {q = q} {es = es} {xs = xs} e fs ys a f w =
     let more : List Act = history shows header (past_after shows header q e) fs in
     let last : history shows header q (e ∷ fs) ≡ ys = ap (λ b. block shows header q e ++ unless_forged b more) f ∙ append-nil (block shows header q e) ∙ w in
@@ -88,21 +87,21 @@ by-genuine h o c xs f e = ap (λ b. if b then acts.Arrived c.name o ∷ [] else 
 pub record Comes (shows : Shows) (header : Header) (p : Past) (e : Event) (c : node.Gateway) (o : List ℕ) : Type 0 where
   pub acts : gateway_acts shows header (took p.world) e ≡ arrives_at (took p.world) o (Some c)
   pub none : controller_acts header p e ≡ []
-  pub test : is_forgery header p e ≡ is_forged c.name c.address (took p.world) o
+  pub test : is_forged_event header p e ≡ is_forged c.name c.address (took p.world) o
 
 pub arrives : (shows : Shows) (header : Header) (p : Past) (e : Event) (c : node.Gateway) (o : List ℕ) (xs : List Act) → Comes shows header p e c o
     → is_forged c.name c.address (took p.world) o ≡ false → node.gw_block c (took p.world) (node.Arrive o) ≡ xs
     → Goes shows header p (e ∷ []) (acts.Took (events_taken p.world + 1) ∷ xs) (arrived p xs)
 arrives shows header p e c o xs m f w =
     let h : List Act = took p.world in
-    let genuine : is_forgery header p e ≡ false = m.test ∙ f in
+    let genuine : is_forged_event header p e ≡ false = m.test ∙ f in
     let first : gateway_acts shows header h e ≡ xs = m.acts ∙ by-genuine h o c xs f w in
     let all : gateway_acts shows header h e ++ all_told header.gateways (controller_acts header p e) ≡ xs =
     ap (λ z. z ++ all_told header.gateways (controller_acts header p e)) first ∙ ap (λ z. xs ++ all_told header.gateways z) m.none ∙ append-nil xs in
     let own : block shows header p e ≡ acts.Took (events_taken p.world + 1) ∷ xs = ap (λ z. acts.Took (events_taken p.world + 1) ∷ z) all in
     record {
       acts = ap (λ b. block shows header p e ++ unless_forged b []) genuine ∙ append-nil (block shows header p e) ∙ own;
-      past = (λ i. record { world = after p.world (own i); controller = controller_past.after p.controller (m.none i) });
+      past = (λ i. record { world = after p.world (own i); controller = after p.controller (m.none i) });
       genuine = (genuine, tt);
     }
 
@@ -186,7 +185,7 @@ is_quiet (events.ArriveFlip g k offset bit) = false
 is_quiet (events.ArriveTtl g k ttl) = false
 is_quiet _ = true
 
-quiet-one : (header : Header) (p : Past) (e : Event) → is_quiet e ≡ true → is_forgery header p e ≡ false
+quiet-one : (header : Header) (p : Past) (e : Event) → is_quiet e ≡ true → is_forged_event header p e ≡ false
 quiet-one header p (events.Arrive g o) q = absurd (no q)
 quiet-one header p (events.ArriveSent g k) q = absurd (no q)
 quiet-one header p (events.ArriveFlip g k offset bit) q = absurd (no q)

@@ -23,7 +23,6 @@ use Rattle.hist_gateway.specs.Rows.{tree_of}
 use Rattle.hist_gateway.proofs.MayLemmas.{may-arrive, may-let}
 use Rattle.hist_controller.specs.Acts as controller
 use Rattle.hist_controller.specs.Law.{peer_number}
-use Rattle.hist_controller.specs.Past as controller_past
 use Rattle.hist_controller.specs.Told.{all_told, peer_name}
 use Rattle.hist_controller.proofs.Turns.{idle-block}
 use Rattle.hist_safety.specs.Carried.{address_in, address_of}
@@ -31,7 +30,7 @@ use Rattle.hist_safety.specs.Law.{IsLawful, AllMayHappen, is_ready}
 use Rattle.hist_safety.proofs.Basics.{no, name-is, some-is}
 use Rattle.hist_safety.proofs.Blocks.{lawful-after}
 use Rattle.hist_world.specs.Arrivals.{flipped, is_forged, sent_at}
-use Rattle.hist_world.specs.Block.{Past, Shows, arrival_of, arrives_at, at_gateway, block, boots, by_arrival, by_event, controller_acts, controller_event, is_forgery, is_forgery_at, gateway_acts, gateway_at, handles_at, history, is_forgery, looks, nothing, past_after, raised, clock_block, took, unless_forged, with_peer}
+use Rattle.hist_world.specs.Block.{Past, Shows, arrival_of, arrives_at, at_gateway, block, boots, by_arrival, by_event, controller_acts, controller_event, is_forged_event_at, gateway_acts, gateway_at, handles_at, history, looks, nothing, past_after, raised, clock_block, took, unless_forged, with_peer, is_forgery, is_forged_event}
 use Rattle.hist_world.specs.Events.{AreEventsOf, IsEventOf, IsKnown}
 use Rattle.hist_world.specs.Headers.{IsHeader}
 use Rattle.hist_world.specs.Parts.{controllers_part}
@@ -131,7 +130,7 @@ boot-fits header g w (Some c) r = record { may = (r, tt); ready = refl; own = re
 -- a block that may happen, and after it what holds again
 pub record Step (header : Header) (p : Past) (xs : List Act) (cs : List controller.ControllerAct) : Type 0 where
   pub may : AllMayHappen header.gateways p.world xs
-  pub stands : Stands header (record { world = after p.world xs; controller = controller_past.after p.controller cs })
+  pub stands : Stands header (record { world = after p.world xs; controller = after p.controller cs })
 
 took-meet : (header : Header) (p : Past) → Stands header p → Meet header.gateways (took p.world) p.controller
 took-meet header p s = record { part = s.meet.part; past = s.meet.past; fit = s.meet.fit }
@@ -187,7 +186,7 @@ name-number g (p ∷ ps) i = name-case (bytes_eq p.name g) g p ps (name-is p.nam
 -- ---- each event
 
 answer-event : (header : Header) (p : Past) (g : List ℕ) (a : Option Answer) → IsHeader header → IsKnown header g → Stands header p → next_answer g p.world ≡ a
-    → Step header p (acts.Took (events_taken p.world + 1) ∷ all_told header.gateways (by_event header.gateways p.controller (Rattle.hist_world.specs.Block.answers (peer_number g header.gateways) a))) (by_event header.gateways p.controller (Rattle.hist_world.specs.Block.answers (peer_number g header.gateways) a))
+    → Step header p (acts.Took (events_taken p.world + 1) ∷ all_told header.gateways (by_event header.gateways p.controller (Rattle.hist_world.specs.Block.answer_event (peer_number g header.gateways) a))) (by_event header.gateways p.controller (Rattle.hist_world.specs.Block.answer_event (peer_number g header.gateways) a))
 answer-event header p g None i k s e = nothing-done header p s
 answer-event header p g (Some a) i k s e =
     let n : ℕ = peer_number g header.gateways in
@@ -205,7 +204,7 @@ told-event : (header : Header) (p : Past) (c : _) → IsHeader header → Stands
     → Step header p (acts.Took (events_taken p.world + 1) ∷ all_told header.gateways (by_event header.gateways p.controller (Some (controller.Told c)))) (by_event header.gateways p.controller (Some (controller.Told c)))
 told-event header p c i s = of-controller header p (controller.Told c) i s (block-goes header.gateways (took p.world) p.controller (controller.Told c) i.named i.family refl (took-meet header p s) tt tt)
 
-pub step : (shows : Shows) (header : Header) (p : Past) (e : Event) → IsHeader header → IsEventOf header e → Stands header p → is_forgery header p e ≡ false
+pub step : (shows : Shows) (header : Header) (p : Past) (e : Event) → IsHeader header → IsEventOf header e → Stands header p → is_forged_event header p e ≡ false
     → Step header p (block shows header p e) (controller_acts header p e)
 step shows header p (events.Let g o) i k s n = of-gateways header p _ s (let-fits header g o (took p.world) (gateway_at header g) refl i (s.ready, s.lawful) refl)
 step shows header p (events.Arrive g o) i k s n = of-gateways header p _ s (arrive-fits header g o (took p.world) (gateway_at header g) refl n refl)
@@ -245,7 +244,7 @@ forged-at gs w o (Some c) e r = forged-case gs c w o (is_forged c.name c.address
 forged-block : (header : Header) (p : Past) (xs : List Act) → Stands header p → AllMayHappen header.gateways (took p.world) xs → AllMayHappen header.gateways p.world (acts.Took (events_taken p.world + 1) ∷ (xs ++ []))
 forged-block header p xs s m = (s.ready, subst (AllMayHappen header.gateways (took p.world)) (sym (append-nil xs)) m)
 
-forged-step : (shows : Shows) (header : Header) (p : Past) (e : Event) → Stands header p → is_forgery header p e ≡ true → AllMayHappen header.gateways p.world (block shows header p e)
+forged-step : (shows : Shows) (header : Header) (p : Past) (e : Event) → Stands header p → is_forged_event header p e ≡ true → AllMayHappen header.gateways p.world (block shows header p e)
 forged-step shows header p (events.Arrive g o) s f = forged-block header p _ s (forged-at header.gateways (took p.world) o (gateway_at header g) f refl)
 forged-step shows header p (events.ArriveSent g m) s f = forged-block header p _ s (forged-at header.gateways (took p.world) (sent_at m (took p.world)) (gateway_at header g) f refl)
 forged-step shows header p (events.ArriveFlip g m offset bit) s f = forged-block header p _ s (forged-at header.gateways (took p.world) (flipped offset bit (sent_at m (took p.world))) (gateway_at header g) f refl)
@@ -264,8 +263,8 @@ start header = record { lawful = tt; ready = refl; meet = record { part = refl; 
 pub lawful-history : (shows : Shows) (header : Header) (p : Past) (es : List Event) → IsHeader header → AreEventsOf header es → Stands header p
     → IsLawful header.gateways (after p.world (history shows header p es))
 lawful-history shows header p [] i k s = s.lawful
-lawful-history shows header p (e ∷ es) i k s = lawful-case (is_forgery header p e) refl (λ t. lawful-history shows header (past_after shows header p e) es i k.1 t) where
-  lawful-case : (b : Bool) → is_forgery header p e ≡ b
+lawful-history shows header p (e ∷ es) i k s = lawful-case (is_forged_event header p e) refl (λ t. lawful-history shows header (past_after shows header p e) es i k.1 t) where
+  lawful-case : (b : Bool) → is_forged_event header p e ≡ b
       → (Stands header (past_after shows header p e) → IsLawful header.gateways (after (past_after shows header p e).world (history shows header (past_after shows header p e) es)))
       → IsLawful header.gateways (after p.world (block shows header p e ++ unless_forged b (history shows header (past_after shows header p e) es)))
   lawful-case true f ih =

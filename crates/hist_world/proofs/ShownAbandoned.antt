@@ -11,7 +11,6 @@ use Rattle.hist_acts.specs.declared.event.Event.TheVariants as events
 use Rattle.hist_acts.specs.Past.{after}
 use Rattle.hist_controller.specs.Acts as own
 use Rattle.hist_controller.specs.Acts.{in_name, out_name}
-use Rattle.hist_controller.specs.Past as controller_past
 use Rattle.hist_world.specs.Block.{Past, Shows, history, nothing}
 use Rattle.hist_world.proofs.Goes.{Goes, and-then, quiet}
 use Rattle.hist_world.proofs.Shown.{b, list_b, plain, refused, two, greatest}
@@ -37,7 +36,7 @@ cut_off_own =
     ∷ own.Answered 1 2 1 (plain 200) ∷ own.Ordered 1 2 3 (own.RemoveIn 1) ∷ []
 
 abbrev pub after_cut_off : Past
-after_cut_off = record { world = after after_begun.world cut_off_acts; controller = controller_past.after after_begun.controller cut_off_own }
+after_cut_off = record { world = after after_begun.world cut_off_acts; controller = after after_begun.controller cut_off_own }
 
 pub cut_off-goes : (shows : Shows) → Goes shows (two greatest) after_begun cut_off cut_off_acts after_cut_off
 unfolding reply in_name out_name digits

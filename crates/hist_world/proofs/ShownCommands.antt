@@ -13,7 +13,6 @@ use Rattle.hist_acts.specs.declared.event.Event.TheVariants as events
 use Rattle.hist_acts.specs.Past.{after}
 use Rattle.hist_controller.specs.Acts as own
 use Rattle.hist_controller.specs.Acts.{in_name, out_name}
-use Rattle.hist_controller.specs.Past as controller_past
 use Rattle.hist_world.specs.Block.{Past, Shows, history, nothing}
 use Rattle.hist_world.proofs.Goes.{Goes, and-then, quiet}
 use Rattle.hist_world.proofs.ShownAcquire.{alone, ten_one, ten_two}
@@ -74,7 +73,7 @@ ended_own =
     ∷ own.Answered 0 1 6 (plain 204) ∷ own.Ordered 1 1 7 (own.RemoveIn 1) ∷ []
 
 abbrev pub after_ended : Past
-after_ended = record { world = after after_second_outbound.world ended_acts; controller = controller_past.after after_second_outbound.controller ended_own }
+after_ended = record { world = after after_second_outbound.world ended_acts; controller = after after_second_outbound.controller ended_own }
 
 pub ended-goes : (shows : Shows) → Goes shows (two greatest) after_second_outbound ended ended_acts after_ended
 unfolding reply in_name out_name digits key1 key2 key3 key4

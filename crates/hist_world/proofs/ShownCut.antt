@@ -12,7 +12,6 @@ use Rattle.hist_acts.specs.declared.event.Event.TheVariants as events
 use Rattle.hist_acts.specs.Past.{after}
 use Rattle.hist_controller.specs.Acts as own
 use Rattle.hist_controller.specs.Acts.{in_name, out_name}
-use Rattle.hist_controller.specs.Past as controller_past
 use Rattle.hist_world.specs.Block.{Past, Shows, history, nothing}
 use Rattle.hist_world.proofs.Goes.{Goes, and-then, quiet}
 use Rattle.hist_world.proofs.Shown.{a, association3, b, in3, key1, key2, key3, list_a, out1, out2, plain, reading, refused, two, greatest}
@@ -53,7 +52,7 @@ cut_late_own =
     ∷ own.Answered 1 1 5 (plain 204) ∷ own.Ordered 1 1 6 (own.PutIn association3) ∷ []
 
 abbrev pub after_cut_late : Past
-after_cut_late = record { world = after after_first_outbound.world cut_late_acts; controller = controller_past.after after_first_outbound.controller cut_late_own }
+after_cut_late = record { world = after after_first_outbound.world cut_late_acts; controller = after after_first_outbound.controller cut_late_own }
 
 pub cut_late-goes : (shows : Shows) → Goes shows (two greatest) after_first_outbound cut_late cut_late_acts after_cut_late
 unfolding reply in_name out_name digits key1 key2 key3
@@ -101,7 +100,7 @@ cut_under_way_own =
     ∷ own.Answered 0 2 3 (plain 204) ∷ own.Ordered 1 1 5 (own.RemoveIn 1) ∷ []
 
 abbrev pub after_cut_under_way : Past
-after_cut_under_way = record { world = after after_inbound.world cut_under_way_acts; controller = controller_past.after after_inbound.controller cut_under_way_own }
+after_cut_under_way = record { world = after after_inbound.world cut_under_way_acts; controller = after after_inbound.controller cut_under_way_own }
 
 pub cut_under_way-goes : (shows : Shows) → Goes shows (two greatest) after_inbound cut_under_way cut_under_way_acts after_cut_under_way
 unfolding reply in_name out_name digits key1 key2 key3
@@ -142,7 +141,7 @@ cut_early_own =
     ∷ own.Answered 0 2 1 (reading (codes "in/2" ∷ [])) ∷ own.Ordered 0 2 3 (own.RemoveOut 1) ∷ []
 
 abbrev pub after_cut_early : Past
-after_cut_early = record { world = after after_inbound.world cut_early_acts; controller = controller_past.after after_inbound.controller cut_early_own }
+after_cut_early = record { world = after after_inbound.world cut_early_acts; controller = after after_inbound.controller cut_early_own }
 
 pub cut_early-goes : (shows : Shows) → Goes shows (two greatest) after_inbound cut_early cut_early_acts after_cut_early
 unfolding reply in_name out_name digits key1 key2 key3

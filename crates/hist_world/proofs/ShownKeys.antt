@@ -16,7 +16,6 @@ use Rattle.hist_acts.specs.Past.{after}
 use Rattle.hist_gateway.specs.Datagram.{datagram}
 use Rattle.hist_controller.specs.Acts as own
 use Rattle.hist_controller.specs.Acts.{in_name, out_name}
-use Rattle.hist_controller.specs.Past as controller_past
 use Rattle.hist_world.specs.Block.{Past, Shows, history, nothing}
 use Rattle.hist_world.proofs.Goes.{Goes, and-then, quiet}
 use Rattle.hist_world.proofs.Shown.{a, association3, association4, b, in3, in4, key1, key2, key3, key4, limits, packet_6, two, greatest}
@@ -46,7 +45,7 @@ both_expired_own =
     ∷ own.Accepted (own.Keys key4) ∷ own.Ordered 0 1 5 (own.PutIn association4) ∷ []
 
 abbrev pub after_both_expired : Past
-after_both_expired = record { world = after after_given.world both_expired_acts; controller = controller_past.after after_given.controller both_expired_own }
+after_both_expired = record { world = after after_given.world both_expired_acts; controller = after after_given.controller both_expired_own }
 
 pub both_expired-goes : (shows : Shows) → Goes shows (two greatest) after_given both_expired both_expired_acts after_both_expired
 unfolding reply in_name out_name digits key1 key2 key3 key4 view_of datagram outer_header esp sealed tag_of keying packet_6

@@ -21,7 +21,6 @@ use Rattle.hist_gateway.specs.Datagram.{datagram}
 use Rattle.hist_gateway.specs.Let.{let_acts}
 use Rattle.hist_controller.specs.Acts as own
 use Rattle.hist_controller.specs.Acts.{in_name, out_name}
-use Rattle.hist_controller.specs.Past as controller_past
 use Rattle.hist_world.specs.Block.{Past, Shows, history, nothing}
 use Rattle.hist_world.proofs.Goes.{Goes, and-then, quiet}
 use Rattle.hist_world.proofs.Shown.{a, association3, b, behind_a, behind_b, in1, in3, key1, key2, key3, limits, out1, out3, packet_6, plain, sent, two, greatest}
@@ -52,7 +51,7 @@ expired_own =
     ∷ own.Answered 1 1 5 (plain 201) ∷ own.Ordered 0 1 5 (own.PutOut association3) ∷ []
 
 abbrev pub after_expired : Past
-after_expired = record { world = after after_given.world expired_acts; controller = controller_past.after after_given.controller expired_own }
+after_expired = record { world = after after_given.world expired_acts; controller = after after_given.controller expired_own }
 
 pub expired-goes : (shows : Shows) → Goes shows (two greatest) after_given expired expired_acts after_expired
 unfolding reply in_name out_name digits key1 key2 key3 view_of datagram outer_header esp sealed tag_of keying packet_6
@@ -118,7 +117,7 @@ retired_own =
     own.Answered 0 1 5 (plain 201) ∷ own.Ordered 0 1 6 (own.RemoveOut 1) ∷ []
 
 abbrev pub after_retired : Past
-after_retired = record { world = after after_new_sent.world retired_acts; controller = controller_past.after after_new_sent.controller retired_own }
+after_retired = record { world = after after_new_sent.world retired_acts; controller = after after_new_sent.controller retired_own }
 
 pub retired-goes : (shows : Shows) → Goes shows (two greatest) after_new_sent retired retired_acts after_retired
 unfolding reply in_name out_name digits
@@ -175,7 +174,7 @@ removed_own =
     ∷ own.Answered 1 1 6 (plain 204) ∷ []
 
 abbrev pub after_removed : Past
-after_removed = record { world = after after_old_given.world removed_acts; controller = controller_past.after after_old_given.controller removed_own }
+after_removed = record { world = after after_old_given.world removed_acts; controller = after after_old_given.controller removed_own }
 
 pub removed-goes : (shows : Shows) → Goes shows (two greatest) after_old_given removed removed_acts after_removed
 unfolding reply in_name out_name digits

@@ -13,7 +13,6 @@ use Rattle.hist_acts.specs.declared.event.Event.TheVariants as events
 use Rattle.hist_acts.specs.Past.{after}
 use Rattle.hist_controller.specs.Acts as own
 use Rattle.hist_controller.specs.Acts.{in_name, out_name}
-use Rattle.hist_controller.specs.Past as controller_past
 use Rattle.hist_world.specs.Block.{Past, Shows, history, nothing}
 use Rattle.hist_world.proofs.Goes.{Goes, and-then, quiet}
 use Rattle.hist_world.proofs.Shown.{association3, b, in3, key1, key2, key3, list_b, out1, plain, sent, two, greatest}
@@ -66,7 +65,7 @@ reopened_own =
     ∷ own.Opened 1 2 ∷ own.Ordered 1 2 1 own.Read ∷ own.Ordered 1 2 2 (own.Policy list_b) ∷ []
 
 abbrev pub after_reopened : Past
-after_reopened = record { world = after after_lost_one.world reopened_acts; controller = controller_past.after after_lost_one.controller reopened_own }
+after_reopened = record { world = after after_lost_one.world reopened_acts; controller = after after_lost_one.controller reopened_own }
 
 pub reopened-goes : (shows : Shows) → Goes shows (two greatest) after_lost_one reopened reopened_acts after_reopened
 unfolding reply in_name out_name digits key1 key2 key3
@@ -103,7 +102,7 @@ recovered_own =
     ∷ own.Heard 1 2 (notices.BadSpi 257) ∷ own.Ordered 1 2 4 own.Read ∷ []
 
 abbrev pub after_recovered : Past
-after_recovered = record { world = after after_lost_again.world recovered_acts; controller = controller_past.after after_lost_again.controller recovered_own }
+after_recovered = record { world = after after_lost_again.world recovered_acts; controller = after after_lost_again.controller recovered_own }
 
 pub recovered-goes : (shows : Shows) → Goes shows (two greatest) after_lost_again recovered recovered_acts after_recovered
 unfolding reply in_name out_name digits

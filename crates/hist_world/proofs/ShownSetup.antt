@@ -10,7 +10,6 @@ use Rattle.hist_acts.specs.declared.event.Event.TheVariants as events
 use Rattle.hist_acts.specs.Past.{after}
 use Rattle.hist_controller.specs.Acts as own
 use Rattle.hist_controller.specs.Acts.{in_name, out_name}
-use Rattle.hist_controller.specs.Past as controller_past
 use Rattle.hist_world.specs.Block.{Past, Shows, nothing}
 use Rattle.hist_world.proofs.Goes.{Goes, and-then, quiet}
 use Rattle.hist_world.proofs.Shown.{a, association1, association2, b, in1, in2, key1, key2, list_a, list_b, out1, out2, placed, plain, tunnel, two}
@@ -55,7 +54,7 @@ begun_own =
     ∷ own.Answered 1 1 2 (plain 204) ∷ []
 
 abbrev pub after_begun : Past
-after_begun = record { world = after nothing.world begun_acts; controller = controller_past.after nothing.controller begun_own }
+after_begun = record { world = after nothing.world begun_acts; controller = after nothing.controller begun_own }
 
 pub begun-goes : (shows : Shows) (last : ℕ) → Goes shows (two last) nothing begun begun_acts after_begun
 unfolding reply in_name out_name digits key1 key2
@@ -79,7 +78,7 @@ inbound_own =
     ∷ own.Answered 0 1 3 (plain 201) ∷ own.Ordered 1 1 4 (own.PutOut association2) ∷ []
 
 abbrev pub after_inbound : Past
-after_inbound = record { world = after after_begun.world inbound_acts; controller = controller_past.after after_begun.controller inbound_own }
+after_inbound = record { world = after after_begun.world inbound_acts; controller = after after_begun.controller inbound_own }
 
 pub inbound-goes : (shows : Shows) (last : ℕ) → Goes shows (two last) after_begun inbound inbound_acts after_inbound
 unfolding reply in_name out_name digits
@@ -118,7 +117,7 @@ second_outbound_own =
     ∷ own.Answered 1 1 4 (plain 201) ∷ []
 
 abbrev pub after_second_outbound : Past
-after_second_outbound = record { world = after after_first_outbound.world second_outbound_acts; controller = controller_past.after after_first_outbound.controller second_outbound_own }
+after_second_outbound = record { world = after after_first_outbound.world second_outbound_acts; controller = after after_first_outbound.controller second_outbound_own }
 
 pub second_outbound-goes : (shows : Shows) (last : ℕ) → Goes shows (two last) after_first_outbound second_outbound second_outbound_acts after_second_outbound
 unfolding reply in_name out_name digits

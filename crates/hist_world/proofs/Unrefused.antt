@@ -28,7 +28,7 @@ use Rattle.hist_controller.specs.Told.{all_told, told}
 use Rattle.hist_controller.proofs.Few.{few-left}
 use Rattle.hist_safety.proofs.Basics.{no, both, both-left, both-right}
 use Rattle.hist_world.specs.Arrivals.{is_forged}
-use Rattle.hist_world.specs.Block.{Past, Shows, arrival_of, arrives_at, at_gateway, block, boots, by_arrival, controller_acts, is_forgery, gateway_acts, gateway_at, handles_at, history, looks, nothing, past_after, raised, took, unless_forged, with_peer}
+use Rattle.hist_world.specs.Block.{Past, Shows, arrival_of, arrives_at, at_gateway, block, boots, by_arrival, controller_acts, gateway_acts, gateway_at, handles_at, history, looks, nothing, past_after, raised, took, unless_forged, with_peer, is_forged_event}
 use Rattle.hist_world.specs.Events.{AreEventsOf}
 use Rattle.hist_world.specs.Headers.{IsHeader}
 use Rattle.hist_world.specs.Puts.{NoneRefused}
@@ -157,8 +157,8 @@ step-made shows header p e i s m = silent-block shows header p e (arrival-silent
 made-history : (shows : Shows) (header : Header) (p : Past) (es : List Event) → IsHeader header → AreEventsOf header es → Stands header p → AllCreated p.world
     → AllCreated (after p.world (history shows header p es))
 made-history shows header p [] i k s m = m
-made-history shows header p (e ∷ es) i k s m = made-case (is_forgery header p e) refl (λ t. made-history shows header (past_after shows header p e) es i k.1 t (step-made shows header p e i s m)) where
-  made-case : (b : Bool) → is_forgery header p e ≡ b
+made-history shows header p (e ∷ es) i k s m = made-case (is_forged_event header p e) refl (λ t. made-history shows header (past_after shows header p e) es i k.1 t (step-made shows header p e i s m)) where
+  made-case : (b : Bool) → is_forged_event header p e ≡ b
       → (Stands header (past_after shows header p e) → AllCreated (after (past_after shows header p e).world (history shows header (past_after shows header p e) es)))
       → AllCreated (after p.world (block shows header p e ++ unless_forged b (history shows header (past_after shows header p e) es)))
   made-case true f ih = subst (λ (z : List Act). AllCreated (after p.world z)) (sym (append-nil (block shows header p e))) (step-made shows header p e i s m)

@@ -21,7 +21,6 @@ use Rattle.hist_gateway.specs.Block as node
 use Rattle.hist_gateway.specs.Look.{look}
 use Rattle.hist_controller.specs.Acts as controller
 use Rattle.hist_controller.specs.Law as controller_law
-use Rattle.hist_controller.specs.Past as controller_past
 use Rattle.hist_controller.specs.Told.{all_told}
 use Rattle.hist_world.specs.Arrivals.{flipped, is_forged, sent_at}
 
@@ -145,20 +144,20 @@ block shows header p e =
 abbrev pub past_after : Shows → Header → Past → Event → Past
 past_after shows header p e = record {
   world = after p.world (block shows header p e);
-  controller = controller_past.after p.controller (controller_acts header p e);
+  controller = after p.controller (controller_acts header p e);
 }
 
 abbrev pub is_forgery : List Act → List ℕ → Option node.Gateway → Bool
 is_forgery h o None = false
 is_forgery h o (Some c) = is_forged c.name c.address h o
 
-abbrev pub is_forgery_at : Header → List Act → Option (List ℕ × List ℕ) → Bool
-is_forgery_at header h None = false
-is_forgery_at header h (Some a) = is_forgery h a.1 (gateway_at header a.0)
+abbrev pub is_forged_event_at : Header → List Act → Option (List ℕ × List ℕ) → Bool
+is_forged_event_at header h None = false
+is_forged_event_at header h (Some a) = is_forgery h a.1 (gateway_at header a.0)
 
 -- the event is a forged arrival
-abbrev pub is_forgery : Header → Past → Event → Bool
-is_forgery header p e = is_forgery_at header (took p.world) (arrival_of (took p.world) e)
+abbrev pub is_forged_event : Header → Past → Event → Bool
+is_forged_event header p e = is_forged_event_at header (took p.world) (arrival_of (took p.world) e)
 
 abbrev pub unless_forged : Bool → List Act → List Act
 unless_forged true more = []
@@ -168,4 +167,4 @@ unless_forged false more = more
 abbrev pub history : Shows → Header → Past → List Event → List Act
 history shows header p [] = []
 history shows header p (e ∷ es) =
-    block shows header p e ++ unless_forged (is_forgery header p e) (history shows header (past_after shows header p e) es)
+    block shows header p e ++ unless_forged (is_forged_event header p e) (history shows header (past_after shows header p e) es)

@@ -9,7 +9,7 @@ use Rattle.hist_controller.specs.Clauses.{IsControllerPast, NotIdle}
 use Rattle.hist_controller.specs.Table.{AllFit}
 use Rattle.hist_controller.specs.Told.{past_told}
 use Rattle.hist_safety.specs.Law.{IsLawful, is_ready}
-use Rattle.hist_world.specs.Block.{Past, Shows, is_forgery, past_after}
+use Rattle.hist_world.specs.Block.{Past, Shows, past_after, is_forged_event}
 use Rattle.hist_world.specs.Parts.{controllers_part}
 
 -- the controller's part of what happened is its own past, told; and each act of that may stand after those before it
@@ -34,4 +34,4 @@ past_at shows header p (e ∷ es) = past_at shows header (past_after shows heade
 -- no arrival among these events is forged
 abbrev pub AreGenuine : Shows → Header → Past → List Event → Type 0
 AreGenuine shows header p [] = Unit {0}
-AreGenuine shows header p (e ∷ es) = (is_forgery header p e ≡ false) × AreGenuine shows header (past_after shows header p e) es
+AreGenuine shows header p (e ∷ es) = (is_forged_event header p e ≡ false) × AreGenuine shows header (past_after shows header p e) es

@@ -11,7 +11,7 @@ ghost use Rattle.hist_controller.specs.Past.{left};
 ghost use Rattle.hist_controller.specs.Told.{peer_name};
 ghost use Rattle.hist_safety.specs.Law.{IsLawful};
 ghost use Rattle.hist_safety.specs.Safe.{Safe};
-ghost use Rattle.hist_world.specs.Block.{Past, Shows, is_forgery, history, nothing, past_after};
+ghost use Rattle.hist_world.specs.Block.{Past, Shows, history, nothing, past_after, is_forged_event};
 ghost use Rattle.hist_world.specs.Events.{AreEventsOf, IsEventOf, IsKnown};
 ghost use Rattle.hist_world.specs.Headers.{IsHeader};
 ghost use Rattle.hist_world.specs.Lists.{NeverBack, commanded, put_in_force};
@@ -38,7 +38,7 @@ pub fn is_every_history_safe()
 pub fn stands_between_events()
     ensures start { (header : Header) → Stands header nothing }
     ensures event { (shows : Shows) (header : Header) (p : Past) (e : Event) → IsHeader header → IsEventOf header e → Stands header p
-        → is_forgery header p e ≡ false → Stands header (past_after shows header p e) }
+        → is_forged_event header p e ≡ false → Stands header (past_after shows header p e) }
     ensures history { (shows : Shows) (header : Header) (events : List Event) → IsHeader header → AreEventsOf header events
         → AreGenuine shows header nothing events → Stands header (past_at shows header nothing events) }
     ensures past { (shows : Shows) (header : Header) (events : List Event) → AreGenuine shows header nothing events
