@@ -1,0 +1,8 @@
+//! The lifetime of one association: its counts, and when they reach a soft or a hard limit (RFC 4301 section 4.4.2.1).
+#![tactic(auto)]
+
+mod event;
+mod life;
+
+pub use event::LifeEvent;
+pub use life::Life;

@@ -1,0 +1,110 @@
+-- The halves of associations at one gateway, with what is counted of each since its installation (RFC 4301 section 4.4.2).
+use Rattle.std.specs.Prelude.{ℕ, zero, suc, ◌+◌, ◌==◌, ◌&&◌, nat_le, not, Bool, true, false, List, [], ◌∷◌, length, map, find, Option, Some, None, if◌then◌else◌}
+use Rattle.std.specs.List.{list_any}
+use Rattle.std.specs.Str.{bytes_eq}
+use Rattle.ip_packet.specs.View.{Packet}
+use Rattle.ikeless_tree.specs.Half.{is_inbound}
+use Rattle.ikeless_tree.specs.declared.association.SadEntry.{SadEntry}
+use Rattle.ikeless_tree.specs.declared.entry.Direction.TheVariants.{Out}
+use Rattle.replay_win.specs.Marks.{Marks, marked, no_marks}
+use Rattle.spd_match.specs.Match.{holds_packet}
+use Rattle.life_count.specs.Lifetime.{Lifetime, begun, counted, with_told}
+use Rattle.sad_store.specs.declared.half.Half.{Half}
+
+-- ---- one half
+
+-- a half that is installed now
+abbrev pub fresh : ℕ → SadEntry → Half
+fresh now e = record { entry = e; sent = 0; window = no_marks e.window; life = begun e.hard e.soft now; overflow = false }
+
+abbrev pub with_sent : ℕ → Half → Half
+with_sent n x = record { entry = x.entry; sent = n; window = x.window; life = x.life; overflow = x.overflow }
+
+abbrev pub with_window : Marks → Half → Half
+with_window w x = record { entry = x.entry; sent = x.sent; window = w; life = x.life; overflow = x.overflow }
+
+abbrev pub with_life : Lifetime → Half → Half
+with_life l x = record { entry = x.entry; sent = x.sent; window = x.window; life = l; overflow = x.overflow }
+
+abbrev pub with_overflow : Bool → Half → Half
+with_overflow b x = record { entry = x.entry; sent = x.sent; window = x.window; life = x.life; overflow = b }
+
+-- one more number is sent under this half, with these ESP octets at this clock
+abbrev pub send : ℕ → ℕ → Half → Half
+send now size x = with_life (counted size now x.life) (with_sent (x.sent + 1) x)
+
+-- the number is taken under this half, with these ESP octets at this clock
+abbrev pub take_number : ℕ → ℕ → ℕ → Half → Half
+take_number now size n x = with_life (counted size now x.life) (with_window (marked x.window n) x)
+
+-- nothing that was told of this half stands
+abbrev pub hushed : Half → Half
+hushed x = with_overflow false (with_life (with_told false x.life) x)
+
+-- ---- the halves, in the order of their installation
+
+abbrev pub entries_of : List Half → List SadEntry
+entries_of xs = map (λ x. x.entry) xs
+
+abbrev pub names_of : List Half → List (List ℕ)
+names_of xs = map (λ x. x.entry.name) xs
+
+abbrev pub is_named : List ℕ → Half → Bool
+is_named name x = bytes_eq x.entry.name name
+
+abbrev pub has_name : List ℕ → List Half → Bool
+has_name name xs = list_any (is_named name) xs
+
+-- halves but those of this name
+abbrev pub without : List ℕ → List Half → List Half
+without name [] = []
+without name (x ∷ xs) = if bytes_eq x.entry.name name then without name xs else x ∷ without name xs
+
+-- the half at this place is another one
+abbrev pub changed : (Half → Half) → ℕ → List Half → List Half
+changed f i [] = []
+changed f zero (x ∷ xs) = f x ∷ xs
+changed f (suc i) (x ∷ xs) = x ∷ changed f i xs
+
+-- ---- look-ups
+
+-- the inbound half that an SPI names (RFC 4301 section 4.1)
+abbrev pub has_spi : ℕ → Half → Bool
+has_spi spi x = is_inbound x.entry.name && (x.entry.spi == spi)
+
+abbrev pub by_spi : ℕ → List Half → Option Half
+by_spi spi xs = find (has_spi spi) xs
+
+-- an outbound half with this reqid whose selector holds the packet
+abbrev pub seals : ℕ → Packet → SadEntry → Bool
+seals reqid v e = not (is_inbound e.name) && ((e.reqid == reqid) && holds_packet e.selector Out v)
+
+abbrev pub newer : ℕ → Packet → Half → Option Half → Option Half
+newer reqid v x (Some y) = Some y
+newer reqid v x None = if seals reqid v x.entry then Some x else None
+
+-- the newest such half
+abbrev pub newest : ℕ → Packet → List Half → Option Half
+newest reqid v [] = None
+newest reqid v (x ∷ xs) = newer reqid v x (newest reqid v xs)
+
+-- where it stands
+abbrev pub later_place : ℕ → Packet → Half → Option ℕ → Option ℕ
+later_place reqid v x (Some i) = Some (i + 1)
+later_place reqid v x None = if seals reqid v x.entry then Some 0 else None
+
+abbrev pub newest_place : ℕ → Packet → List Half → Option ℕ
+newest_place reqid v [] = None
+newest_place reqid v (x ∷ xs) = later_place reqid v x (newest_place reqid v xs)
+
+-- ---- why a half isn't installed
+
+-- a name that a half has, an SPI that an inbound half has, and a list that is full
+abbrev pub is_name_taken : SadEntry → List Half → Bool
+is_name_taken e xs = has_name e.name xs
+
+abbrev pub is_spi_taken : SadEntry → List Half → Bool
+is_spi_taken e xs = is_inbound e.name && list_any (has_spi e.spi) xs
+
+abbrev pub is_full : List Half → Bool
+is_full xs = nat_le 4096 (length xs)
