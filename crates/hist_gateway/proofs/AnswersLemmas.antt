@@ -23,6 +23,7 @@ use Rattle.replay_win.specs.Marks.{verdict_over}
 use Rattle.esp_frame.specs.Esp.{keying, spi_of}
 use Rattle.esp_frame.specs.Open as esp
 use Rattle.spd_match.specs.Match.{first_entry, holds_packet}
+use Rattle.life_count.specs.Lifetime.{is_reached, expiry}
 use Rattle.hist_acts.specs.declared.act.Act.{Act}
 use Rattle.hist_acts.specs.declared.act.Act.TheVariants as acts
 use Rattle.hist_acts.specs.Past.{force, clock}
@@ -30,10 +31,10 @@ use Rattle.hist_acts.specs.Sessions as sessions
 use Rattle.hist_halves.specs.Sealed.{by_spi, number_of}
 use Rattle.hist_halves.specs.Halves.{live, sent, numbers_taken}
 use Rattle.hist_gateway.specs.Uses.{counts}
-use Rattle.hist_gateway.specs.Stands.{does_acquire_stand, was_overflow_given, was_soft_given, does_bad_spi_stand}
+use Rattle.hist_gateway.specs.Stands.{does_acquire_stand, was_overflow_given, does_bad_spi_stand}
 use Rattle.hist_gateway.specs.Rows.{tree_of}
 use Rattle.hist_gateway.specs.Datagram.{datagram, flow_of}
-use Rattle.hist_gateway.specs.Look.{is_reached, expiry, given_by, goings, expiries, look, tells}
+use Rattle.hist_gateway.specs.Look.{event_of, given_by, goings, expiries, look, tells}
 use Rattle.hist_gateway.specs.Let.{newest, unless, send_acts, let_by_half, let_by_action, let_by_entry, let_by_view, let_acts}
 use Rattle.hist_gateway.specs.Arrive as arrive
 use Rattle.hist_gateway.specs.Handle.{Fault, answer_of, change_acts, requests}
@@ -71,7 +72,7 @@ some-goings g h (e ∷ es) =
 some-expiries : (g : List ℕ) (h : List Act) (es : List SadEntry) → some (expiries g h es) ≡ false
 some-expiries g h [] = refl
 some-expiries g h (e ∷ es) =
-    let ns : List Notice = expiry e (counts g e.name h) (was_soft_given g e.name h) in
+    let ns : List Notice = expiry e.name (counts g e.name h) (event_of g h e) in
     some-append (given_by g (sessions.session_taken g h) ns) (expiries g h es) (some-given g (sessions.session_taken g h) ns) (some-expiries g h es)
 
 pub some-look : (g : List ℕ) (h : List Act) (es : List SadEntry) → some (look g h es) ≡ false

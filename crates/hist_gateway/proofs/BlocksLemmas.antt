@@ -23,6 +23,9 @@ use Rattle.replay_win.specs.Marks.{Marks, judged, marked, no_marks, verdict_over
 use Rattle.esp_frame.specs.Esp.{keying, spi_of, seq_of}
 use Rattle.esp_frame.specs.Open as esp
 use Rattle.spd_match.specs.Match.{first_entry, holds_packet}
+use Rattle.life_count.specs.Lifetime.{is_reached, expiry}
+use Rattle.sad_store.specs.declared.half.Half.{Half}
+use Rattle.sad_store.specs.Halves.{may_seal, send, take_number, newest_half, newer_half, half_by_spi}
 use Rattle.hist_acts.specs.declared.act.Act.{Act}
 use Rattle.hist_acts.specs.declared.act.Act.TheVariants as acts
 use Rattle.hist_acts.specs.Past.{force, clock}
@@ -30,17 +33,17 @@ use Rattle.hist_acts.specs.Sessions as sessions
 use Rattle.hist_halves.specs.Sealed.{by_spi, esp_of, payload_of, is_inbound, is_opened}
 use Rattle.hist_halves.specs.Halves.{live, sent, numbers_taken}
 use Rattle.hist_gateway.specs.Uses.{arrival, octets_in, counts, is_for}
-use Rattle.hist_gateway.specs.Stands.{was_overflow_given, was_soft_given}
+use Rattle.hist_gateway.specs.Stands.{was_overflow_given}
 use Rattle.hist_gateway.specs.Rows.{row_of, tree_of}
 use Rattle.hist_gateway.specs.Datagram.{datagram, flow_of}
-use Rattle.hist_gateway.specs.Look.{is_reached, expiry, given_by, goings, expiries, look, tells}
-use Rattle.hist_gateway.specs.Let.{may_seal, newer, newest, unless, send_acts, let_by_half, let_by_action, let_by_entry, let_by_view, let_acts}
+use Rattle.hist_gateway.specs.Look.{event_of, given_by, goings, expiries, look, tells}
+use Rattle.hist_gateway.specs.Let.{newer, newest, unless, send_acts, let_by_half, let_by_action, let_by_entry, let_by_view, let_acts}
 use Rattle.hist_gateway.specs.Arrive as arrive
 use Rattle.hist_gateway.specs.Handle.{Fault, handle_acts, reply_acts, requests}
 use Rattle.hist_gateway.specs.Block.{Gateway, GatewayEvent, Let, Arrive, Clock, Handle, Session_taken, gw_block, clock_acts}
-use Rattle.hist_gateway.specs.State.{Half, half_of, state_of, sent_under, given_under, opened_under, send, take_number}
+use Rattle.hist_gateway.specs.State.{half_of, state_of, sent_under, given_under, opened_under}
 use Rattle.hist_gateway.specs.Uses.{number_in}
-use Rattle.hist_gateway.specs.Machine.{goings_of, expiries_of, look_of, newer_of, newest_of, sends_of, out_by_half, out_by_action, out_by_entry, out_by_view, uses_of, in_by_text, in_by_verdict, in_by_half, half_by_spi, in_esp, in_by_view, row_from, tree_from, handles, ticks, acts_of}
+use Rattle.hist_gateway.specs.Machine.{goings_of, expiries_of, look_of, sends_of, out_by_half, out_by_action, out_by_entry, out_by_view, uses_of, in_by_text, in_by_verdict, in_by_half, in_esp, in_by_view, row_from, tree_from, handles, ticks, acts_of}
 use Rattle.hist_gateway.proofs.KeepsLemmas.{same-refl, sent-split, gave-split, opened-split}
 use Rattle.hist_gateway.proofs.ReadingsLemmas.{acquires-is}
 
@@ -52,7 +55,7 @@ goings-is g h (e ∷ es) = ap (λ t. if is_reached e.hard (counts g e.name h) th
 
 expiries-is : (g : List ℕ) (h : List Act) (es : List SadEntry) → expiries_of g (sessions.session_taken g h) (clock h) (map (half_of g h) es) ≡ expiries g h es
 expiries-is g h [] = refl
-expiries-is g h (e ∷ es) = ap (λ t. given_by g (sessions.session_taken g h) (expiry e (counts g e.name h) (was_soft_given g e.name h)) ++ t) (expiries-is g h es)
+expiries-is g h (e ∷ es) = ap (λ t. given_by g (sessions.session_taken g h) (expiry e.name (counts g e.name h) (event_of g h e)) ++ t) (expiries-is g h es)
 
 pub look-is : (g : List ℕ) (h : List Act) (es : List SadEntry) → look_of g (sessions.session_taken g h) (clock h) (map (half_of g h) es) ≡ look g h es
 look-is g h es = rw (goings-is g h es, expiries-is g h es) refl
@@ -65,12 +68,12 @@ newer-is f g h r v e true = refl
 newer-is f g h r v e false = refl
 
 newest-step : (g : List ℕ) (h : List Act) (r : ℕ) (v : Packet) (e : SadEntry) (found : Option SadEntry) →
-    newer_of r v (half_of g h e) (option_map (half_of g h) found) ≡ option_map (half_of g h) (newer r v e found)
+    newer_half r v (half_of g h e) (option_map (half_of g h) found) ≡ option_map (half_of g h) (newer r v e found)
 newest-step g h r v e None = newer-is (half_of g h) g h r v e (may_seal r v e)
 newest-step g h r v e (Some x) = refl
 
 newest-is : (g : List ℕ) (h : List Act) (r : ℕ) (v : Packet) (es : List SadEntry) →
-    newest_of r v (map (half_of g h) es) ≡ option_map (half_of g h) (newest r v es)
+    newest_half r v (map (half_of g h) es) ≡ option_map (half_of g h) (newest r v es)
 newest-is g h r v [] = refl
 newest-is g h r v (e ∷ es) = rw (newest-is g h r v es) (newest-step g h r v e (newest r v es))
 

@@ -6,12 +6,13 @@ use Rattle.ikeless_tree.specs.declared.association.SadEntry.{SadEntry}
 use Rattle.ikeless_tree.specs.declared.entry.Direction.TheVariants.{Out}
 use Rattle.ikeless_tree.specs.declared.reply.GoneWhy.{GoneWhy}
 use Rattle.spd_match.specs.Match.{holds_packet}
+use Rattle.sad_store.specs.Halves.{may_seal}
 use Rattle.hist_acts.specs.declared.act.Act.{Act}
 use Rattle.hist_acts.specs.declared.act.Act.TheVariants as acts
 use Rattle.hist_acts.specs.Past.{after}
 use Rattle.hist_halves.specs.Sealed.{is_inbound, by_spi}
 use Rattle.hist_halves.specs.Halves.{is_half, live, put_of, without}
-use Rattle.hist_gateway.specs.Let.{may_seal, newer, newest}
+use Rattle.hist_gateway.specs.Let.{newer, newest}
 use Rattle.hist_gateway.specs.Block.{Gateway}
 use Rattle.hist_gateway.specs.May.{has_half, GatewayMayActAll, IsGatewayPast, IsInstallable, AreInstalled, are_apart, has_inbound_spi, are_spis_apart, ArePut, AreHalves, IsHalfFor, IsHalfOf}
 use Rattle.hist_gateway.proofs.KeepsLemmas.{same-refl, same-sym}

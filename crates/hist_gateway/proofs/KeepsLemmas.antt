@@ -4,14 +4,18 @@ use Rattle.std.specs.Str.{bytes_eq}
 use Rattle.ikeless_tree.specs.declared.entry.SpdEntry.{SpdEntry}
 use Rattle.ikeless_tree.specs.declared.association.SadEntry.{SadEntry}
 use Rattle.ikeless_tree.specs.declared.order.Notice.{Notice}
-use Rattle.replay_win.specs.Marks.{marked, no_marks}
+use Rattle.replay_win.specs.Marks.{Marks, marked, no_marks}
+use Rattle.life_count.specs.Lifetime.{Lifetime, counted}
+use Rattle.life_count.proofs.CountLemmas.{life-with, counted-life}
+use Rattle.sad_store.specs.declared.half.Half.{Half}
+use Rattle.sad_store.specs.Halves.{fresh, hushed, take_number, entries_of, halves_without}
 use Rattle.hist_acts.specs.declared.act.Act.{Act}
 use Rattle.hist_acts.specs.declared.act.Act.TheVariants as acts
 use Rattle.hist_acts.specs.Past.{clock}
 use Rattle.hist_halves.specs.Sealed.{esp_of, is_opened}
-use Rattle.hist_halves.specs.Halves.{is_half, live, numbers_taken, without}
-use Rattle.hist_gateway.specs.Uses.{arrival, is_for, octets_in, octets_used, times_used, cut}
-use Rattle.hist_gateway.specs.State.{Half, GatewayState, half_of, state_of, quiet, with_halves, did, did_at, is_at, fresh, sent_under, given_under, opened_under, note, hush, gone_from, window_of}
+use Rattle.hist_halves.specs.Halves.{is_half, live, sent, numbers_taken, without}
+use Rattle.hist_gateway.specs.Uses.{arrival, is_for, octets_in, octets_used, times_used, installed_at, last_used}
+use Rattle.hist_gateway.specs.State.{GatewayState, life_of, half_of, state_of, quiet, with_halves, did, did_at, is_at, sent_under, given_under, opened_under, note, window_of}
 use Rattle.hist_gateway.specs.May.{has_half, IsNewHalf}
 use Rattle.std.proofs.lemmas.Slice.Eq.{bytes_eq-Decides}
 use Rattle.std.proofs.lemmas.List.Sums.{fold-append}
@@ -23,8 +27,8 @@ use Rattle.hist_halves.specs.Halves.{number_if, arrival_number}
 use Rattle.hist_gateway.specs.Uses.{is_named_half}
 use Rattle.ikeless_tree.specs.declared.order.Answer.{Answer}
 use Rattle.ikeless_tree.specs.declared.order.Notice.TheVariants as notices
-use Rattle.hist_gateway.specs.Stands.{with_spi, bad_spis}
-use Rattle.hist_gateway.specs.State.{entries_of, with_put, with_session, with_notice, wanted_after, with_acquire, acquires}
+use Rattle.hist_gateway.specs.Stands.{with_spi, bad_spis, was_soft_given, was_overflow_given}
+use Rattle.hist_gateway.specs.State.{with_put, with_session, with_notice, wanted_after, with_acquire, acquires}
 use Rattle.hist_gateway.specs.Uses.{number_in}
 
 -- ---- lists
@@ -57,11 +61,6 @@ take-once n xs = take-short n (n + 1) xs (omega arith)
 pub take-once-64 : (xs : List ℕ) → take 64 xs ≡ take 64 (take 64 xs)
 take-once-64 xs = take-short 64 64 xs (omega arith)
 
--- ---- counts stop once
-
-pub cut-more : (most n k : ℕ) → cut most (n + k) ≡ cut most (cut most n + k)
-cut-more most n k = grind arith
-
 -- ---- names
 
 pub same-refl : (x : List ℕ) → bytes_eq x x ≡ true
@@ -80,27 +79,42 @@ same-sym x y = same-back x y (bytes_eq x y) (bytes_eq y x) refl refl
 
 -- ---- the effect on a half
 
+window-end : (size n : ℕ) (ns : List ℕ) → window_of size (ns ++ n ∷ []) ≡ marked (window_of size ns) n
+window-end size n ns = fold-append marked (no_marks size) ns (n ∷ [])
+
+abbrev half-with : SadEntry → ℕ → Marks → Lifetime → Bool → Half
+half-with e n w l o = record { entry = e; sent = n; window = w; life = l; overflow = o }
+
+-- the lifetime of a half after one more use
+used-life : (g : List ℕ) (h : List Act) (e : SadEntry) (size : ℕ) →
+    life-with e.hard e.soft (installed_at g e.name h) (clock h) (octets_used g e.name h + size) (times_used g e.name h + 1) (was_soft_given g e.name h)
+    ≡ counted size (clock h) (life_of g h e)
+used-life g h e size =
+    counted-life e.hard e.soft (installed_at g e.name h) (last_used g e.name h) (clock h) (octets_used g e.name h) (times_used g e.name h) size (was_soft_given g e.name h)
+
+-- a half after one more number was taken
+used-half : (g : List ℕ) (h : List Act) (e : SadEntry) (n size : ℕ) →
+    half-with e (sent g e.name h) (window_of e.window (numbers_taken g e.name h ++ n ∷ []))
+    (life-with e.hard e.soft (installed_at g e.name h) (clock h) (octets_used g e.name h + size) (times_used g e.name h + 1) (was_soft_given g e.name h))
+    (was_overflow_given g e.name h)
+    ≡ take_number (clock h) size n (half_of g h e)
+used-half g h e n size =
+    ap (λ w. half-with e (sent g e.name h) w (life-with e.hard e.soft (installed_at g e.name h) (clock h) (octets_used g e.name h + size) (times_used g e.name h + 1) (was_soft_given g e.name h)) (was_overflow_given g e.name h))
+    (window-end e.window n (numbers_taken g e.name h))
+    ∙ ap (λ l. half-with e (sent g e.name h) (marked (window_of e.window (numbers_taken g e.name h)) n) l (was_overflow_given g e.name h)) (used-life g h e size)
+
 pub sent-split : (g f y o : List ℕ) (n : ℕ) (h : List Act) (e : SadEntry) (b : Bool) → bytes_eq f g ≡ true → bytes_eq y e.name ≡ b →
     half_of g (acts.Sent f y n o ∷ h) e ≡ sent_under y (clock h) (octets_in (Some o)) (half_of g h e)
 sent-split g f y o n h e true at own =
-    let p = cut-more 18446744073709551615 (octets_used g e.name h) (length (esp_of o)) in
-    let q = cut-more 4294967295 (times_used g e.name h) 1 in
-    rw (at, own) cc
+    rw (at, own) (ap (λ l. half-with e (sent g e.name h + 1) (window_of e.window (numbers_taken g e.name h)) l (was_overflow_given g e.name h)) (used-life g h e (length (esp_of o))))
 sent-split g f y o n h e false at own = rw (at, own) refl
 
 sent-away : (g f y o : List ℕ) (n : ℕ) (h : List Act) (e : SadEntry) → bytes_eq f g ≡ false → half_of g (acts.Sent f y n o ∷ h) e ≡ half_of g h e
 sent-away g f y o n h e at = rw at refl
 
-window-end : (size n : ℕ) (ns : List ℕ) → window_of size (ns ++ n ∷ []) ≡ marked (window_of size ns) n
-window-end size n ns = fold-append marked (no_marks size) ns (n ∷ [])
-
 pub gave-split : (g f y o : List ℕ) (n : ℕ) (h : List Act) (e : SadEntry) (b : Bool) → bytes_eq f g ≡ true → bytes_eq y e.name ≡ b →
     half_of g (acts.Gave f y n o ∷ h) e ≡ given_under y (clock h) (octets_in (arrival g h)) n (half_of g h e)
-gave-split g f y o n h e true at own =
-    let p = cut-more 18446744073709551615 (octets_used g e.name h) (octets_in (arrival g h)) in
-    let q = cut-more 4294967295 (times_used g e.name h) 1 in
-    let r = window-end e.window n (numbers_taken g e.name h) in
-    rw (at, own) cc
+gave-split g f y o n h e true at own = rw (at, own) (used-half g h e n (octets_in (arrival g h)))
 gave-split g f y o n h e false at own = rw (at, own) refl
 
 gave-away : (g f y o : List ℕ) (n : ℕ) (h : List Act) (e : SadEntry) → bytes_eq f g ≡ false → half_of g (acts.Gave f y n o ∷ h) e ≡ half_of g h e
@@ -129,10 +143,7 @@ pub opened-split : (g f : List ℕ) (w : DropWhy) (h : List Act) (e : SadEntry) 
     is_for e.name (live g h) (arrival g h) ≡ b →
     half_of g (acts.Drop f w ∷ h) e ≡ opened_under (live g h) (arrival g h) (clock h) (half_of g h e)
 opened-split g f w h e true at op own =
-    let p = cut-more 18446744073709551615 (octets_used g e.name h) (octets_in (arrival g h)) in
-    let q = cut-more 4294967295 (times_used g e.name h) 1 in
-    let r = window-end e.window (number_in (arrival g h)) (numbers_taken g e.name h) in
-    rw (number-is g e.name (numbers_taken g e.name h) h, at, op, own) cc
+    rw (number-is g e.name (numbers_taken g e.name h) h, at, op, own) (used-half g h e (number_in (arrival g h)) (octets_in (arrival g h)))
 opened-split g f w h e false at op own = rw (number-is g e.name (numbers_taken g e.name h) h, at, op, own) refl
 
 dropped-half : (g f : List ℕ) (w : DropWhy) (h : List Act) (e : SadEntry) → (bytes_eq f g && is_opened w) ≡ false →
@@ -148,7 +159,7 @@ note-away : (g f : List ℕ) (s : ℕ) (n : Notice) (h : List Act) (e : SadEntry
 note-away g f s n h e at = rw at refl
 
 opened-half : (g f : List ℕ) (s : ℕ) (h : List Act) (e : SadEntry) → bytes_eq f g ≡ true →
-    half_of g (acts.Opened f s ∷ h) e ≡ hush (half_of g h e)
+    half_of g (acts.Opened f s ∷ h) e ≡ hushed (half_of g h e)
 opened-half g f s h e at = rw at refl
 
 opened-away : (g f : List ℕ) (s : ℕ) (h : List Act) (e : SadEntry) → bytes_eq f g ≡ false →
@@ -192,13 +203,13 @@ put-halves g f x h (e ∷ es) at away =
     cc
 
 gone-step : (g f : List ℕ) (w : GoneWhy) (h : List Act) (x : List ℕ) (e : SadEntry) (es : List SadEntry) (b : Bool) → bytes_eq e.name x ≡ b →
-    map (half_of g (acts.Gone f x w ∷ h)) (without x es) ≡ gone_from x (map (half_of g h) es) →
-    map (half_of g (acts.Gone f x w ∷ h)) (without x (e ∷ es)) ≡ gone_from x (map (half_of g h) (e ∷ es))
+    map (half_of g (acts.Gone f x w ∷ h)) (without x es) ≡ halves_without x (map (half_of g h) es) →
+    map (half_of g (acts.Gone f x w ∷ h)) (without x (e ∷ es)) ≡ halves_without x (map (half_of g h) (e ∷ es))
 gone-step g f w h x e es true own ih = rw own ih
 gone-step g f w h x e es false own ih = rw own (ap (λ t. half_of g h e ∷ t) ih)
 
 gone-halves : (g f : List ℕ) (w : GoneWhy) (h : List Act) (x : List ℕ) (es : List SadEntry) →
-    map (half_of g (acts.Gone f x w ∷ h)) (without x es) ≡ gone_from x (map (half_of g h) es)
+    map (half_of g (acts.Gone f x w ∷ h)) (without x es) ≡ halves_without x (map (half_of g h) es)
 gone-halves g f w h x [] = refl
 gone-halves g f w h x (e ∷ es) = gone-step g f w h x e es (bytes_eq e.name x) refl (gone-halves g f w h x es)
 
@@ -279,7 +290,7 @@ keeps-arrived g f o h false at = rw at refl
 
 keeps-opening : (g f : List ℕ) (s : ℕ) (h : List Act) (b : Bool) → bytes_eq f g ≡ b → state_of g (acts.Opened f s ∷ h) ≡ did g (state_of g h) (acts.Opened f s)
 keeps-opening g f s h true at =
-    let m = map-step (half_of g h) (half_of g (acts.Opened f s ∷ h)) hush (λ e. opened-half g f s h e at) (live g h) in
+    let m = map-step (half_of g h) (half_of g (acts.Opened f s ∷ h)) hushed (λ e. opened-half g f s h e at) (live g h) in
     rw at (ap (λ hs. with_session s hs (state_of g h)) m)
 keeps-opening g f s h false at =
     let m = map-same (half_of g h) (half_of g (acts.Opened f s ∷ h)) (λ e. opened-away g f s h e at) (live g h) in

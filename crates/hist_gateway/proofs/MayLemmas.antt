@@ -26,6 +26,7 @@ use Rattle.replay_win.specs.Marks.{verdict_over}
 use Rattle.esp_frame.specs.Esp.{keying, spi_of}
 use Rattle.esp_frame.specs.Open as esp
 use Rattle.spd_match.specs.Match.{first_entry, holds_packet}
+use Rattle.life_count.specs.Lifetime.{is_reached, expiry}
 use Rattle.hist_acts.specs.declared.act.Act.{Act}
 use Rattle.hist_acts.specs.declared.act.Act.TheVariants as acts
 use Rattle.hist_acts.specs.Past.{after, force, clock}
@@ -33,10 +34,10 @@ use Rattle.hist_acts.specs.Sessions as sessions
 use Rattle.hist_halves.specs.Sealed.{is_inbound, is_opened, by_spi, number_of}
 use Rattle.hist_halves.specs.Halves.{live, sent, numbers_taken}
 use Rattle.hist_gateway.specs.Uses.{counts}
-use Rattle.hist_gateway.specs.Stands.{does_acquire_stand, was_overflow_given, was_soft_given, does_bad_spi_stand}
+use Rattle.hist_gateway.specs.Stands.{does_acquire_stand, was_overflow_given, does_bad_spi_stand}
 use Rattle.hist_gateway.specs.Rows.{row_of, tree_of}
 use Rattle.hist_gateway.specs.Datagram.{fault_why, datagram, flow_of}
-use Rattle.hist_gateway.specs.Look.{is_reached, expiry, given_by, goings, expiries, look, tells}
+use Rattle.hist_gateway.specs.Look.{event_of, given_by, goings, expiries, look, tells}
 use Rattle.hist_gateway.specs.Let.{newest, unless, send_acts, let_by_half, let_by_action, let_by_entry, let_by_view, let_acts}
 use Rattle.hist_gateway.specs.Arrive as arrive
 use Rattle.hist_gateway.specs.Handle.{Fault, answer_of, handle_acts, change_acts, requests}
@@ -116,7 +117,7 @@ says-goings g h (e ∷ es) =
 says-expiries : (g : List ℕ) (h : List Act) (es : List SadEntry) → some-says (expiries g h es) ≡ false
 says-expiries g h [] = refl
 says-expiries g h (e ∷ es) =
-    let ns : List Notice = expiry e (counts g e.name h) (was_soft_given g e.name h) in
+    let ns : List Notice = expiry e.name (counts g e.name h) (event_of g h e) in
     says-append (given_by g (sessions.session_taken g h) ns) (expiries g h es) (says-given g (sessions.session_taken g h) ns) (says-expiries g h es)
 
 says-look : (g : List ℕ) (h : List Act) (es : List SadEntry) → some-says (look g h es) ≡ false

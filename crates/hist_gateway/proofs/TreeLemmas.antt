@@ -9,18 +9,18 @@ use Rattle.reply_table.specs.declared.ask.Ask.{Ask}
 use Rattle.reply_table.specs.declared.ask.Change.{Change}
 use Rattle.reply_table.specs.declared.ask.Change.TheVariants as changes
 use Rattle.reply_table.specs.Reply as table
+use Rattle.life_count.specs.Lifetime.{cut_32}
+use Rattle.sad_store.specs.Halves.{fresh}
 use Rattle.hist_acts.specs.declared.act.Act.{Act}
 use Rattle.hist_acts.specs.declared.act.Act.TheVariants as acts
 use Rattle.hist_acts.specs.Past.{after, clock}
 use Rattle.hist_acts.specs.Sessions as sessions
 use Rattle.hist_halves.specs.Sealed.{is_inbound}
 use Rattle.hist_halves.specs.Halves.{live, without}
-use Rattle.hist_gateway.specs.Uses.{cut_32}
 use Rattle.hist_gateway.specs.Rows.{row_of, tree_of}
 use Rattle.hist_gateway.specs.Handle.{answer_of, change_acts, requests}
 use Rattle.hist_gateway.specs.Block.{Gateway, Handle, gw_block}
 use Rattle.hist_gateway.specs.May.{has_half}
-use Rattle.hist_gateway.specs.State.{fresh}
 use Rattle.hist_gateway.specs.Machine.{row_from}
 use Rattle.hist_gateway.proofs.KeepsLemmas.{same-refl, put-half, put-fresh, no-half, or-parts}
 use Rattle.hist_gateway.proofs.BlocksLemmas.{row-is}

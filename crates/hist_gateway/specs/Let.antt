@@ -1,5 +1,5 @@
 -- What answers a packet from inside (RFC 4301 section 5.1), by the first line that applies. The past has the Let as its newest act.
-use Rattle.std.specs.Prelude.{ℕ, ◌+◌, ◌==◌, ◌&&◌, nat_le, nat_lt, not, Bool, true, false, List, [], ◌∷◌, length, Option, Some, None, Result, Ok, Err, if◌then◌else◌}
+use Rattle.std.specs.Prelude.{ℕ, ◌+◌, nat_le, nat_lt, Bool, true, false, List, [], ◌∷◌, length, Option, Some, None, Result, Ok, Err, if◌then◌else◌}
 use Rattle.ip_packet.specs.declared.packet.NotPacket.{NotPacket}
 use Rattle.ip_packet.specs.View.{Packet, view_of}
 use Rattle.ikeless_tree.specs.declared.entry.SpdEntry.{SpdEntry}
@@ -9,25 +9,21 @@ use Rattle.ikeless_tree.specs.declared.entry.Direction.TheVariants.{Out}
 use Rattle.ikeless_tree.specs.declared.association.SadEntry.{SadEntry}
 use Rattle.ikeless_tree.specs.declared.order.Notice.TheVariants as notices
 use Rattle.ikeless_tree.specs.declared.reply.DropWhy.TheVariants as why
-use Rattle.spd_match.specs.Match.{first_entry, holds_packet}
+use Rattle.spd_match.specs.Match.{first_entry}
+use Rattle.sad_store.specs.Halves.{may_seal}
 use Rattle.hist_acts.specs.declared.act.Act.{Act}
 use Rattle.hist_acts.specs.declared.act.Act.TheVariants as acts
 use Rattle.hist_acts.specs.Past.{force}
-use Rattle.hist_halves.specs.Sealed.{is_inbound}
 use Rattle.hist_halves.specs.Halves.{live, sent}
 use Rattle.hist_gateway.specs.Stands.{does_acquire_stand, was_overflow_given}
 use Rattle.hist_gateway.specs.Datagram.{fault_why, datagram, flow_of}
 use Rattle.hist_gateway.specs.Look.{look, tells}
 
--- an outbound half with this reqid whose selector holds the packet
-abbrev pub may_seal : ℕ → Packet → SadEntry → Bool
-may_seal reqid v e = not (is_inbound e.name) && ((e.reqid == reqid) && holds_packet e.selector Out v)
-
 abbrev pub newer : ℕ → Packet → SadEntry → Option SadEntry → Option SadEntry
 newer reqid v e (Some x) = Some x
 newer reqid v e None = if may_seal reqid v e then Some e else None
 
--- the newest such half
+-- the newest outbound half with this reqid whose selector holds the packet
 abbrev pub newest : ℕ → Packet → List SadEntry → Option SadEntry
 newest reqid v [] = None
 newest reqid v (e ∷ es) = newer reqid v e (newest reqid v es)

@@ -1,11 +1,10 @@
 -- The gateway as a machine over what it keeps: the acts of an event, and what it keeps after them.
-use Rattle.std.specs.Prelude.{ℕ, ◌+◌, ◌-◌, ◌==◌, ◌&&◌, nat_le, nat_lt, max, List, [], ◌∷◌, ◌++◌, length, map, find, Option, Some, None, Result, Ok, Err, if◌then◌else◌}
+use Rattle.std.specs.Prelude.{ℕ, ◌+◌, ◌==◌, nat_le, nat_lt, max, List, [], ◌∷◌, ◌++◌, length, map, Option, Some, None, Result, Ok, Err, if◌then◌else◌}
 use Rattle.std.specs.List.{list_any}
 use Rattle.std.specs.Str.{bytes_eq}
 use Rattle.ikl_base.specs.declared.address.Addr.{Addr}
 use Rattle.ip_packet.specs.declared.packet.NotPacket.{NotPacket}
 use Rattle.ip_packet.specs.View.{Packet, view_of}
-use Rattle.ikeless_tree.specs.declared.association.Limits.{Limits}
 use Rattle.ikeless_tree.specs.declared.association.SadRow.{SadRow}
 use Rattle.ikeless_tree.specs.declared.association.Tree.{Tree}
 use Rattle.ikeless_tree.specs.declared.entry.SpdEntry.{SpdEntry}
@@ -24,30 +23,30 @@ use Rattle.replay_win.specs.Marks.{judged}
 use Rattle.esp_frame.specs.Esp.{keying, spi_of, seq_of}
 use Rattle.esp_frame.specs.Open as esp
 use Rattle.spd_match.specs.Match.{first_entry}
+use Rattle.life_count.specs.Lifetime.{is_reached, expiry, counts_of, event_at}
+use Rattle.sad_store.specs.declared.half.Half.{Half}
+use Rattle.sad_store.specs.Halves.{send, take_number, newest_half, half_by_spi}
 use Rattle.hist_acts.specs.declared.act.Act.{Act}
 use Rattle.hist_acts.specs.declared.act.Act.TheVariants as acts
 use Rattle.hist_halves.specs.Sealed.{is_inbound}
-use Rattle.hist_gateway.specs.Uses.{cut_32, octets_in}
+use Rattle.hist_gateway.specs.Uses.{octets_in}
 use Rattle.hist_gateway.specs.Datagram.{fault_why, datagram, flow_of}
-use Rattle.hist_gateway.specs.Look.{is_reached, expiry, given_by}
-use Rattle.hist_gateway.specs.Let.{may_seal, unless}
+use Rattle.hist_gateway.specs.Look.{given_by}
+use Rattle.hist_gateway.specs.Let.{unless}
 use Rattle.hist_gateway.specs.Arrive as arrive
 use Rattle.hist_gateway.specs.Handle.{Fault, reply_acts, fault_answer}
 use Rattle.hist_gateway.specs.Block.{Gateway, GatewayEvent, Let, Arrive, Clock, Handle, Session_taken}
-use Rattle.hist_gateway.specs.State.{Half, GatewayState, did_all, send, take_number}
+use Rattle.hist_gateway.specs.State.{GatewayState, did_all}
 
--- ---- counts and looks
-
-abbrev pub counts_of : ℕ → Half → Limits
-counts_of now x = record { time = cut_32 (now - x.installed); bytes = x.octets; packets = x.packets; idle = cut_32 (now - x.used) }
+-- ---- looks
 
 abbrev pub goings_of : List ℕ → ℕ → List Half → List Act
 goings_of g now [] = []
-goings_of g now (x ∷ xs) = if is_reached x.entry.hard (counts_of now x) then acts.Gone g x.entry.name gone.Hard ∷ goings_of g now xs else goings_of g now xs
+goings_of g now (x ∷ xs) = if is_reached x.life.hard (counts_of now x.life) then acts.Gone g x.entry.name gone.Hard ∷ goings_of g now xs else goings_of g now xs
 
 abbrev pub expiries_of : List ℕ → ℕ → ℕ → List Half → List Act
 expiries_of g session now [] = []
-expiries_of g session now (x ∷ xs) = given_by g session (expiry x.entry (counts_of now x) x.soft) ++ expiries_of g session now xs
+expiries_of g session now (x ∷ xs) = given_by g session (expiry x.entry.name (counts_of now x.life) (event_at now x.life)) ++ expiries_of g session now xs
 
 abbrev pub look_of : List ℕ → ℕ → ℕ → List Half → List Act
 look_of g session now xs = goings_of g now xs ++ expiries_of g session now xs
@@ -56,14 +55,6 @@ abbrev pub tells_of : List ℕ → GatewayState → Notice → List Act
 tells_of g s n = acts.Notice g s.session n ∷ []
 
 -- ---- a packet from inside
-
-abbrev pub newer_of : ℕ → Packet → Half → Option Half → Option Half
-newer_of reqid v x (Some y) = Some y
-newer_of reqid v x None = if may_seal reqid v x.entry then Some x else None
-
-abbrev pub newest_of : ℕ → Packet → List Half → Option Half
-newest_of reqid v [] = None
-newest_of reqid v (x ∷ xs) = newer_of reqid v x (newest_of reqid v xs)
 
 abbrev pub sends_of : List ℕ → GatewayState → Half → ℕ → List ℕ → List Act
 sends_of g s x n d = acts.Sent g x.entry.name n d ∷ look_of g s.session s.clock (send s.clock (octets_in (Some d)) x ∷ [])
@@ -76,7 +67,7 @@ out_by_half g seq_last s o v p (Some x) =
     else sends_of g s x (x.sent + 1) (datagram x.entry (x.sent + 1) v o)
 
 abbrev pub out_by_action : List ℕ → ℕ → GatewayState → List ℕ → Packet → SpdEntry → Action → List Act
-out_by_action g seq_last s o v p actions.Protect = out_by_half g seq_last s o v p (newest_of p.reqid v s.halves)
+out_by_action g seq_last s o v p actions.Protect = out_by_half g seq_last s o v p (newest_half p.reqid v s.halves)
 out_by_action g seq_last s o v p actions.Bypass = acts.Clear g o ∷ []
 out_by_action g seq_last s o v p actions.Discard = acts.Drop g why.Discard ∷ []
 
@@ -108,9 +99,6 @@ abbrev pub in_by_half : List ℕ → GatewayState → List ℕ → List ℕ → 
 in_by_half g s o b None = acts.Drop g why.BadSpi ∷ unless (list_any (λ k. k == spi_of b) s.bad_spis) (tells_of g s (notices.BadSpi (spi_of b)))
 in_by_half g s o b (Some x) = in_by_verdict g s o b x (seq_of b) (judged x.window (seq_of b))
 
-abbrev pub half_by_spi : ℕ → List Half → Option Half
-half_by_spi spi xs = find (λ x. is_inbound x.entry.name && (x.entry.spi == spi)) xs
-
 abbrev pub in_esp : List ℕ → GatewayState → List ℕ → List ℕ → List Act
 in_esp g s o b = if nat_lt (length b) 34 then arrive.drops g why.Short else in_by_half g s o b (half_by_spi (spi_of b) s.halves)
 
@@ -124,7 +112,7 @@ abbrev pub top_of : Half → ℕ
 top_of x = if is_inbound x.entry.name then x.window.top else x.sent
 
 abbrev pub row_from : ℕ → Half → SadRow
-row_from now x = record { entry = x.entry; state = record { current = counts_of now x; top = top_of x } }
+row_from now x = record { entry = x.entry; state = record { current = counts_of now x.life; top = top_of x } }
 
 abbrev pub tree_from : GatewayState → Tree
 tree_from s = record { spd = s.spd; sad = map (row_from s.clock) s.halves }

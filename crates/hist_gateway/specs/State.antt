@@ -6,27 +6,18 @@ use Rattle.ikeless_tree.specs.declared.association.SadEntry.{SadEntry}
 use Rattle.ikeless_tree.specs.declared.order.Notice.{Notice}
 use Rattle.ikeless_tree.specs.declared.order.Notice.TheVariants as notices
 use Rattle.replay_win.specs.Marks.{Marks, marked, no_marks}
+use Rattle.life_count.specs.Lifetime.{Lifetime, cut_32, cut_64, with_told}
+use Rattle.sad_store.specs.declared.half.Half.{Half}
+use Rattle.sad_store.specs.Halves.{fresh, send, take_number, hushed, with_life, with_overflow, entries_of, halves_without}
 use Rattle.hist_acts.specs.declared.act.Act.{Act}
 use Rattle.hist_acts.specs.declared.act.Act.TheVariants as acts
 use Rattle.hist_acts.specs.Past.{force, clock}
 use Rattle.hist_acts.specs.Sessions as sessions
 use Rattle.hist_halves.specs.Sealed.{is_inbound, is_opened}
 use Rattle.hist_halves.specs.Halves.{live, sent, numbers_taken}
-use Rattle.hist_gateway.specs.Uses.{arrival, is_for, number_in, octets_in, installed_at, last_used, octets_used, times_used, cut_32, cut_64}
+use Rattle.hist_gateway.specs.Uses.{arrival, is_for, number_in, octets_in, installed_at, last_used, octets_used, times_used}
 use Rattle.hist_gateway.specs.Stands.{has_reqid, is_soft_of, is_overflow_of, was_soft_given, was_overflow_given, with_spi, bad_spis}
 use Rattle.hist_gateway.specs.Handle.{requests}
-
--- a half with what was counted of it since its installation
-pub record Half : Type 0 where
-  pub entry : SadEntry
-  pub sent : ℕ
-  pub window : Marks
-  pub installed : ℕ
-  pub used : ℕ
-  pub octets : ℕ
-  pub packets : ℕ
-  pub soft : Bool
-  pub overflow : Bool
 
 -- The list in force, the halves in the order of installation, the policies whose acquire stands, the last 64 SPIs reported, the
 -- clock, the session taken with its number and the requests answered in it, and the datagram that has no answer yet.
@@ -63,16 +54,24 @@ acquires g (_ ∷ h) = acquires g h
 abbrev pub window_of : ℕ → List ℕ → Marks
 window_of size numbers = fold marked (no_marks size) numbers
 
+-- the limits and counts of a half
+abbrev pub life_of : List ℕ → List Act → SadEntry → Lifetime
+life_of g h e = record {
+  hard = e.hard;
+  soft = e.soft;
+  installed = installed_at g e.name h;
+  used = last_used g e.name h;
+  octets = cut_64 (octets_used g e.name h);
+  packets = cut_32 (times_used g e.name h);
+  is_told = was_soft_given g e.name h;
+}
+
 abbrev pub half_of : List ℕ → List Act → SadEntry → Half
 half_of g h e = record {
   entry = e;
   sent = sent g e.name h;
   window = window_of e.window (numbers_taken g e.name h);
-  installed = installed_at g e.name h;
-  used = last_used g e.name h;
-  octets = cut_64 (octets_used g e.name h);
-  packets = cut_32 (times_used g e.name h);
-  soft = was_soft_given g e.name h;
+  life = life_of g h e;
   overflow = was_overflow_given g e.name h;
 }
 
@@ -225,74 +224,11 @@ with_arrival o s = record {
 
 -- ---- of halves
 
-abbrev pub fresh : ℕ → SadEntry → Half
-fresh now e = record {
-  entry = e;
-  sent = 0;
-  window = no_marks e.window;
-  installed = now;
-  used = now;
-  octets = 0;
-  packets = 0;
-  soft = false;
-  overflow = false;
-}
-
--- one more number is sent under this half, with these octets at this time
-abbrev pub send : ℕ → ℕ → Half → Half
-send now size x = record {
-  entry = x.entry;
-  sent = x.sent + 1;
-  window = x.window;
-  installed = x.installed;
-  used = now;
-  octets = cut_64 (x.octets + size);
-  packets = cut_32 (x.packets + 1);
-  soft = x.soft;
-  overflow = x.overflow;
-}
-
--- the number is taken under this half, with these octets at this time
-abbrev pub take_number : ℕ → ℕ → ℕ → Half → Half
-take_number now size n x = record {
-  entry = x.entry;
-  sent = x.sent;
-  window = marked x.window n;
-  installed = x.installed;
-  used = now;
-  octets = cut_64 (x.octets + size);
-  packets = cut_32 (x.packets + 1);
-  soft = x.soft;
-  overflow = x.overflow;
-}
-
 -- a notice of this half is given
 abbrev pub note : Notice → Half → Half
-note n x = record {
-  entry = x.entry;
-  sent = x.sent;
-  window = x.window;
-  installed = x.installed;
-  used = x.used;
-  octets = x.octets;
-  packets = x.packets;
-  soft = is_soft_of x.entry.name n || x.soft;
-  overflow = is_overflow_of x.entry.name n || x.overflow;
-}
-
--- no notice of this half stands
-abbrev pub hush : Half → Half
-hush x = record {
-  entry = x.entry;
-  sent = x.sent;
-  window = x.window;
-  installed = x.installed;
-  used = x.used;
-  octets = x.octets;
-  packets = x.packets;
-  soft = false;
-  overflow = false;
-}
+note n x =
+    with_overflow (is_overflow_of x.entry.name n || x.overflow)
+    (with_life (with_told (is_soft_of x.entry.name n || x.life.is_told) x.life) x)
 
 abbrev pub sent_under : List ℕ → ℕ → ℕ → Half → Half
 sent_under y now size x = if bytes_eq y x.entry.name then send now size x else x
@@ -303,13 +239,6 @@ given_under y now size n x = if bytes_eq y x.entry.name then take_number now siz
 -- what was opened counts for its half, though it is dropped
 abbrev pub opened_under : List SadEntry → Option (List ℕ) → ℕ → Half → Half
 opened_under live o now x = if is_for x.entry.name live o then take_number now (octets_in o) (number_in o) x else x
-
-abbrev pub entries_of : List Half → List SadEntry
-entries_of xs = map (λ x. x.entry) xs
-
-abbrev pub gone_from : List ℕ → List Half → List Half
-gone_from name [] = []
-gone_from name (x ∷ xs) = if bytes_eq x.entry.name name then gone_from name xs else x ∷ gone_from name xs
 
 -- ---- of acts
 
@@ -341,12 +270,12 @@ did_at s (acts.Now t) = with_clock (max t s.clock) s
 did_at s (acts.Boot f) = restarted s
 did_at s (acts.Policy f list) = with_policy list s
 did_at s (acts.Put f e) = with_put (s.halves ++ fresh s.clock e ∷ []) (wanted_after e s) s
-did_at s (acts.Gone f x w) = with_halves (gone_from x s.halves) s
+did_at s (acts.Gone f x w) = with_halves (halves_without x s.halves) s
 did_at s (acts.Sent f x n o) = with_halves (map (sent_under x s.clock (octets_in (Some o))) s.halves) s
 did_at s (acts.Drop f w) = if is_opened w then number_opened s else quiet s
 did_at s (acts.Arrived f o) = with_arrival o s
 did_at s (acts.Gave f x n o) = with_halves (map (given_under x s.clock (octets_in s.arrival) n) s.halves) s
-did_at s (acts.Opened f n) = with_session n (map hush s.halves) s
+did_at s (acts.Opened f n) = with_session n (map hushed s.halves) s
 did_at s (acts.Handled f n k a) = with_request s
 did_at s (acts.Notice f k n) = with_notice (map (note n) s.halves) (with_acquire n s.acquires) (take 64 (with_spi n s.bad_spis)) s
 did_at s _ = quiet s

@@ -1,9 +1,10 @@
 -- The uses of a half and its counts (the lifetimes of RFC 4301 section 4.4.2.1). A past has its newest act first. In each test
 -- the name in the act stands first and the name asked for second.
-use Rattle.std.specs.Prelude.{not, ◌||◌, ◌==◌, ℕ, ◌+◌, ◌-◌, ◌&&◌, nat_le, Bool, false, List, [], ◌∷◌, length, Option, Some, None, if◌then◌else◌}
+use Rattle.std.specs.Prelude.{not, ◌||◌, ◌==◌, ℕ, ◌+◌, ◌&&◌, Bool, false, List, [], ◌∷◌, length, Option, Some, None, if◌then◌else◌}
 use Rattle.std.specs.Str.{bytes_eq}
 use Rattle.ikeless_tree.specs.declared.association.Limits.{Limits}
 use Rattle.ikeless_tree.specs.declared.association.SadEntry.{SadEntry}
+use Rattle.life_count.specs.Lifetime.{counts_at}
 use Rattle.hist_acts.specs.declared.act.Act.{Act}
 use Rattle.hist_acts.specs.declared.act.Act.TheVariants as acts
 use Rattle.hist_acts.specs.Past.{clock}
@@ -62,25 +63,6 @@ abbrev pub installed_at : List ℕ → List ℕ → List Act → ℕ
 installed_at g x [] = 0
 installed_at g x (acts.Put f e ∷ h) = if is_half f e.name g x then clock h else installed_at g x h
 installed_at g x (_ ∷ h) = installed_at g x h
-
--- a count stops at the greatest value of its type, of 32 or 64 bits
-abbrev pub cut : ℕ → ℕ → ℕ
-cut most n = if nat_le n most then n else most
-
-abbrev pub cut_32 : ℕ → ℕ
-cut_32 n = cut 4294967295 n
-
-abbrev pub cut_64 : ℕ → ℕ
-cut_64 n = cut 18446744073709551615 n
-
--- the counts at this clock of a half that was installed and last used at these times
-abbrev pub counts_at : ℕ → ℕ → ℕ → ℕ → ℕ → Limits
-counts_at now installed used octets times = record {
-  time = cut_32 (now - installed);
-  bytes = cut_64 octets;
-  packets = cut_32 times;
-  idle = cut_32 (now - used);
-}
 
 -- the counts of a half since its installation
 abbrev pub counts : List ℕ → List ℕ → List Act → Limits

@@ -6,14 +6,14 @@ use Rattle.ikeless_tree.specs.declared.command.Peer.{Peer}
 use Rattle.ikeless_tree.specs.declared.order.Notice.{Notice}
 use Rattle.ikeless_tree.specs.declared.reply.GoneWhy.{GoneWhy}
 use Rattle.ikeless_tree.specs.declared.reply.GoneWhy.TheVariants as gone
+use Rattle.life_count.specs.Lifetime.{is_reached, expiry}
 use Rattle.hist_acts.specs.declared.act.Act.{Act}
 use Rattle.hist_acts.specs.declared.act.Act.TheVariants as acts
 use Rattle.hist_acts.specs.Past.{after}
 use Rattle.hist_acts.specs.Sessions as sessions
 use Rattle.hist_halves.specs.Halves.{is_hard, live}
 use Rattle.hist_gateway.specs.Uses.{counts}
-use Rattle.hist_gateway.specs.Stands.{was_soft_given}
-use Rattle.hist_gateway.specs.Look.{is_reached, expiry, given_by, goings, expiries, look}
+use Rattle.hist_gateway.specs.Look.{event_of, given_by, goings, expiries, look}
 use Rattle.hist_gateway.specs.Let.{unless}
 use Rattle.hist_safety.specs.Law.{AllMayHappen, MayHappen, is_ready}
 use Rattle.hist_safety.proofs.Basics.{no, both, both-left, both-right}
@@ -65,7 +65,7 @@ goings-follow g h (e ∷ es) =
 expiries-follow : (g : List ℕ) (h : List Act) (es : List SadEntry) → are_followers (expiries g h es) ≡ true
 expiries-follow g h [] = refl
 expiries-follow g h (e ∷ es) =
-    let ns : List Notice = expiry e (counts g e.name h) (was_soft_given g e.name h) in
+    let ns : List Notice = expiry e.name (counts g e.name h) (event_of g h e) in
     joined (given_by g (sessions.session_taken g h) ns) (expiries g h es) (given-follows g (sessions.session_taken g h) ns) (expiries-follow g h es)
 
 pub look-follows : (g : List ℕ) (h : List Act) (es : List SadEntry) → are_followers (look g h es) ≡ true

@@ -14,6 +14,7 @@ use Rattle.ikeless_tree.specs.declared.order.Notice.TheVariants as notices
 use Rattle.ikeless_tree.specs.declared.reply.DropWhy.TheVariants as why
 use Rattle.esp_frame.specs.Esp.{esp, keying}
 use Rattle.spd_match.specs.Match.{first_entry, holds_packet}
+use Rattle.sad_store.specs.Halves.{may_seal}
 use Rattle.hist_acts.specs.declared.act.Act.{Act}
 use Rattle.hist_acts.specs.declared.act.Act.TheVariants as acts
 use Rattle.hist_acts.specs.Past.{after, force}
@@ -22,7 +23,7 @@ use Rattle.hist_halves.specs.Halves.{is_live, live, put_of, sent}
 use Rattle.hist_gateway.specs.Stands.{does_acquire_stand, was_overflow_given}
 use Rattle.hist_gateway.specs.Datagram.{datagram, fault_why, flow_of, outer_of}
 use Rattle.hist_gateway.specs.Look.{look, tells}
-use Rattle.hist_gateway.specs.Let.{let_by_action, let_by_entry, let_by_half, let_by_view, let_acts, newer, newest, may_seal, send_acts, unless}
+use Rattle.hist_gateway.specs.Let.{let_by_action, let_by_entry, let_by_half, let_by_view, let_acts, newer, newest, send_acts, unless}
 use Rattle.hist_gateway.specs.Block.{Gateway}
 use Rattle.hist_gateway.specs.May.{GatewayMayActAll, IsLetOut, IsSealedLet, GatewayMayAct}
 use Rattle.hist_safety.specs.Carried.{Sends, keying_of}

@@ -99,9 +99,9 @@ with_told is_told l = record {
 }
 
 -- what is found at a look at this clock
-abbrev pub found : ℕ → Lifetime → LifeEvent
-found now l = event_by l.hard l.soft l.is_told (counts_of now l)
+abbrev pub event_at : ℕ → Lifetime → LifeEvent
+event_at now l = event_by l.hard l.soft l.is_told (counts_of now l)
 
 -- after that look
 abbrev pub looked : ℕ → Lifetime → Lifetime
-looked now l = with_told (is_soft (found now l) || l.is_told) l
+looked now l = with_told (is_soft (event_at now l) || l.is_told) l

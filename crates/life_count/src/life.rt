@@ -45,7 +45,7 @@ impl Model for Life {
 }
 
 impl Life {
-    ghost use Rattle.life_count.specs.Lifetime.{begun, counted, counts_of, found, looked, with_told};
+    ghost use Rattle.life_count.specs.Lifetime.{begun, counted, counts_of, event_at, looked, with_told};
     ghost use Rattle.std.specs.Prelude.{false};
 
     /// The lifetime of an association that is installed now.
@@ -77,7 +77,7 @@ impl Life {
 
     /// One more use, with these ESP octets at this clock, and what the counts tell after it.
     pub fn used(&mut self, bytes: u64, now: u32) -> LifeEvent
-        ensures event { result ≡ found now (counted bytes now self.old) }
+        ensures event { result ≡ event_at now (counted bytes now self.old) }
         ensures life { self.new ≡ looked now (counted bytes now self.old) }
     {
         self.used = now;
@@ -90,7 +90,7 @@ impl Life {
     ///
     /// A soft limit is told once, until a session is taken.
     pub fn tick(&mut self, now: u32) -> LifeEvent
-        ensures event { result ≡ found now self.old }
+        ensures event { result ≡ event_at now self.old }
         ensures life { self.new ≡ looked now self.old }
     {
         let counts = self.current(now);

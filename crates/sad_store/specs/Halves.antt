@@ -1,5 +1,5 @@
 -- The halves of associations at one gateway, with what is counted of each since its installation (RFC 4301 section 4.4.2).
-use Rattle.std.specs.Prelude.{ℕ, zero, suc, ◌+◌, ◌==◌, ◌&&◌, nat_le, not, Bool, true, false, List, [], ◌∷◌, length, map, find, Option, Some, None, if◌then◌else◌}
+use Rattle.std.specs.Prelude.{ℕ, zero, suc, ◌+◌, ◌==◌, ◌&&◌, nat_le, not, Bool, false, List, [], ◌∷◌, length, map, find, Option, Some, None, if◌then◌else◌}
 use Rattle.std.specs.List.{list_any}
 use Rattle.std.specs.Str.{bytes_eq}
 use Rattle.ip_packet.specs.View.{Packet}
@@ -49,16 +49,16 @@ entries_of xs = map (λ x. x.entry) xs
 abbrev pub names_of : List Half → List (List ℕ)
 names_of xs = map (λ x. x.entry.name) xs
 
-abbrev pub is_named : List ℕ → Half → Bool
-is_named name x = bytes_eq x.entry.name name
+abbrev pub is_half_named : List ℕ → Half → Bool
+is_half_named name x = bytes_eq x.entry.name name
 
-abbrev pub has_name : List ℕ → List Half → Bool
-has_name name xs = list_any (is_named name) xs
+abbrev pub has_half_named : List ℕ → List Half → Bool
+has_half_named name xs = list_any (is_half_named name) xs
 
 -- halves but those of this name
-abbrev pub without : List ℕ → List Half → List Half
-without name [] = []
-without name (x ∷ xs) = if bytes_eq x.entry.name name then without name xs else x ∷ without name xs
+abbrev pub halves_without : List ℕ → List Half → List Half
+halves_without name [] = []
+halves_without name (x ∷ xs) = if bytes_eq x.entry.name name then halves_without name xs else x ∷ halves_without name xs
 
 -- the half at this place is another one
 abbrev pub changed : (Half → Half) → ℕ → List Half → List Half
@@ -69,29 +69,29 @@ changed f (suc i) (x ∷ xs) = x ∷ changed f i xs
 -- ---- look-ups
 
 -- the inbound half that an SPI names (RFC 4301 section 4.1)
-abbrev pub has_spi : ℕ → Half → Bool
-has_spi spi x = is_inbound x.entry.name && (x.entry.spi == spi)
+abbrev pub is_half_of_spi : ℕ → Half → Bool
+is_half_of_spi spi x = is_inbound x.entry.name && (x.entry.spi == spi)
 
-abbrev pub by_spi : ℕ → List Half → Option Half
-by_spi spi xs = find (has_spi spi) xs
+abbrev pub half_by_spi : ℕ → List Half → Option Half
+half_by_spi spi xs = find (is_half_of_spi spi) xs
 
 -- an outbound half with this reqid whose selector holds the packet
-abbrev pub seals : ℕ → Packet → SadEntry → Bool
-seals reqid v e = not (is_inbound e.name) && ((e.reqid == reqid) && holds_packet e.selector Out v)
+abbrev pub may_seal : ℕ → Packet → SadEntry → Bool
+may_seal reqid v e = not (is_inbound e.name) && ((e.reqid == reqid) && holds_packet e.selector Out v)
 
-abbrev pub newer : ℕ → Packet → Half → Option Half → Option Half
-newer reqid v x (Some y) = Some y
-newer reqid v x None = if seals reqid v x.entry then Some x else None
+abbrev pub newer_half : ℕ → Packet → Half → Option Half → Option Half
+newer_half reqid v x (Some y) = Some y
+newer_half reqid v x None = if may_seal reqid v x.entry then Some x else None
 
 -- the newest such half
-abbrev pub newest : ℕ → Packet → List Half → Option Half
-newest reqid v [] = None
-newest reqid v (x ∷ xs) = newer reqid v x (newest reqid v xs)
+abbrev pub newest_half : ℕ → Packet → List Half → Option Half
+newest_half reqid v [] = None
+newest_half reqid v (x ∷ xs) = newer_half reqid v x (newest_half reqid v xs)
 
 -- where it stands
 abbrev pub later_place : ℕ → Packet → Half → Option ℕ → Option ℕ
 later_place reqid v x (Some i) = Some (i + 1)
-later_place reqid v x None = if seals reqid v x.entry then Some 0 else None
+later_place reqid v x None = if may_seal reqid v x.entry then Some 0 else None
 
 abbrev pub newest_place : ℕ → Packet → List Half → Option ℕ
 newest_place reqid v [] = None
@@ -101,10 +101,10 @@ newest_place reqid v (x ∷ xs) = later_place reqid v x (newest_place reqid v xs
 
 -- a name that a half has, an SPI that an inbound half has, and a list that is full
 abbrev pub is_name_taken : SadEntry → List Half → Bool
-is_name_taken e xs = has_name e.name xs
+is_name_taken e xs = has_half_named e.name xs
 
 abbrev pub is_spi_taken : SadEntry → List Half → Bool
-is_spi_taken e xs = is_inbound e.name && list_any (has_spi e.spi) xs
+is_spi_taken e xs = is_inbound e.name && list_any (is_half_of_spi e.spi) xs
 
 abbrev pub is_full : List Half → Bool
 is_full xs = nat_le 4096 (length xs)
