@@ -43,15 +43,15 @@ gate-opened : (b : Bool) (x : KeptGateway) → record { up = b || x.up; session 
 gate-opened true x = refl
 gate-opened false x = refl
 
-gate-cut : (b : Bool) (x : KeptGateway) → record { up = not b && x.up; session = x.session; orders = x.orders; answers = x.answers; queue = if b then [] else x.queue; read = x.read; list = x.list } ≡ (if b then gateway_cut x else x)
+gate-cut : (b : Bool) (x : KeptGateway) → record x { up = not b && x.up; queue = if b then [] else x.queue } ≡ (if b then gateway_cut x else x)
 gate-cut true x = refl
 gate-cut false x = refl
 
-gate-answered : (b : Bool) (n : ℕ) (x : KeptGateway) → record { up = x.up; session = x.session; orders = x.orders; answers = if b then x.answers + 1 else x.answers; queue = if b then rest x.queue else x.queue; read = (b && (n == 1)) || x.read; list = x.list } ≡ (if b then gateway_answered n x else x)
+gate-answered : (b : Bool) (n : ℕ) (x : KeptGateway) → record x { answers = if b then x.answers + 1 else x.answers; queue = if b then rest x.queue else x.queue; read = (b && (n == 1)) || x.read } ≡ (if b then gateway_answered n x else x)
 gate-answered true n x = refl
 gate-answered false n x = refl
 
-gate-ordered : (b : Bool) (o : ControllerOrder) (x : KeptGateway) → record { up = x.up; session = x.session; orders = if b then x.orders + 1 else x.orders; answers = x.answers; queue = if b then x.queue ++ o ∷ [] else x.queue; read = x.read; list = x.list } ≡ (if b then gateway_ordered o x else x)
+gate-ordered : (b : Bool) (o : ControllerOrder) (x : KeptGateway) → record x { orders = if b then x.orders + 1 else x.orders; queue = if b then x.queue ++ o ∷ [] else x.queue } ≡ (if b then gateway_ordered o x else x)
 gate-ordered true o x = refl
 gate-ordered false o x = refl
 

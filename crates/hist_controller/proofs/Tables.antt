@@ -14,7 +14,7 @@ at-change f g k (x ∷ xs) e =
 at-told : (c : PlacedCommand) (g : ℕ) (xs : List KeptGateway) → fits_placed (length xs) c → gateway_at g (told_gates c xs) ≡ gateway_told c g (gateway_at g xs)
 at-told (SetPolicy f l) g xs e = at-change f g (listed l) xs e ∙ by-if (g == f) (gateway_at g xs)
   where
-    by-if : (b : Bool) (x : KeptGateway) → (if b then listed l x else x) ≡ record { up = x.up; session = x.session; orders = x.orders; answers = x.answers; queue = x.queue; read = x.read; list = if b then Some l else x.list }
+    by-if : (b : Bool) (x : KeptGateway) → (if b then listed l x else x) ≡ record x { list = if b then Some l else x.list }
     by-if true x = refl
     by-if false x = refl
 at-told (Tunnel t) g xs e = refl

@@ -60,16 +60,16 @@ abbrev pub gateway_opened : KeptGateway → KeptGateway
 gateway_opened x = record { up = true; session = x.session + 1; orders = 0; answers = 0; queue = []; read = false; list = x.list }
 
 abbrev pub gateway_cut : KeptGateway → KeptGateway
-gateway_cut x = record { up = false; session = x.session; orders = x.orders; answers = x.answers; queue = []; read = x.read; list = x.list }
+gateway_cut x = record x { up = false; queue = [] }
 
 abbrev pub gateway_answered : ℕ → KeptGateway → KeptGateway
-gateway_answered n x = record { up = x.up; session = x.session; orders = x.orders; answers = x.answers + 1; queue = rest x.queue; read = (n == 1) || x.read; list = x.list }
+gateway_answered n x = record x { answers = x.answers + 1; queue = rest x.queue; read = (n == 1) || x.read }
 
 abbrev pub gateway_ordered : ControllerOrder → KeptGateway → KeptGateway
-gateway_ordered o x = record { up = x.up; session = x.session; orders = x.orders + 1; answers = x.answers; queue = x.queue ++ o ∷ []; read = x.read; list = x.list }
+gateway_ordered o x = record x { orders = x.orders + 1; queue = x.queue ++ o ∷ [] }
 
 abbrev pub gateway_told : PlacedCommand → ℕ → KeptGateway → KeptGateway
-gateway_told c g x = record { up = x.up; session = x.session; orders = x.orders; answers = x.answers; queue = x.queue; read = x.read; list = list_if g c x.list }
+gateway_told c g x = record x { list = list_if g c x.list }
 
 -- ## to an association
 
@@ -77,10 +77,12 @@ abbrev pub fresh : Association → KeptAssociation
 fresh x = record { association = x; in_done = false; out_sent = false; out_done = false; out_gone = false; ended = false }
 
 abbrev pub kept_told : PlacedCommand → KeptAssociation → KeptAssociation
-kept_told c k = record { association = k.association; in_done = k.in_done; out_sent = k.out_sent; out_done = k.out_done; out_gone = k.out_gone; ended = is_end_of k.association.way.tunnel.reqid c || k.ended }
+kept_told c k = record k { ended = is_end_of k.association.way.tunnel.reqid c || k.ended }
 
 abbrev pub kept_cut : List ControllerOrder → KeptAssociation → KeptAssociation
-kept_cut q k = record { association = k.association; in_done = k.in_done; out_sent = k.out_sent; out_done = k.out_done; out_gone = k.out_gone; ended = list_any (λ o. is_kind PuttingIn k.association.serial o || is_kind PuttingOut k.association.serial o) q || k.ended }
+kept_cut q k = record k {
+  ended = list_any (λ o. is_kind PuttingIn k.association.serial o || is_kind PuttingOut k.association.serial o) q || k.ended;
+}
 
 abbrev pub kept_answered : ℕ → Option ControllerOrder → Answer → KeptAssociation → KeptAssociation
 kept_answered g o a k = record {
@@ -105,13 +107,17 @@ kept_ordered o k = record {
 -- ## to a direction
 
 abbrev pub way_told : PlacedCommand → KeptWay → KeptWay
-way_told c w = record { way = w.way; over = is_end_of w.way.tunnel.reqid c || w.over; wanted = is_renewal w.way c || w.wanted; newest = w.newest; associations = map (kept_told c) w.associations }
+way_told c w = record w {
+  over = is_end_of w.way.tunnel.reqid c || w.over;
+  wanted = is_renewal w.way c || w.wanted;
+  associations = map (kept_told c) w.associations;
+}
 
 abbrev pub fresh_way : PlacedCommand → Way → KeptWay
 fresh_way c d = record { way = d; over = false; wanted = is_start c; newest = 0; associations = [] }
 
 abbrev pub way_cut : List ControllerOrder → KeptWay → KeptWay
-way_cut q w = record { way = w.way; over = w.over; wanted = list_any (is_put_of w.way) q || w.wanted; newest = w.newest; associations = map (kept_cut q) w.associations }
+way_cut q w = record w { wanted = list_any (is_put_of w.way) q || w.wanted; associations = map (kept_cut q) w.associations }
 
 abbrev pub is_unseen_of : Way → ℕ → List (List ℕ) → KeptAssociation → Bool
 is_unseen_of d g names k =
@@ -124,11 +130,8 @@ is_cause_reading_of w g (Some Read) a = list_any (is_unseen_of w.way g a.names) 
 is_cause_reading_of w g (_) a = false
 
 abbrev pub way_answered : ℕ → Option ControllerOrder → Answer → KeptWay → KeptWay
-way_answered g o a w = record {
-  way = w.way;
-  over = w.over;
+way_answered g o a w = record w {
   wanted = is_cause_reading_of w g o a || w.wanted;
-  newest = w.newest;
   associations = filter (λ k. not (is_answer_to RemovingIn k.association.serial o)) (map (kept_answered g o a) w.associations);
 }
 
@@ -145,12 +148,10 @@ is_cause_notice_of l w g (notices.SeqOverflow m) = is_newest_of w g m
 is_cause_notice_of l w g (notices.BadSpi s) = false
 
 abbrev pub way_heard : Option (List SpdEntry) → ℕ → Notice → KeptWay → KeptWay
-way_heard l g t w = record { way = w.way; over = w.over; wanted = is_cause_notice_of l w g t || w.wanted; newest = w.newest; associations = w.associations }
+way_heard l g t w = record w { wanted = is_cause_notice_of l w g t || w.wanted }
 
 abbrev pub way_ordered : ControllerOrder → KeptWay → KeptWay
-way_ordered o w = record {
-  way = w.way;
-  over = w.over;
+way_ordered o w = record w {
   wanted = not (is_inbound_put_of w.way o) && w.wanted;
   newest = last_if w.way o w.newest;
   associations = map (kept_ordered o) w.associations ++ map fresh (inbound_put w.way o);
@@ -158,10 +159,16 @@ way_ordered o w = record {
 
 -- the state after an act
 abbrev pub did : ControllerState → ControllerAct → ControllerState
-did s (Opened f n) = record { gateway = λ g. if g == f then gateway_opened (s.gateway g) else s.gateway g; ways = s.ways; keys = s.keys; spare = s.spare; serials = s.serials }
-did s (Cut f n) = record { gateway = λ g. if g == f then gateway_cut (s.gateway g) else s.gateway g; ways = map (way_cut (s.gateway f).queue) s.ways; keys = s.keys; spare = s.spare; serials = s.serials }
-did s (Answered f n i a) = record { gateway = λ g. if g == f then gateway_answered i (s.gateway g) else s.gateway g; ways = map (way_answered f (oldest (s.gateway f).queue) a) s.ways; keys = s.keys; spare = s.spare; serials = s.serials }
-did s (Heard f n t) = record { gateway = s.gateway; ways = map (way_heard (s.gateway f).list f t) s.ways; keys = s.keys; spare = s.spare; serials = s.serials }
+did s (Opened f n) = record s { gateway = λ g. if g == f then gateway_opened (s.gateway g) else s.gateway g }
+did s (Cut f n) = record s {
+  gateway = λ g. if g == f then gateway_cut (s.gateway g) else s.gateway g;
+  ways = map (way_cut (s.gateway f).queue) s.ways;
+}
+did s (Answered f n i a) = record s {
+  gateway = λ g. if g == f then gateway_answered i (s.gateway g) else s.gateway g;
+  ways = map (way_answered f (oldest (s.gateway f).queue) a) s.ways;
+}
+did s (Heard f n t) = record s { ways = map (way_heard (s.gateway f).list f t) s.ways }
 did s (Ordered f n i o) = record { gateway = λ g. if g == f then gateway_ordered o (s.gateway g) else s.gateway g; ways = map (way_ordered o) s.ways; keys = s.keys; spare = keys_after o s.spare; serials = if is_inbound_put o then s.serials + 1 else s.serials }
 did s (Accepted c) = record { gateway = λ g. gateway_told c g (s.gateway g); ways = map (way_told c) s.ways ++ map (fresh_way c) (new_ways (length s.ways) c); keys = s.keys ++ key_of c; spare = s.spare ++ key_of c; serials = s.serials }
 did s (Refused w) = s

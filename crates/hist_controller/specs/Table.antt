@@ -26,7 +26,7 @@ change f k [] = []
 change f k (x ∷ xs) = if f == 0 then k x ∷ xs else x ∷ change (f - 1) k xs
 
 abbrev pub listed : List SpdEntry → KeptGateway → KeptGateway
-listed l x = record { up = x.up; session = x.session; orders = x.orders; answers = x.answers; queue = x.queue; read = x.read; list = Some l }
+listed l x = record x { list = Some l }
 
 abbrev pub told_gates : PlacedCommand → List KeptGateway → List KeptGateway
 told_gates (SetPolicy f l) xs = change f (listed l) xs
@@ -36,10 +36,10 @@ abbrev pub seen : Table → ControllerState
 seen t = record { gateway = λ g. gateway_at g t.gateways; ways = t.ways; keys = t.keys; spare = t.spare; serials = t.serials }
 
 abbrev pub did_table : Table → ControllerAct → Table
-did_table s (Opened f n) = record { gateways = change f gateway_opened s.gateways; ways = s.ways; keys = s.keys; spare = s.spare; serials = s.serials }
-did_table s (Cut f n) = record { gateways = change f gateway_cut s.gateways; ways = map (way_cut (gateway_at f s.gateways).queue) s.ways; keys = s.keys; spare = s.spare; serials = s.serials }
-did_table s (Answered f n i a) = record { gateways = change f (gateway_answered i) s.gateways; ways = map (way_answered f (oldest (gateway_at f s.gateways).queue) a) s.ways; keys = s.keys; spare = s.spare; serials = s.serials }
-did_table s (Heard f n t) = record { gateways = s.gateways; ways = map (way_heard (gateway_at f s.gateways).list f t) s.ways; keys = s.keys; spare = s.spare; serials = s.serials }
+did_table s (Opened f n) = record s { gateways = change f gateway_opened s.gateways }
+did_table s (Cut f n) = record s { gateways = change f gateway_cut s.gateways; ways = map (way_cut (gateway_at f s.gateways).queue) s.ways }
+did_table s (Answered f n i a) = record s { gateways = change f (gateway_answered i) s.gateways; ways = map (way_answered f (oldest (gateway_at f s.gateways).queue) a) s.ways }
+did_table s (Heard f n t) = record s { ways = map (way_heard (gateway_at f s.gateways).list f t) s.ways }
 did_table s (Ordered f n i o) = record { gateways = change f (gateway_ordered o) s.gateways; ways = map (way_ordered o) s.ways; keys = s.keys; spare = keys_after o s.spare; serials = if is_inbound_put o then s.serials + 1 else s.serials }
 did_table s (Accepted c) = record { gateways = told_gates c s.gateways; ways = map (way_told c) s.ways ++ map (fresh_way c) (new_ways (length s.ways) c); keys = s.keys ++ key_of c; spare = s.spare ++ key_of c; serials = s.serials }
 did_table s (Refused w) = s
