@@ -92,56 +92,16 @@ state_of g h = record {
 -- ---- the effect of an act
 
 abbrev pub quiet : GatewayState → GatewayState
-quiet s = record {
-  spd = s.spd;
-  halves = s.halves;
-  acquires = s.acquires;
-  bad_spis = s.bad_spis;
-  clock = s.clock;
-  openings = s.openings;
-  session = s.session;
-  requests = s.requests;
-  arrival = None;
-}
+quiet s = record s { arrival = None }
 
 abbrev pub with_policy : List SpdEntry → GatewayState → GatewayState
-with_policy list s = record {
-  spd = list;
-  halves = s.halves;
-  acquires = [];
-  bad_spis = s.bad_spis;
-  clock = s.clock;
-  openings = s.openings;
-  session = s.session;
-  requests = s.requests;
-  arrival = None;
-}
+with_policy list s = record s { spd = list; acquires = []; arrival = None }
 
 abbrev pub with_halves : List Half → GatewayState → GatewayState
-with_halves halves s = record {
-  spd = s.spd;
-  halves = halves;
-  acquires = s.acquires;
-  bad_spis = s.bad_spis;
-  clock = s.clock;
-  openings = s.openings;
-  session = s.session;
-  requests = s.requests;
-  arrival = None;
-}
+with_halves halves s = record s { halves = halves; arrival = None }
 
 abbrev pub with_put : List Half → List (List ℕ) → GatewayState → GatewayState
-with_put halves names s = record {
-  spd = s.spd;
-  halves = halves;
-  acquires = names;
-  bad_spis = s.bad_spis;
-  clock = s.clock;
-  openings = s.openings;
-  session = s.session;
-  requests = s.requests;
-  arrival = None;
-}
+with_put halves names s = record s { halves = halves; acquires = names; arrival = None }
 
 abbrev pub with_notice : List Half → List (List ℕ) → List ℕ → GatewayState → GatewayState
 with_notice halves names spis s = record {
@@ -184,43 +144,13 @@ restarted s = record {
 }
 
 abbrev pub with_clock : ℕ → GatewayState → GatewayState
-with_clock now s = record {
-  spd = s.spd;
-  halves = s.halves;
-  acquires = s.acquires;
-  bad_spis = s.bad_spis;
-  clock = now;
-  openings = s.openings;
-  session = s.session;
-  requests = s.requests;
-  arrival = None;
-}
+with_clock now s = record s { clock = now; arrival = None }
 
 abbrev pub with_request : GatewayState → GatewayState
-with_request s = record {
-  spd = s.spd;
-  halves = s.halves;
-  acquires = s.acquires;
-  bad_spis = s.bad_spis;
-  clock = s.clock;
-  openings = s.openings;
-  session = s.session;
-  requests = s.requests + 1;
-  arrival = None;
-}
+with_request s = record s { requests = s.requests + 1; arrival = None }
 
 abbrev pub with_arrival : List ℕ → GatewayState → GatewayState
-with_arrival o s = record {
-  spd = s.spd;
-  halves = s.halves;
-  acquires = s.acquires;
-  bad_spis = s.bad_spis;
-  clock = s.clock;
-  openings = s.openings;
-  session = s.session;
-  requests = s.requests;
-  arrival = Some o;
-}
+with_arrival o s = record s { arrival = Some o }
 
 -- ---- of halves
 

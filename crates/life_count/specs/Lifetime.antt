@@ -77,26 +77,10 @@ counts_of now l = record { time = cut_32 (now - l.installed); bytes = l.octets; 
 
 -- after one more use, with these ESP octets at this clock
 abbrev pub counted : ℕ → ℕ → Lifetime → Lifetime
-counted size now l = record {
-  hard = l.hard;
-  soft = l.soft;
-  installed = l.installed;
-  used = now;
-  octets = cut_64 (l.octets + size);
-  packets = cut_32 (l.packets + 1);
-  is_told = l.is_told;
-}
+counted size now l = record l { used = now; octets = cut_64 (l.octets + size); packets = cut_32 (l.packets + 1) }
 
 abbrev pub with_told : Bool → Lifetime → Lifetime
-with_told is_told l = record {
-  hard = l.hard;
-  soft = l.soft;
-  installed = l.installed;
-  used = l.used;
-  octets = l.octets;
-  packets = l.packets;
-  is_told = is_told;
-}
+with_told is_told l = record l { is_told = is_told }
 
 -- what is found at a look at this clock
 abbrev pub event_at : ℕ → Lifetime → LifeEvent

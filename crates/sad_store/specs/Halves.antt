@@ -18,16 +18,16 @@ abbrev pub fresh : ℕ → SadEntry → Half
 fresh now e = record { entry = e; sent = 0; window = no_marks e.window; life = begun e.hard e.soft now; overflow = false }
 
 abbrev pub with_sent : ℕ → Half → Half
-with_sent n x = record { entry = x.entry; sent = n; window = x.window; life = x.life; overflow = x.overflow }
+with_sent n x = record x { sent = n }
 
 abbrev pub with_window : Marks → Half → Half
-with_window w x = record { entry = x.entry; sent = x.sent; window = w; life = x.life; overflow = x.overflow }
+with_window w x = record x { window = w }
 
 abbrev pub with_life : Lifetime → Half → Half
-with_life l x = record { entry = x.entry; sent = x.sent; window = x.window; life = l; overflow = x.overflow }
+with_life l x = record x { life = l }
 
 abbrev pub with_overflow : Bool → Half → Half
-with_overflow b x = record { entry = x.entry; sent = x.sent; window = x.window; life = x.life; overflow = b }
+with_overflow b x = record x { overflow = b }
 
 -- one more number is sent under this half, with these ESP octets at this clock
 abbrev pub send : ℕ → ℕ → Half → Half
