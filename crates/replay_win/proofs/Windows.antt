@@ -1,11 +1,12 @@
 -- What a window keeps of the numbers marked.
-use Rattle.std.proofs.Common.{◌≡◌, ℕ, ◌+◌, ◌-◌, ◌<◌, ◌≤◌, ◌==◌, ◌&&◌, ◌||◌, nat_le, nat_lt, max, Bool, true, false, not, List, [], ◌∷◌, ◌++◌, length, filter, fold, refl, sym, ap, ◌∙◌, if◌then◌else◌, arith}
+use Rattle.std.proofs.Common.{◌≡◌, ℕ, ◌+◌, ◌-◌, ◌<◌, ◌≤◌, ◌==◌, ◌&&◌, ◌||◌, nat_le, nat_lt, max, Bool, true, false, List, [], ◌∷◌, fold, refl, sym, ap, ◌∙◌, if◌then◌else◌, arith}
 use Rattle.std.specs.List.{range_with_len}
 use Rattle.std.proofs.lemmas.Bool.{false≢true}
 use Rattle.std.proofs.lemmas.Bool.Decides.{nat_tests}
 use Rattle.replay_win.specs.declared.verdict.Verdict.TheVariants.{Fresh, Old, Seen, Zero}
-use Rattle.replay_win.specs.Marks.{marked, no_marks, Marks, greatest, is_among, is_below, spanned, judged, verdict_by, verdict_over, window_after, IsKept}
-use Rattle.replay_win.proofs.Among.{is_among-append, is_among-filter, is_among-range, filter-same, are_distinct-filter, are_distinct-push, filter-none, length-range}
+use Rattle.replay_win.specs.Marks.{marked, no_marks, Marks, greatest, is_among, is_below, spanned, judged, verdict_by, verdict_over, window_after}
+use Rattle.replay_win.specs.Bitmap.{is_bit_set, is_held}
+use Rattle.replay_win.proofs.Among.{is_among-filter, is_among-range, filter-same, filter-none}
 
 pub is_among-spanned : (size top : ℕ) (test : ℕ → Bool) (k : ℕ) → is_among k (spanned size top test) ≡ (test k && (nat_le (top + 1 - size) k && nat_lt k (top + 1 - size + size)))
 is_among-spanned size top test k = is_among-filter test k (range_with_len (top + 1 - size) size) ∙ ap (λ b. test k && b) (is_among-range k (top + 1 - size) size)
@@ -78,88 +79,43 @@ judged-fold size taken s =
     ∙ ap (λ t. verdict_by size t (is_among s (behind [] taken)) s) most
     ∙ ap (λ b. verdict_by size (greatest taken) b s) (is_among-behind s taken [])
 
--- a window's numbers inside are those of its list
-pub is_among-inside : (size top capacity : ℕ) (marks : List ℕ) (k : ℕ) → IsKept size top capacity marks → is_among k (spanned size top (λ k. is_among k marks)) ≡ is_among k marks
-is_among-inside size top capacity marks k kept =
-    let has = is_among-spanned size top (λ k. is_among k marks) k in
-    let least = kept.least in
-    let reached = kept.reached k in
-    let spans = kept.spans k in
-    grind (arith, nat_tests)
+-- ---- a bitmap
 
--- the tests that a fresh number passed
-fresh_by : (none below taken : Bool) → (if none then Zero else if below then Old else if taken then Seen else Fresh) ≡ Fresh → (below ≡ false) × (taken ≡ false)
-fresh_by true below taken is = cc
-fresh_by false true taken is = cc
-fresh_by false false true is = cc
-fresh_by false false false is = (refl, refl)
-
--- what a fresh number isn't
-pub record IsFresh (size top s : ℕ) (marks : List ℕ) : Type 0 where
-  pub above : top < s + size
-  pub new : is_among s marks ≡ false
-
-pub fresh : (size top capacity : ℕ) (marks : List ℕ) (s : ℕ) → IsKept size top capacity marks → verdict_by size top (is_among s (spanned size top (λ k. is_among k marks))) s ≡ Fresh → IsFresh size top s marks
-fresh size top capacity marks s kept is = let inside = is_among-inside size top capacity marks s kept in let tests = fresh_by (s == 0) (is_below size top s) (is_among s (spanned size top (λ k. is_among k marks))) is in let above = tests.0 in record { above = grind (arith, nat_tests); new = sym inside ∙ tests.1 }
-
--- the list after a fresh number
-abbrev pub after : ℕ → ℕ → ℕ → List ℕ → List ℕ
-after size top s marks = filter (λ k. not (is_below size (max top s) k)) marks ++ s ∷ []
-
-is_among-after : (size top s : ℕ) (marks : List ℕ) (k : ℕ) → is_among k (after size top s marks) ≡ ((not (is_below size (max top s) k) && is_among k marks) || (k == s))
-is_among-after size top s marks k =
-    let both = is_among-append k (filter (λ k. not (is_below size (max top s) k)) marks) (s ∷ []) in
-    let front = is_among-filter (λ k. not (is_below size (max top s) k)) k marks in
-    grind (arith, both, front)
-
-pub kept-after : (size top capacity more s : ℕ) (marks : List ℕ) → IsKept size top capacity marks → IsFresh size top s marks → capacity ≤ more → IsKept size (max top s) more (after size top s marks)
-kept-after size top capacity more s marks kept is le =
-    let least = kept.least in
-    let above = is.above in
-    let old = is_among-filter (λ k. not (is_below size (max top s) k)) s marks in
-    let absent = is.new in
-    let gone : is_among s (filter (λ k. not (is_below size (max top s) k)) marks) ≡ false = grind (arith, old, absent) in
-    let room = kept.room in
-    record {
-      least = least;
-      room = omega arith;
-      reached = λ k h. let has = is_among-after size top s marks k in let r = kept.reached k in grind (arith, nat_tests);
-      spans = λ k h. let has = is_among-after size top s marks k in let r = kept.spans k in grind (arith, nat_tests);
-      distinct = are_distinct-push (filter (λ k. not (is_below size (max top s) k)) marks) s (are_distinct-filter (λ k. not (is_below size (max top s) k)) marks kept.distinct) gone;
-    }
-
--- a window's list is at most as long as the window
-pub length-kept : (size top capacity : ℕ) (marks : List ℕ) → IsKept size top capacity marks → length marks ≤ size
-length-kept size top capacity marks kept =
-    let least = kept.least in
-    length-range size (top + 1 - size) marks kept.distinct
-    (λ k h. let r = kept.spans k h in omega arith)
-    (λ k h. let r = kept.reached k h in omega arith)
-
--- the numbers inside after a fresh number
-pub spanned-after : (size top capacity s : ℕ) (marks : List ℕ) → IsKept size top capacity marks → spanned size (max top s) (λ k. is_among k (after size top s marks)) ≡ spanned size (max top s) (λ k. (s == k) || is_among k (spanned size top (λ k. is_among k marks)))
-spanned-after size top capacity s marks kept =
-    filter-same (λ k. is_among k (after size top s marks)) (λ k. (s == k) || is_among k (spanned size top (λ k. is_among k marks))) (range_with_len (max top s + 1 - size) size)
-    (λ k h.
-    let within = is_among-range k (max top s + 1 - size) size in
-    let has = is_among-after size top s marks k in
-    let inside = is_among-inside size top capacity marks k kept in
-    grind (arith, nat_tests, within, has, inside))
+-- the numbers inside are those held
+is_among-held : (size top : ℕ) (words : List ℕ) (k : ℕ) → is_below size top k ≡ false → is_among k (spanned size top (is_held words top)) ≡ is_held words top k
+is_among-held size top words k above =
+    let has = is_among-spanned size top (is_held words top) k in
+    let e : is_held words top k ≡ (nat_le k top && is_bit_set words k) = refl in
+    grind (arith, nat_tests, has, e)
 
 -- the fields of a window as the value that contracts see
 abbrev pub view_of : ℕ → ℕ → List ℕ → Marks
-view_of size top marks = record { size = size; top = top; inside = spanned size top (λ k. is_among k marks) }
+view_of size top words = record { size = size; top = top; inside = spanned size top (is_held words top) }
 
-pub judged-view_of : (size top capacity : ℕ) (marks : List ℕ) (s : ℕ) (taken : Bool) → IsKept size top capacity marks → (s == 0) ≡ false → is_below size top s ≡ false → is_among s marks ≡ taken → judged (view_of size top marks) s ≡ (if taken then Seen else Fresh)
-judged-view_of size top capacity marks s taken kept some above has =
-    let inside = is_among-inside size top capacity marks s kept in
-    ap (λ b. if b then Zero else if is_below size top s then Old else if is_among s (view_of size top marks).inside then Seen else Fresh) some
-    ∙ ap (λ b. if b then Old else if is_among s (view_of size top marks).inside then Seen else Fresh) above
-    ∙ ap (λ b. if b then Seen else Fresh) (inside ∙ has)
+pub judged-view_of : (size top : ℕ) (words : List ℕ) (s : ℕ) (taken : Bool) → (s == 0) ≡ false → is_below size top s ≡ false → is_held words top s ≡ taken →
+    judged (view_of size top words) s ≡ (if taken then Seen else Fresh)
+judged-view_of size top words s taken some above has =
+    ap (λ b. if b then Zero else if is_below size top s then Old else if is_among s (view_of size top words).inside then Seen else Fresh) some
+    ∙ ap (λ b. if b then Old else if is_among s (view_of size top words).inside then Seen else Fresh) above
+    ∙ ap (λ b. if b then Seen else Fresh) (is_among-held size top words s above ∙ has)
 
--- the list that is left once the numbers below were let go
-pub left_of : (size top s n t : ℕ) (old left : List ℕ) → left ≡ filter (λ k. not (is_below n t k)) old → n ≡ size → t ≡ max top s → left ++ s ∷ [] ≡ after size top s old
-left_of size top s n t old left is en et =
-    ap (λ l. l ++ s ∷ []) is
-    ∙ ap (λ m. filter (λ k. not (is_below m t k)) old ++ s ∷ []) en
-    ∙ ap (λ m. filter (λ k. not (is_below size m k)) old ++ s ∷ []) et
+-- a fresh number isn't below the window
+fresh_by : (none below taken : Bool) → (if none then Zero else if below then Old else if taken then Seen else Fresh) ≡ Fresh → below ≡ false
+fresh_by true below taken is = cc
+fresh_by false true taken is = cc
+fresh_by false false taken is = refl
+
+pub fresh-above : (w : Marks) (s : ℕ) → judged w s ≡ Fresh → w.top < s + w.size
+fresh-above w s is = let above = fresh_by (s == 0) (is_below w.size w.top s) (is_among s w.inside) is in grind (arith, nat_tests)
+
+-- the numbers inside after a number was marked
+pub spanned-after : (size top s : ℕ) (old new : List ℕ) →
+    ((k : ℕ) → max top s < k + size → is_held new (max top s) k ≡ ((s == k) || is_held old top k)) →
+    spanned size (max top s) (is_held new (max top s)) ≡ spanned size (max top s) (λ k. (s == k) || is_among k (spanned size top (is_held old top)))
+spanned-after size top s old new held =
+    filter-same (is_held new (max top s)) (λ k. (s == k) || is_among k (spanned size top (is_held old top))) (range_with_len (max top s + 1 - size) size)
+    (λ k h.
+    let within = is_among-range k (max top s + 1 - size) size in
+    let near : max top s < k + size = grind (arith, nat_tests, within) in
+    let above : is_below size top k ≡ false = grind (arith, nat_tests) in
+    held k near ∙ ap (λ b. (s == k) || b) (sym (is_among-held size top old k above)))

@@ -1,5 +1,5 @@
 -- The anti-replay window of an association (RFC 4303 section 3.4.3).
-use Rattle.std.specs.Prelude.{◌≡◌, ◌<◌, ◌≤◌, ℕ, ◌+◌, ◌-◌, ◌==◌, ◌&&◌, ◌||◌, nat_le, max, Bool, true, not, List, [], ◌∷◌, filter, if◌then◌else◌}
+use Rattle.std.specs.Prelude.{ℕ, ◌+◌, ◌-◌, ◌==◌, ◌||◌, nat_le, max, Bool, List, [], ◌∷◌, filter, if◌then◌else◌}
 use Rattle.std.specs.List.{list_any, range_with_len}
 use Rattle.replay_win.specs.declared.verdict.Verdict.{Verdict}
 use Rattle.replay_win.specs.declared.verdict.Verdict.TheVariants.{Fresh, Old, Seen, Zero}
@@ -53,16 +53,3 @@ judged w s = verdict_by w.size w.top (is_among s w.inside) s
 abbrev pub window_after : ℕ → List ℕ → Marks
 window_after size [] = no_marks size
 window_after size (s ∷ taken) = marked (window_after size taken) s
-
--- no number stands twice
-abbrev pub are_distinct : List ℕ → Bool
-are_distinct [] = true
-are_distinct (x ∷ xs) = not (is_among x xs) && are_distinct xs
-
--- a list of the numbers marked that lie inside, with room for a whole window
-pub record IsKept (size top capacity : ℕ) (marks : List ℕ) : Type 0 where
-  pub least : 0 < size
-  pub room : size ≤ capacity
-  pub reached : (k : ℕ) → is_among k marks ≡ true → k ≤ top
-  pub spans : (k : ℕ) → is_among k marks ≡ true → top < k + size
-  pub distinct : are_distinct marks ≡ true

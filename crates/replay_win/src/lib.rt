@@ -1,8 +1,8 @@
 //! The anti-replay window of one association: which numbers are fresh, seen, or too old to tell (RFC 4303 section 3.4.3).
 #![tactic(auto)]
 
+mod bitmap;
 mod laws;
-mod marks;
 mod verdict;
 mod window;
 

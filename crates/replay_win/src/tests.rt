@@ -44,3 +44,31 @@ fn keeps_all_numbers_that_it_spans(rt: HostRuntime) -> Result<(), Fail> {
     assert_eq!(rt; window.top(), 200);
     Ok(())
 }
+
+// A jump ahead, over words of the bitmap and over all of it, keeps what the window still spans and nothing else.
+#[test]
+fn jumps_ahead(rt: HostRuntime) -> Result<(), Fail> {
+    let mut window = Window::new(rt.alloc(), 130).map_err(|_| "no memory")?;
+    for s in [63, 64, 65, 190, 192, 255] {
+        window.mark(s);
+    }
+    window.mark(319);
+    for (s, verdict) in [
+        (189, Verdict::Old),
+        (190, Verdict::Seen),
+        (191, Verdict::Fresh),
+        (192, Verdict::Seen),
+        (255, Verdict::Seen),
+        (256, Verdict::Fresh),
+        (319, Verdict::Seen),
+        (320, Verdict::Fresh),
+    ] {
+        assert_eq!(rt; window.judge(s), verdict, "{s}");
+    }
+    window.mark(10_000);
+    for s in 9871..10_000u64 {
+        assert_eq!(rt; window.judge(s), Verdict::Fresh, "{s}");
+    }
+    assert_eq!(rt; window.judge(9870), Verdict::Old);
+    Ok(())
+}

@@ -1,6 +1,6 @@
 ghost use Rattle.std.specs.Prelude.{◌≡◌, ◌≤◌, IfOk};
 
-use crate::marks::{contains, forget, is_old, remember};
+use crate::bitmap::{holds, mark_bit};
 use crate::verdict::Verdict;
 use ikl_base::NoMemory;
 use std::alloc::Global;
@@ -13,34 +13,34 @@ use std::marker::Model;
 pub struct Window {
     size: u32,
     top: u64,
-    marks: Vec<u64>,
+    words: Vec<u64>,
 }
 
 impl Model for Window {
-    ghost use Rattle.std.specs.Prelude.{vec_capacity};
-    ghost use Rattle.replay_win.specs.Marks.{Marks, is_among, spanned, IsKept};
+    ghost use Rattle.replay_win.specs.Marks.{Marks, spanned};
+    ghost use Rattle.replay_win.specs.Bitmap.{is_held, IsBitmap};
 
     ghost Value = { Marks };
 
-    ghost view = { λ w. record { size = w.size; top = w.top; inside = spanned w.size w.top (λ k. is_among k w.marks.items) } };
+    ghost view = { λ w. record { size = w.size; top = w.top; inside = spanned w.size w.top (is_held w.words.items w.top) } };
 
-    ghost invariant = { λ w. IsKept w.size w.top (vec_capacity w.marks) w.marks.items };
+    ghost invariant = { λ w. IsBitmap w.size w.top w.words.items };
 }
 
 impl Window {
     ghost use Rattle.replay_win.specs.Marks.{judged, marked, no_marks};
 
-    /// A window of `w` numbers, none of them marked. It takes all the memory that it will need.
+    /// A window of `w` numbers, none of them marked. It takes all the memory that it will need: a bit for each number, and a word.
     pub fn new(alloc: Global, w: u32) -> Result<Window, NoMemory>
         requires least { 32 ≤ w }
         requires most { w ≤ 4096 }
         ensures { IfOk result (λ window. window ≡ no_marks w) }
     {
-        let marks = Vec::with_capacity(alloc, w as usize)?;
+        let words = vec![in alloc; 0; (w as usize + 127) / 64]?;
         Ok(Window {
             size: w,
             top: 0,
-            marks,
+            words,
         })
     }
 
@@ -50,9 +50,9 @@ impl Window {
     {
         if s == 0 {
             Verdict::Zero
-        } else if is_old(u64::from(self.size), self.top, s) {
+        } else if self.top.saturating_sub(s) >= u64::from(self.size) {
             Verdict::Old
-        } else if contains(&self.marks, s) {
+        } else if holds(&self.words, self.top, s) {
             Verdict::Seen
         } else {
             Verdict::Fresh
@@ -60,13 +60,14 @@ impl Window {
     }
 
     /// Marks a fresh number.
+    ///
+    /// However far it is ahead, it clears no more words than the window fills.
     pub fn mark(&mut self, s: u64)
         requires { judged self.old s ≡ Verdict.Fresh }
         ensures { self.new ≡ marked self.old s }
     {
+        mark_bit(&mut self.words, self.top, s);
         self.top = self.top.max(s);
-        forget(&mut self.marks, u64::from(self.size), self.top);
-        remember(&mut self.marks, s);
     }
 
     /// The greatest number marked, or 0.
