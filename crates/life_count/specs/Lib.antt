@@ -1,1 +1,2 @@
 pub mod Lifetime
+pub mod Calls

@@ -2,7 +2,12 @@
 #![tactic(auto)]
 
 mod event;
+mod laws;
 mod life;
 
 pub use event::LifeEvent;
+pub use laws::looks_back;
 pub use life::Life;
+
+#[cfg(test)]
+mod tests;

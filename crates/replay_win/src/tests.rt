@@ -49,10 +49,10 @@ fn keeps_all_numbers_that_it_spans(rt: HostRuntime) -> Result<(), Fail> {
 #[test]
 fn jumps_ahead(rt: HostRuntime) -> Result<(), Fail> {
     let mut window = Window::new(rt.alloc(), 130).map_err(|_| "no memory")?;
-    for s in [63, 64, 65, 190, 192, 255] {
+    for s in [63, 64, 65, 190, 192, 255, 319] {
+        assert_eq!(rt; window.judge(s), Verdict::Fresh, "{s}");
         window.mark(s);
     }
-    window.mark(319);
     for (s, verdict) in [
         (189, Verdict::Old),
         (190, Verdict::Seen),
@@ -65,6 +65,7 @@ fn jumps_ahead(rt: HostRuntime) -> Result<(), Fail> {
     ] {
         assert_eq!(rt; window.judge(s), verdict, "{s}");
     }
+    assert_eq!(rt; window.judge(10_000), Verdict::Fresh);
     window.mark(10_000);
     for s in 9871..10_000u64 {
         assert_eq!(rt; window.judge(s), Verdict::Fresh, "{s}");
