@@ -1,7 +1,7 @@
 -- The sessions of a gateway with its controller, of this project: a request stream with answers in the order of the
 -- requests, and notices beside it. Each word looks back over what happened; a past has its newest act first. In each
 -- test the name in the act stands first and the name asked for second.
-use Rattle.std.specs.Prelude.{ℕ, ◌+◌, ◌==◌, ◌&&◌, ◌||◌, not, nat_le, nat_lt, Bool, false, List, [], ◌∷◌, ◌++◌, Option, Some, None, slice_get, if◌then◌else◌}
+use Rattle.std.specs.Prelude.{ℕ, ◌+◌, ◌==◌, ◌&&◌, ◌||◌, not, nat_lt, Bool, false, List, [], ◌∷◌, ◌++◌, drop, take, Option, Some, None, slice_get, if◌then◌else◌}
 use Rattle.std.specs.Str.{bytes_eq}
 use Rattle.ikeless_tree.specs.declared.order.Order.{Order}
 use Rattle.ikeless_tree.specs.declared.order.Answer.{Answer}
@@ -73,15 +73,22 @@ next_request g h = if session_taken g h == 0 then None else order_at g (session_
 abbrev pub next_answer : List ℕ → List Act → Option Answer
 next_answer g h = if is_open g h then answer_at g (openings g h) (answered g (openings g h) h + 1) h else None
 
--- an order is lost where its session was cut before it was answered, and waits where it is neither answered nor lost
-abbrev pub is_answered : List ℕ → ℕ → ℕ → List Act → Bool
-is_answered g s k h = nat_le k (answered g s h)
+-- the orders given in the session, oldest first
+abbrev pub orders_given : List ℕ → ℕ → List Act → List Order
+orders_given g s [] = []
+orders_given g s (acts.Order f t k o ∷ h) = if is_session f t g s then orders_given g s h ++ o ∷ [] else orders_given g s h
+orders_given g s (_ ∷ h) = orders_given g s h
 
-abbrev pub is_lost : List ℕ → ℕ → ℕ → List Act → Bool
-is_lost g s k h = was_cut g s h && not (is_answered g s k h)
+-- Of the orders given in a session the oldest are answered, so many as answers were heard. The others wait while the session
+-- isn't cut, and are lost once it is.
+abbrev pub orders_answered : List ℕ → ℕ → List Act → List Order
+orders_answered g s h = take (answered g s h) (orders_given g s h)
 
-abbrev pub is_waiting : List ℕ → ℕ → ℕ → List Act → Bool
-is_waiting g s k h = nat_le k (orders g s h) && not (is_answered g s k h) && not (was_cut g s h)
+abbrev pub orders_waiting : List ℕ → ℕ → List Act → List Order
+orders_waiting g s h = if was_cut g s h then [] else drop (answered g s h) (orders_given g s h)
+
+abbrev pub orders_lost : List ℕ → ℕ → List Act → List Order
+orders_lost g s h = if was_cut g s h then drop (answered g s h) (orders_given g s h) else []
 
 -- the first order of the open session, which reads the database of associations, is answered
 abbrev pub is_read : List ℕ → List Act → Bool

@@ -24,3 +24,4 @@ pub mod Transcript
 pub mod Policies
 pub mod PeerNames
 pub mod Reasons
+pub mod WaitingOrders

@@ -8,7 +8,7 @@ use Rattle.hist_controller.specs.Clauses.{IsControllerPast}
 use Rattle.hist_controller.specs.Numbers.{numbered}
 use Rattle.hist_controller.proofs.Lists.{length-more, place-old}
 
-record Queued (g : ℕ) (h : List ControllerAct) : Type 0 where
+pub record Queued (g : ℕ) (h : List ControllerAct) : Type 0 where
   pub find : (j : ℕ) (o : ControllerOrder) → place j (queue g h) ≡ Some o → numbered g (openings g h) (answered g h + 1 + j) h ≡ Some o
   pub count : is_open g h ≡ true → orders g h ≡ answered g h + length (queue g h)
 
@@ -82,7 +82,7 @@ queued-ordered g h f s i z es ei v true e k =
     }
 queued-ordered g h f s i z es ei v false e k = record { find = λ j o w. rw e (k.find j o (rw e at w)); count = λ w. rw e (k.count w) }
 
-queued : (p g : ℕ) (h : List ControllerAct) → IsControllerPast p h → Queued g h
+pub queued : (p g : ℕ) (h : List ControllerAct) → IsControllerPast p h → Queued g h
 queued p g [] l = record { find = λ j o w. cc; count = λ w. cc }
 queued p g (Opened f s ∷ h) l = queued-opened g h f s (g == f) refl (queued p g h l.1)
 queued p g (Cut f s ∷ h) l = queued-cut g h f s (g == f) refl (queued p g h l.1)

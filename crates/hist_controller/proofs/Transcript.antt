@@ -55,7 +55,7 @@ not-later true s t e = grind arith
 not-later false s t e = refl
 
 -- no order of a later session was given
-none-later : (ps : List Peer) (p : ℕ) (h : List ControllerAct) → IsControllerPast p h → Named ps → AllFit (length ps) h → (g : ℕ) → g < length ps → (s : ℕ) → openings g h < s → (sessions.orders (peer_name ps g) s (past_told ps h) ≡ 0) × (sessions.answered (peer_name ps g) s (past_told ps h) ≡ 0)
+pub none-later : (ps : List Peer) (p : ℕ) (h : List ControllerAct) → IsControllerPast p h → Named ps → AllFit (length ps) h → (g : ℕ) → g < length ps → (s : ℕ) → openings g h < s → (sessions.orders (peer_name ps g) s (past_told ps h) ≡ 0) × (sessions.answered (peer_name ps g) s (past_told ps h) ≡ 0)
 none-later ps p [] l n f g i s e = (refl, refl)
 none-later ps p (Opened k t ∷ h) l n f g i s e = none-later ps p h l.1 n f.1 g i s (smaller (g == k) e)
   where

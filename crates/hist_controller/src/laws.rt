@@ -1,5 +1,5 @@
 // Laws for the crates above: each is the contract of a function with an empty body.
-ghost use Rattle.std.specs.Prelude.{◌≡◌, ℕ, ◌+◌, ◌-◌, ◌^◌, ◌==◌, Bool, true, false, List, [], ◌∷◌, ◌++◌, Option, Some, None, ◌<◌, ◌≤◌, ◌⊎◌, length};
+ghost use Rattle.std.specs.Prelude.{◌≡◌, ℕ, ◌+◌, ◌-◌, ◌^◌, ◌==◌, Bool, true, false, List, [], ◌∷◌, ◌++◌, Option, Some, None, ◌<◌, ◌≤◌, ◌⊎◌, length, map};
 ghost use Rattle.std.specs.List.{list_all, list_any};
 ghost use Rattle.std.specs.Option.{option_map};
 ghost use Rattle.hist_acts.specs.Sessions as sessions;
@@ -7,7 +7,7 @@ ghost use Rattle.hist_acts.specs.Past as happened;
 ghost use Rattle.ikeless_tree.specs.Check.{is_key_length};
 ghost use Rattle.ikeless_tree.specs.declared.command.Peer.{Peer};
 ghost use Rattle.ikeless_tree.specs.declared.order.Answer.{Answer};
-ghost use Rattle.hist_controller.specs.Acts.{Way, Association, ControllerOrder, PutIn, PutOut, RemoveIn, RemoveOut, ControllerAct, Answered, ControllerEvent, in_name, out_name};
+ghost use Rattle.hist_controller.specs.Acts.{Way, Association, ControllerOrder, PutIn, PutOut, RemoveIn, RemoveOut, ControllerAct, Answered, Cut, ControllerEvent, in_name, out_name};
 ghost use Rattle.hist_acts.specs.Past.{after};
 ghost use Rattle.hist_controller.specs.Past.{is_open, openings, orders, answered, is_read, directions, keys, serials, queue, oldest, is_in_progress, left, is_unseen, PuttingIn, PuttingOut, RemovingIn, RemovingOut};
 ghost use Rattle.hist_controller.specs.State.{state_of, did};
@@ -146,7 +146,7 @@ pub fn fits_a_table()
 {}
 
 /// The controller's words of its sessions say the same as the words of the transcript in which its acts are told, where the
-/// peers have different names.
+/// peers have different names. The orders that wait are those of its queue, and a cut loses all of them.
 pub fn tells_a_transcript()
     ensures past { (ps : List Peer) (h xs : List ControllerAct) → past_told ps (after h xs) ≡ happened.after (past_told ps h) (all_told ps xs) }
     ensures openings { (ps : List Peer) (h : List ControllerAct) → Named ps → AllFit (length ps) h → (g : ℕ) → g < length ps → sessions.openings (peer_name ps g) (past_told ps h) ≡ openings g h }
@@ -154,5 +154,7 @@ pub fn tells_a_transcript()
     ensures orders { (ps : List Peer) (n : ℕ) (h : List ControllerAct) → IsControllerPast n h → Named ps → AllFit (length ps) h → (g : ℕ) → g < length ps → sessions.orders (peer_name ps g) (openings g h) (past_told ps h) ≡ orders g h }
     ensures answered { (ps : List Peer) (n : ℕ) (h : List ControllerAct) → IsControllerPast n h → Named ps → AllFit (length ps) h → (g : ℕ) → g < length ps → sessions.answered (peer_name ps g) (openings g h) (past_told ps h) ≡ answered g h }
     ensures read { (ps : List Peer) (n : ℕ) (h : List ControllerAct) → IsControllerPast n h → Named ps → AllFit (length ps) h → (g : ℕ) → g < length ps → sessions.is_read (peer_name ps g) (past_told ps h) ≡ is_read g h }
+    ensures waiting { (ps : List Peer) (n : ℕ) (h : List ControllerAct) → IsControllerPast n h → Named ps → AllFit (length ps) h → (g : ℕ) → g < length ps → sessions.orders_waiting (peer_name ps g) (openings g h) (past_told ps h) ≡ map (order_told ps) (queue g h) }
+    ensures lost { (ps : List Peer) (n : ℕ) (h : List ControllerAct) (g s : ℕ) → IsControllerPast n (Cut g s ∷ h) → Named ps → AllFit (length ps) h → g < length ps → sessions.orders_lost (peer_name ps g) s (past_told ps (Cut g s ∷ h)) ≡ map (order_told ps) (queue g h) }
     ensures order { (ps : List Peer) (h : List ControllerAct) → Named ps → AllFit (length ps) h → (g s n : ℕ) → g < length ps → sessions.order_at (peer_name ps g) s n (past_told ps h) ≡ option_map (order_told ps) (numbered g s n h) }
 {}

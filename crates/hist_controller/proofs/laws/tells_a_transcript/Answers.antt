@@ -1,4 +1,5 @@
 use Rattle.hist_controller.proofs.Transcript.{told-after, openings-told, open-told, orders-told, answered-told, read-told, order-told}
+use Rattle.hist_controller.proofs.WaitingOrders.{waiting-told, lost-told}
 use Rattle.hist_controller.proofs.laws.tells_a_transcript.Goals as goal
 
 pub returns-clause-past : goal.returns-clause-past
@@ -21,3 +22,9 @@ returns-clause-read c = read-told
 
 pub returns-clause-order : goal.returns-clause-order
 returns-clause-order c = order-told
+
+pub returns-clause-waiting : goal.returns-clause-waiting
+returns-clause-waiting c = waiting-told
+
+pub returns-clause-lost : goal.returns-clause-lost
+returns-clause-lost c = lost-told
