@@ -25,3 +25,4 @@ pub mod Policies
 pub mod PeerNames
 pub mod Reasons
 pub mod WaitingOrders
+pub mod Choices

@@ -103,7 +103,7 @@ one p (Accepted c ∷ h) l d e x y i j q = one p h l.1 d e x y (has-if x _ (left
 one p (Refused w ∷ h) l d e x y i j q = one p h l.1 d e x y i j q
 
 -- directions with one id are one
-from : (m : ℕ) (xs : List Way) (d : Way) → Rising m xs → Has d xs → m ≤ d.id
+pub from : (m : ℕ) (xs : List Way) (d : Way) → Rising m xs → Has d xs → m ≤ d.id
 from m [] d r i = absurd i
 from m (x ∷ xs) d r (inl e) = let q : x.id ≡ m = r.0 in let w = ap (λ (z : Way). z.id) e in omega arith
 from m (x ∷ xs) d r (inr i) = let ih = from (m + 1) xs d r.1 i in omega arith

@@ -45,7 +45,7 @@ busy-receiver h s n o d e =
 removes : (h : List ControllerAct) (d : Way) (x : Association) → Has x (left d h) → list_any (λ (y : Association). y.serial == x.serial) (left d h ++ []) ≡ true
 removes h d x l = any-has (λ (y : Association). y.serial == x.serial) x (left d h ++ []) (has-left x (left d h) [] l) (eq-own x.serial)
 
-own-turn : (h : List ControllerAct) (d : Way) (os : List ControllerAct) → Given h d os → Idle (after h os) d
+pub own-turn : (h : List ControllerAct) (d : Way) (os : List ControllerAct) → Given h d os → Idle (after h os) d
 own-turn h d _ (nothing i) = i
 own-turn h d _ (out_removed x f l m n1) = inl (busy-sender h (openings d.sender h) (orders d.sender h + 1) (RemoveOut x.serial) d (removes h d x l))
 own-turn h d _ (in_removed x f l m n1 n2) = inl (busy-receiver h (openings d.receiver h) (orders d.receiver h + 1) (RemoveIn x.serial) d (removes h d x l))
@@ -85,7 +85,7 @@ quiet-stays h g s n o d e f a q =
       ];
     }
 
-idle-stays : (h : List ControllerAct) (g s n : ℕ) (o : ControllerOrder) (d : Way) → inbound_put d o ≡ [] → is_inbound_put_of d o ≡ false → ((x : Association) → Has x (left d h) → (is_kind PuttingIn x.serial o ≡ false) × (is_kind PuttingOut x.serial o ≡ false)) → Idle h d → Idle (Ordered g s n o ∷ h) d
+pub idle-stays : (h : List ControllerAct) (g s n : ℕ) (o : ControllerOrder) (d : Way) → inbound_put d o ≡ [] → is_inbound_put_of d o ≡ false → ((x : Association) → Has x (left d h) → (is_kind PuttingIn x.serial o ≡ false) × (is_kind PuttingOut x.serial o ≡ false)) → Idle h d → Idle (Ordered g s n o ∷ h) d
 idle-stays h g s n o d e f a (inl b) = inl (busy-stays h g s n o d e b)
 idle-stays h g s n o d e f a (inr q) = inr (quiet-stays h g s n o d e f a q)
 
@@ -93,7 +93,7 @@ pub differ : (n m : ℕ) (b : Bool) → (n == m) ≡ b → (n ≡ m → ⊥) →
 differ n m true e f = absurd (f (grind arith))
 differ n m false e f = e
 
-other-out : (p : ℕ) (h : List ControllerAct) → IsControllerPast p h → (d e : Way) → (d.id == e.id) ≡ false → (x : Association) → Has x (left e h) → (y : Association) → Has y (left d h) → (y.serial == x.serial) ≡ false
+pub other-out : (p : ℕ) (h : List ControllerAct) → IsControllerPast p h → (d e : Way) → (d.id == e.id) ≡ false → (x : Association) → Has x (left e h) → (y : Association) → Has y (left d h) → (y.serial == x.serial) ≡ false
 other-out p h l d e w x i y j = differ y.serial x.serial (y.serial == x.serial) refl (λ q.
     let s = one p h l d e y x j i q in
     let a = of-way h d y j in
@@ -113,7 +113,7 @@ other-turn p h l d e w _ (in_was_put k ks f s m n1 n2 n3) q =
 
 -- ## the pass
 
-turn : (p : ℕ) (h : List ControllerAct) → IsControllerPast p h → (d e : Way) → Has d (directions h) → Has e (directions h) → (b : Bool) → (d.id == e.id) ≡ b → Idle h d → Idle (after h (give h e)) d
+pub turn : (p : ℕ) (h : List ControllerAct) → IsControllerPast p h → (d e : Way) → Has d (directions h) → Has e (directions h) → (b : Bool) → (d.id == e.id) ≡ b → Idle h d → Idle (after h (give h e)) d
 turn p h l d e i j true w q = let t : d ≡ e = one-way h d e i j (grind arith) in rw t (own-turn h e (give h e) (given h e))
 turn p h l d e i j false w q = other-turn p h l d e w (give h e) (given h e) q
 
@@ -134,7 +134,7 @@ idle-pass p h l (e ∷ ds) f g d i =
     step p h l e ds he c j (inl (inr k)) = inl k
     step p h l e ds he c j (inr q) = inr (turn p h l c e j he (c.id == e.id) refl q)
 
-from-idle : (h : List ControllerAct) (d : Way) → Idle h d → is_busy d h ≡ false → Quiet h d
+pub from-idle : (h : List ControllerAct) (d : Way) → Idle h d → is_busy d h ≡ false → Quiet h d
 from-idle h d (inl b) f = cc
 from-idle h d (inr q) f = q
 
@@ -150,7 +150,7 @@ after-pass p h l d i = from-idle (after h (pass h (directions h))) d (idle-pass 
 idle-asked : (p : ℕ) (h os : List ControllerAct) → IsControllerPast p h → ControllerMayActAll p h os → NotIdle (after h (asked_then h os))
 idle-asked p h os l m = subst NotIdle (sym (after-append h os (pass (after h os) (directions (after h os))))) (after-pass p (after h os) (past-after p h os l m))
 
-idle-refused : (h : List ControllerAct) (w : Refusal) → NotIdle h → NotIdle (Refused w ∷ h)
+pub idle-refused : (h : List ControllerAct) (w : Refusal) → NotIdle h → NotIdle (Refused w ∷ h)
 idle-refused h w q d i f = let r = q d i f in record { no_out_remove = r.no_out_remove; no_in_remove = r.no_in_remove; no_out_put = r.no_out_put; no_in_put = r.no_in_put }
 
 idle-if : (h : List ControllerAct) (b : Bool) (xs ys : List ControllerAct) → (b ≡ true → NotIdle (after h xs)) → (b ≡ false → NotIdle (after h ys)) → NotIdle (after h (if b then xs else ys))

@@ -11,3 +11,4 @@ pub mod Numbers
 pub mod Orders
 pub mod Ever
 pub mod Table
+pub mod Choice

@@ -14,6 +14,7 @@ ghost use Rattle.hist_controller.specs.State.{state_of, did};
 ghost use Rattle.hist_controller.specs.Machine.{acts_of, next, run, place};
 ghost use Rattle.hist_controller.specs.Law.{peer_number, aes_part, tunnels, block, history, event_refusal, one_or_none, refusals_in};
 ghost use Rattle.hist_controller.specs.Clauses.{Has, IsControllerPast, ControllerMayActAll, NotIdle};
+ghost use Rattle.hist_controller.specs.Choice.{IsBlock};
 ghost use Rattle.hist_controller.specs.Counts.{times, times_at, times_now, in_puts, out_puts, cause_count, KeysRight, ListsRight};
 ghost use Rattle.hist_controller.specs.Halves.{PlainAnswers, half_count};
 ghost use Rattle.hist_controller.specs.Numbers.{numbered};
@@ -45,6 +46,13 @@ pub fn follows_the_clauses()
     ensures block { (ps : List Peer) (h : List ControllerAct) (e : ControllerEvent) → ControllerMayActAll (length ps) h (block ps h e) }
     ensures more { (n : ℕ) (h xs : List ControllerAct) → IsControllerPast n h → ControllerMayActAll n h xs → IsControllerPast n (after h xs) }
     ensures history { (ps : List Peer) (es : List ControllerEvent) → IsControllerPast (length ps) (after [] (history ps [] es)) }
+{}
+
+/// The block of an event is the one list of acts that meets the clauses: its own act where that may stand, then orders, each of
+/// which may be given and comes next, until none is due and no direction has one that is allowed.
+pub fn leaves_no_choice()
+    ensures meets { (ps : List Peer) (h : List ControllerAct) (e : ControllerEvent) → IsControllerPast (length ps) h → NotIdle h → IsBlock ps h e (block ps h e) }
+    ensures only { (ps : List Peer) (h : List ControllerAct) (e : ControllerEvent) (xs : List ControllerAct) → IsControllerPast (length ps) h → NotIdle h → IsBlock ps h e xs → xs ≡ block ps h e }
 {}
 
 /// A command is refused by the first reason that applies, once, and no event else.
