@@ -1,3 +1,4 @@
 pub mod Check
 pub mod Half
 pub mod Words
+pub mod Typed

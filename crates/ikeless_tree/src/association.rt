@@ -70,6 +70,15 @@ pub struct SadRow {
     pub state: SaState,
 }
 
+impl Duplicate for SadRow {
+    fn copy(&self) -> Result<SadRow, NoMemory> {
+        Ok(SadRow {
+            entry: self.entry.copy()?,
+            state: self.state,
+        })
+    }
+}
+
 /// The rows of the security association database, in the order of installation.
 pub type Rows = ListOf<SadRow>;
 

@@ -1,6 +1,7 @@
 // The faults of what is to be put into the databases.
-ghost use Rattle.std.specs.Prelude.{◌≡◌, MatchResult, None, Some, []};
+ghost use Rattle.std.specs.Prelude.{◌≡◌, MatchResult, OnOk, None, Some, []};
 ghost use Rattle.std.specs.List.{list_any, list_all};
+ghost use Rattle.ikl_base.specs.Address.{AreOneFamily};
 ghost use Rattle.ikeless_tree.specs.Check.{is_word_octet, is_path_octet, is_spd_name, is_serial, has_front, is_sad_name, is_window, is_empty_range, has_empty_range, has_many_ranges, is_named, entry_fault, entries_fault, spd_fault, is_gateway_octet, is_gateway, is_key_length, sad_fault};
 
 use crate::association::SadEntry;
@@ -170,7 +171,8 @@ pub fn check_spd(list: &Entries) -> Result<(), TreeFault>
 /// The first fault of an association, in the order of the variants.
 #[tactic(auto, unfolding(crate::specs::Check::sad_fault))]
 pub fn check_sad(e: &SadEntry) -> Result<(), TreeFault>
-    ensures { MatchResult result (λ _. sad_fault e.now ≡ None) (λ fault. sad_fault e.now ≡ Some fault) }
+    ensures first { MatchResult result (λ _. sad_fault e.now ≡ None) (λ fault. sad_fault e.now ≡ Some fault) }
+    ensures family { OnOk result (AreOneFamily e.now.local e.now.remote) }
 {
     let key = e.key.as_slice().len();
     if !names_half(e.name.as_slice()) {

@@ -1,6 +1,3 @@
-ghost use Rattle.std.specs.Prelude.{◌≡◌};
-ghost use Rattle.ikeless_tree.specs.Words.{refusal_text};
-
 use crate::association::Limits;
 use crate::entry::Entries;
 use ikl_base::{Addr, Duplicate, ListOf, Name, NoMemory, Octets, Prefix};
@@ -77,22 +74,4 @@ pub enum Refusal {
     KeySeen,
     KeyLength,
     KeyLimit,
-}
-
-impl Refusal {
-    /// The word of a refusal, as it stands in a transcript and in a reply.
-    pub fn text(&self) -> &'static str
-        ensures { result.now ≡ refusal_text self.now }
-    {
-        match self {
-            Refusal::UnknownGateway => "unknown-gateway",
-            Refusal::SameGateway => "same-gateway",
-            Refusal::TunnelExists => "tunnel-exists",
-            Refusal::NoTunnel => "no-tunnel",
-            Refusal::TunnelLimit => "tunnel-limit",
-            Refusal::KeySeen => "key-seen",
-            Refusal::KeyLength => "key-length",
-            Refusal::KeyLimit => "key-limit",
-        }
-    }
 }

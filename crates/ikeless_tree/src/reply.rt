@@ -1,6 +1,3 @@
-ghost use Rattle.std.specs.Prelude.{◌≡◌};
-ghost use Rattle.ikeless_tree.specs.Words.{tag_text, app_text};
-
 use crate::command::Refusal;
 
 /// The error tags of a reply (RFC 8040 section 7).
@@ -13,23 +10,6 @@ pub enum Tag {
     UnknownElement,
     BadElement,
     ResourceDenied,
-}
-
-impl Tag {
-    /// The error tag as it stands in a reply (RFC 8040 section 7).
-    pub fn text(&self) -> &'static str
-        ensures { result.now ≡ tag_text self.now }
-    {
-        match self {
-            Tag::MalformedMessage => "malformed-message",
-            Tag::OperationNotSupported => "operation-not-supported",
-            Tag::TooBig => "too-big",
-            Tag::InvalidValue => "invalid-value",
-            Tag::UnknownElement => "unknown-element",
-            Tag::BadElement => "bad-element",
-            Tag::ResourceDenied => "resource-denied",
-        }
-    }
 }
 
 /// The error app tags of a reply, of this project: which fault it was.
@@ -53,34 +33,6 @@ pub enum App {
     Absent,
     Point,
     Refused(Refusal),
-}
-
-impl App {
-    /// The app tag as it stands in a reply; that of a refused command is the word of its refusal.
-    pub fn text(&self) -> &'static str
-        ensures { result.now ≡ app_text self.now }
-    {
-        match self {
-            App::Form => "form",
-            App::Chunked => "chunked",
-            App::Size => "size",
-            App::Path => "path",
-            App::Method => "method",
-            App::Query => "query",
-            App::Json => "json",
-            App::Unknown => "unknown",
-            App::Missing => "missing",
-            App::Range => "range",
-            App::Unsupported => "unsupported",
-            App::Name => "name",
-            App::Full => "full",
-            App::Exists => "exists",
-            App::SpiTaken => "spi-taken",
-            App::Absent => "absent",
-            App::Point => "point",
-            App::Refused(why) => why.text(),
-        }
-    }
 }
 
 /// Why a packet or a datagram is dropped.

@@ -443,10 +443,42 @@ fn removals_are_copied(rt: HostRuntime) -> Result<(), Fail> {
 }
 
 #[test]
+fn rows_are_copied(rt: HostRuntime) -> Result<(), Fail> {
+    let row = SadRow {
+        entry: half(rt.alloc(), "in/1", 20)?,
+        state: SaState {
+            current: SOME_LIMITS,
+            top: 9,
+        },
+    };
+    let copy = row.copy()?;
+    assert!(rt; is_half(&copy.entry) && copy.state == row.state);
+    Ok(())
+}
+
+#[test]
 fn words_stand_for_tags(rt: HostRuntime) {
     assert!(rt; Tag::MalformedMessage.text() == "malformed-message");
-    assert!(rt; Tag::ResourceDenied.text() == "resource-denied");
     assert!(rt; App::SpiTaken.text() == "spi-taken");
-    assert!(rt; App::Refused(Refusal::KeySeen).text() == "key-seen");
-    assert!(rt; Refusal::TunnelLimit.text() == "tunnel-limit");
+    assert!(rt; App::named(b"key-seen") == Some(App::Refused(Refusal::KeySeen)));
+    assert!(rt; Tag::named(b"resource-denied") == Some(Tag::ResourceDenied));
+    assert!(rt; Tag::named(b"resource") == None);
+}
+
+#[test]
+fn words_stand_for_reasons(rt: HostRuntime) {
+    assert!(rt; Refusal::named(b"tunnel-limit") == Some(Refusal::TunnelLimit));
+    assert!(rt; DropWhy::named(b"clear-refused") == Some(DropWhy::ClearRefused));
+    assert!(rt; GoneWhy::named(b"hard") == Some(GoneWhy::Hard));
+    assert!(rt; Lane::named(b"note") == Some(Lane::Note));
+    assert!(rt; Lane::named(b"") == None);
+}
+
+#[test]
+fn words_stand_for_parts_of_entries(rt: HostRuntime) {
+    assert!(rt; Action::named(b"bypass") == Some(Action::Bypass));
+    assert!(rt; Direction::named(b"in") == Some(Direction::In));
+    assert!(rt; Direction::of_word(b"outbound") == Some(Direction::Out));
+    assert!(rt; Df::named(b"copy") == Some(Df::Copy));
+    assert!(rt; mode_named(b"acquire") == Some(false) && softness_named(b"soft") == Some(true));
 }

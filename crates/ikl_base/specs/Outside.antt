@@ -1,5 +1,5 @@
 -- What the calls of a source and a sink give and take.
-use Rattle.std.specs.Prelude.{◌≡◌, ℕ, ◌+◌, ◌-◌, ◌^◌, min, ◌<◌, ◌≤◌, List, [], ◌++◌, length, take, Option, Some, None, Result, Ok, Err, IsErr, MatchResult, Bool, true, false, is_err, IfSome}
+use Rattle.std.specs.Prelude.{◌≡◌, ℕ, ◌+◌, ◌-◌, ◌^◌, min, ◌<◌, ◌≤◌, List, [], ◌++◌, length, take, Option, Some, None, Result, Ok, Err, IsOk, IsErr, MatchResult, Bool, true, false, is_err, IfSome}
 
 -- what is told loses these octets from its front
 abbrev pub Loses : Option (List ℕ) → Option (List ℕ) → List ℕ → Type 0
@@ -43,10 +43,21 @@ WriteTakes old new r buf = MatchResult r (λ n. WriteTook old new n buf) (λ _. 
 abbrev pub HasRisen : ℕ → ℕ → Type 0
 HasRisen before now = min (before + 1) (2 ^ 64 - 1) ≤ now
 
--- the count never falls, and a call that failed raised it
+-- the count never falls: a call that failed raised it, and one that didn't left it as it was
 pub record HasCause {T E : Type 0} (before now : ℕ) (result : Result T E) : Type 0 where
   pub later : before ≤ now
   pub failed : IsErr result → HasRisen before now
+  pub kept : IsOk result → now ≡ before
+
+-- a count in memory after a call: one more where it failed, up to the greatest value
+abbrev pub count_after : {T E : Type 0} → ℕ → Result T E → ℕ
+count_after before (Ok x) = before
+count_after before (Err e) = min (before + 1) (2 ^ 64 - 1)
+
+-- how many writes are left in memory after a write: one fewer where it took its piece
+abbrev pub writes_after : {T E : Type 0} → ℕ → Result T E → ℕ
+writes_after left (Ok x) = left - 1
+writes_after left (Err e) = left
 
 -- whether the last call failed is told truly, where it is told
 abbrev pub TellsOutcome : {T E : Type 0} → Option Bool → Result T E → Type 0

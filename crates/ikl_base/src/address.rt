@@ -1,5 +1,5 @@
-ghost use Rattle.std.specs.Prelude.{◌≡◌, ◌-◌, ◌%◌, ◌^◌, ◌<◌, ◌≤◌, IsTrue, length};
-ghost use Rattle.ikl_base.specs.Address.{bits_of, is_clear_from, cleared_from, address_cleared, is_one_family};
+ghost use Rattle.std.specs.Prelude.{◌≡◌, ◌-◌, ◌%◌, ◌^◌, ◌<◌, ◌≤◌, ◌↔◌, IsTrue, length, All};
+ghost use Rattle.ikl_base.specs.Address.{bits_of, IsAddress, is_clear_from, cleared_from, address_cleared, is_one_family, AreOneFamily, is_same_address};
 
 /// An address of one of the two families, its octets in network order.
 #[derive(Clone, Copy, Debug, PartialEq, Eq)]
@@ -8,14 +8,63 @@ pub enum Addr {
     V6([u8; 16]),
 }
 
+// Octets are below 256.
+fn octets_fit(octets: &[u8])
+    ensures { All (λ octet. octet < 256) octets.now }
+{}
+
+fn four_fit(octets: &[u8; 4])
+    ensures length { length octets.now ≡ 4 }
+    ensures octets { All (λ octet. octet < 256) octets.now }
+{
+    octets_fit(octets);
+}
+
+fn sixteen_fit(octets: &[u8; 16])
+    ensures length { length octets.now ≡ 16 }
+    ensures octets { All (λ octet. octet < 256) octets.now }
+{
+    octets_fit(octets);
+}
+
 impl Addr {
+    /// Every address has four octets or sixteen: nothing is done.
+    pub fn numbers_fit(&self)
+        ensures { IsAddress self.now }
+    {
+        match self {
+            Addr::V4(octets) => four_fit(octets),
+            Addr::V6(octets) => sixteen_fit(octets),
+        }
+    }
+
     /// Whether both addresses are of one family.
     pub fn is_same_family(&self, other: &Addr) -> bool
-        ensures { result ≡ is_one_family self.now other.now }
+        ensures test { result ≡ is_one_family self.now other.now }
+        ensures whole { IsTrue result → AreOneFamily self.now other.now }
     {
+        self.numbers_fit();
+        other.numbers_fit();
         match self {
             Addr::V4(_) => matches!(other, Addr::V4(_)),
             Addr::V6(_) => matches!(other, Addr::V6(_)),
+        }
+    }
+
+    /// Whether both are one address.
+    pub fn is_same(&self, other: &Addr) -> bool
+        ensures test { result ≡ is_same_address self.now other.now }
+        ensures equal { IsTrue result ↔ self.now ≡ other.now }
+    {
+        match self {
+            Addr::V4(a) => match other {
+                Addr::V4(b) => a.as_slice() == b.as_slice(),
+                Addr::V6(_) => false,
+            },
+            Addr::V6(a) => match other {
+                Addr::V4(_) => false,
+                Addr::V6(b) => a.as_slice() == b.as_slice(),
+            },
         }
     }
 }
@@ -87,5 +136,12 @@ impl Prefix {
             addr: without_host(addr, len),
             len,
         }
+    }
+
+    /// Whether both are one prefix.
+    pub fn is_same(&self, other: &Prefix) -> bool
+        ensures { IsTrue result ↔ self.now ≡ other.now }
+    {
+        self.len == other.len && self.addr.is_same(&other.addr)
     }
 }

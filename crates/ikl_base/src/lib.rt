@@ -19,4 +19,4 @@ pub use memory::{FaultySink, FaultySource, MemorySink, MemorySource};
 pub use octets::{Name, Octets};
 pub use outside::{Sink, Source};
 pub use standard::{FromReader, ToWriter};
-pub use status::{LineFault, Status};
+pub use status::{LineFault, Status, reasons_read_again};

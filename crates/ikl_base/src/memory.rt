@@ -1,7 +1,7 @@
 // A source and a sink in memory, each with a list of the calls that are to fail or with none.
-ghost use Rattle.std.specs.Prelude.{◌≡◌, ◌+◌, ◌<◌, ◌≤◌, ◌↔◌, List, ℕ, Some, [], ◌++◌, length, drop, IfOk, IsOk, OnErr, IsErr, IsTrue, false, vec_len, vec_capacity, min, is_err, ◌-◌, ◌^◌, ◌==◌};
+ghost use Rattle.std.specs.Prelude.{◌≡◌, ◌+◌, ◌<◌, ◌≤◌, ◌↔◌, List, ℕ, Some, [], ◌++◌, length, drop, IfOk, IsOk, OnOk, OnErr, IsErr, IsTrue, true, false, vec_len, vec_capacity, min, max, is_err, ◌-◌, ◌^◌, ◌==◌};
 ghost use Rattle.std.specs.List.{list_any};
-ghost use Rattle.ikl_base.specs.Outside.{ReadGives, WriteTakes, HasCause, TellsOutcome};
+ghost use Rattle.ikl_base.specs.Outside.{ReadGives, WriteTakes, HasCause, TellsOutcome, count_after, writes_after};
 ghost use Rattle.ikl_base.specs.Room.{HasRoom};
 
 use crate::fault::{Failed, NoMemory};
@@ -38,7 +38,13 @@ impl Source for MemorySource<'_> {
 
     ghost last_failed = { λ _. Some false };
 
-    fn read(&mut self, buf: &mut [u8]) -> Result<usize, Failed> {
+    fn read(&mut self, buf: &mut [u8]) -> Result<usize, Failed>
+        ensures gives { ReadGives (Some self.old.rest.now) (Some self.new.rest.now) result buf.new }
+        ensures cause { HasCause self.old.faults self.new.faults result }
+        ensures outcome { TellsOutcome (Some false) result }
+        ensures size { IfOk result (λ n. n ≡ min (min (length self.old.rest.now) (length buf.new)) (max self.old.piece 1)) }
+        ensures piece { self.new.piece ≡ self.old.piece }
+    {
         let n = self.rest.len().min(buf.len()).min(self.piece.max(1));
         let (front, rest) = self.rest.split_at(n);
         buf[..n].copy_from_slice(front);
@@ -91,6 +97,10 @@ impl Source for FaultySource<'_> {
         ensures calls { self.new.calls ≡ min (self.old.calls + 1) (2 ^ 64 - 1) }
         ensures fails { self.new.fails ≡ self.old.fails }
         ensures listed { is_err result ≡ list_any (λ k. k == self.new.calls) self.old.fails.now }
+        ensures size { IfOk result (λ n. n ≡ min (min (length self.old.source.rest.now) (length buf.new)) (max self.old.source.piece 1)) }
+        ensures none { OnErr result (self.new.source ≡ self.old.source) }
+        ensures piece { self.new.source.piece ≡ self.old.source.piece }
+        ensures count { self.new.faults ≡ count_after self.old.faults result }
     {
         self.calls = self.calls.saturating_add(1);
         self.failed = self.fails.contains(&self.calls);
@@ -138,6 +148,17 @@ impl MemorySink {
     }
 }
 
+// Adds a piece for which there is room.
+fn fill(octets: &mut Vec<u8>, piece: &[u8])
+    requires { vec_len octets.old + length piece.now ≤ vec_capacity octets.old }
+    ensures octets { octets.new.items ≡ octets.old.items ++ piece.now }
+    ensures room { vec_capacity octets.new ≡ vec_capacity octets.old }
+{
+    for octet in piece {
+        octets.push_reserved(*octet);
+    }
+}
+
 impl Sink for MemorySink {
     ghost written = { λ s. Some s.octets.items };
 
@@ -149,15 +170,20 @@ impl Sink for MemorySink {
         ensures takes { WriteTakes (Some self.old.octets.items) (Some self.new.octets.items) result buf.now }
         ensures cause { HasCause self.old.faults self.new.faults result }
         ensures outcome { TellsOutcome (Some self.new.failed) result }
-        ensures fits { HasRoom self.old (length buf.now) → IsOk result }
-        ensures whole { IfOk result (λ n. n ≡ length buf.now) }
+        ensures fits { IsOk result ↔ HasRoom self.old (length buf.now) }
+        ensures whole { OnOk result (self.new.octets.items ≡ self.old.octets.items ++ buf.now) }
+        ensures size { IfOk result (λ n. n ≡ length buf.now) }
         ensures none { OnErr result (self.new.octets.items ≡ self.old.octets.items) }
+        ensures writes { self.new.writes ≡ writes_after self.old.writes result }
+        ensures room { vec_capacity self.new.octets ≡ vec_capacity self.old.octets }
+        ensures count { self.new.faults ≡ count_after self.old.faults result }
     {
-        self.failed = !self.has_room(buf.len()) || self.octets.extend_from_slice(buf).is_err();
+        self.failed = !self.has_room(buf.len());
         if self.failed {
             self.faults = self.faults.saturating_add(1);
             return Err(Failed);
         }
+        fill(&mut self.octets, buf);
         self.writes -= 1;
         Ok(buf.len())
     }
@@ -199,9 +225,24 @@ impl Sink for FaultySink<'_> {
 
     ghost last_failed = { λ s. Some s.failed };
 
-    fn write(&mut self, buf: &[u8]) -> Result<usize, Failed> {
+    fn write(&mut self, buf: &[u8]) -> Result<usize, Failed>
+        ensures takes { WriteTakes (Some self.old.sink.octets.items) (Some self.new.sink.octets.items) result buf.now }
+        ensures cause { HasCause self.old.faults self.new.faults result }
+        ensures outcome { TellsOutcome (Some self.new.failed) result }
+        ensures calls { self.new.calls ≡ min (self.old.calls + 1) (2 ^ 64 - 1) }
+        ensures fails { self.new.fails ≡ self.old.fails }
+        ensures listed { list_any (λ k. k == self.new.calls) self.old.fails.now ≡ true → IsErr result }
+        ensures fits { list_any (λ k. k == self.new.calls) self.old.fails.now ≡ false → (IsOk result ↔ HasRoom self.old.sink (length buf.now)) }
+        ensures whole { OnOk result (self.new.sink.octets.items ≡ self.old.sink.octets.items ++ buf.now) }
+        ensures size { IfOk result (λ n. n ≡ length buf.now) }
+        ensures none { OnErr result (self.new.sink.octets.items ≡ self.old.sink.octets.items) }
+        ensures writes { self.new.sink.writes ≡ writes_after self.old.sink.writes result }
+        ensures room { vec_capacity self.new.sink.octets ≡ vec_capacity self.old.sink.octets }
+        ensures count { self.new.faults ≡ count_after self.old.faults result }
+    {
         self.calls = self.calls.saturating_add(1);
-        if !self.fails.contains(&self.calls) {
+        let is_listed = self.fails.contains(&self.calls);
+        if !is_listed {
             if let Ok(n) = self.sink.write(buf) {
                 self.failed = false;
                 return Ok(n);

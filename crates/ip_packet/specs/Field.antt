@@ -7,6 +7,11 @@ use Rattle.ikl_base.specs.declared.address.Addr.TheVariants.{V4, V6}
 abbrev pub version : List ℕ → ℕ
 version o = slice_index o 0 / 16
 
+-- what a tunnel's header tells of the packet inside, by its version: 4 for IPv4, 41 for IPv6 (RFC 2003 section 3.1,
+-- RFC 2473 section 3.1, RFC 4303 section 2.6)
+abbrev pub next_header : List ℕ → ℕ
+next_header o = if version o == 4 then 4 else 41
+
 -- the number that two octets write, the higher first
 abbrev pub number_at : List ℕ → ℕ → ℕ
 number_at o i = 256 * slice_index o i + slice_index o (i + 1)

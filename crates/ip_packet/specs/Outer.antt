@@ -1,8 +1,9 @@
 -- The header before sealed octets: protocol 50, 64 hops, no options, no class and no flow (RFC 791 section 3.1, RFC 8200
 -- section 3, RFC 4303 section 2).
-use Rattle.std.specs.Prelude.{◌≡◌, ℕ, ◌+◌, ◌/◌, ◌%◌, Bool, true, false, List, [], ◌∷◌, ◌++◌, length, None, if◌then◌else◌}
+use Rattle.std.specs.Prelude.{ℕ, ◌+◌, ◌/◌, ◌%◌, Bool, true, List, [], ◌∷◌, ◌++◌, None, if◌then◌else◌}
 use Rattle.ikl_base.specs.declared.address.Addr.{Addr}
 use Rattle.ikl_base.specs.declared.address.Addr.TheVariants.{V4, V6}
+pub use Rattle.ikl_base.specs.Address.{AreOneFamily}
 use Rattle.ip_packet.specs.declared.outer.Outer.{Outer}
 use Rattle.ip_packet.specs.Ipv4.{sum_for}
 use Rattle.ip_packet.specs.View.{Packet}
@@ -11,13 +12,6 @@ use Rattle.ip_packet.specs.View.{Packet}
 abbrev pub header_size : Addr → ℕ
 header_size (V4 octets) = 20
 header_size (V6 octets) = 40
-
--- two whole addresses of one family
-abbrev pub AreOneFamily : Addr → Addr → Type 0
-AreOneFamily (V4 a) (V4 b) = (length a ≡ 4) × (length b ≡ 4)
-AreOneFamily (V4 a) (V6 b) = ⊥
-AreOneFamily (V6 a) (V4 b) = ⊥
-AreOneFamily (V6 a) (V6 b) = (length a ≡ 16) × (length b ≡ 16)
 
 -- the length that the header tells: the whole packet's for IPv4, the payload's for IPv6
 abbrev pub told_length : Addr → ℕ → ℕ

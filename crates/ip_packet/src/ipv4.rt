@@ -1,4 +1,4 @@
-ghost use Rattle.std.specs.Prelude.{◌≡◌, ◌≤◌, length, MatchResult, Ok, Err};
+ghost use Rattle.std.specs.Prelude.{◌≡◌, ◌≤◌, length, MatchResult, IfOk, Ok, Err};
 ghost use Rattle.ip_packet.specs.Ipv4.{words_sum, sum_for};
 ghost use Rattle.ip_packet.specs.View.{seen, view_of_4};
 
@@ -34,7 +34,8 @@ pub(crate) fn checksum(header: &[u8]) -> u16
 // What the octets of an IPv4 packet say.
 pub(crate) fn view_4(octets: &[u8]) -> Result<View<'_>, NotPacket>
     requires { 20 ≤ length octets.now }
-    ensures { MatchResult result (λ v. view_of_4 octets.now ≡ Ok (seen v)) (λ e. view_of_4 octets.now ≡ Err e) }
+    ensures said { MatchResult result (λ v. view_of_4 octets.now ≡ Ok (seen v)) (λ e. view_of_4 octets.now ≡ Err e) }
+    ensures payload { IfOk result (λ v. length v.payload.now ≤ 65535) }
 {
     let header = usize::from(octets[0] % 16) * 4;
     let total = usize::from(number(octets, 2));

@@ -1,4 +1,4 @@
-ghost use Rattle.std.specs.Prelude.{◌≡◌, ◌≤◌, length, MatchResult, Ok, Err, IsTrue};
+ghost use Rattle.std.specs.Prelude.{◌≡◌, ◌≤◌, length, MatchResult, IfOk, Ok, Err, IsTrue};
 ghost use Rattle.ip_packet.specs.Ipv6.{is_extension, upper_of};
 ghost use Rattle.ip_packet.specs.View.{seen, view_of_6};
 
@@ -13,7 +13,8 @@ fn is_passed_over(next: u8) -> bool
 
 // The protocol of the upper layer and its octets, behind the extension headers.
 fn upper_layer(first: u8, octets: &[u8]) -> Result<(u8, &[u8]), NotPacket>
-    ensures { MatchResult result (λ upper. upper_of first octets.now ≡ Ok (upper.0, upper.1.now)) (λ e. upper_of first octets.now ≡ Err e) }
+    ensures upper { MatchResult result (λ upper. upper_of first octets.now ≡ Ok (upper.0, upper.1.now)) (λ e. upper_of first octets.now ≡ Err e) }
+    ensures shorter { IfOk result (λ upper. length upper.1.now ≤ length octets.now) }
 {
     let mut next = first;
     let mut rest = octets;
@@ -38,7 +39,8 @@ fn upper_layer(first: u8, octets: &[u8]) -> Result<(u8, &[u8]), NotPacket>
 // What the octets of an IPv6 packet say.
 pub(crate) fn view_6(octets: &[u8]) -> Result<View<'_>, NotPacket>
     requires { 40 ≤ length octets.now }
-    ensures { MatchResult result (λ v. view_of_6 octets.now ≡ Ok (seen v)) (λ e. view_of_6 octets.now ≡ Err e) }
+    ensures said { MatchResult result (λ v. view_of_6 octets.now ≡ Ok (seen v)) (λ e. view_of_6 octets.now ≡ Err e) }
+    ensures payload { IfOk result (λ v. length v.payload.now ≤ 65535) }
 {
     if usize::from(number(octets, 4)) + 40 != octets.len() {
         return Err(NotPacket::Length);

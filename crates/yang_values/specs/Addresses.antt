@@ -1,11 +1,12 @@
 -- Addresses as text (RFC 6991 section 4; RFC 4291 section 2.2 for IPv6, canonical by RFC 5952 section 4).
-use Rattle.std.specs.Prelude.{◌≡◌, ℕ, ◌+◌, ◌-◌, ◌*◌, ◌/◌, ◌%◌, ◌<◌, ◌==◌, ◌&&◌, not, max, nat_le, nat_lt, if◌then◌else◌, Bool, false, List, [], ◌∷◌, ◌++◌, length, take, drop, map, replicate, slice_index, All, Option, Some, None, option_and_then, Result, Ok, Err}
+use Rattle.std.specs.Prelude.{ℕ, ◌+◌, ◌-◌, ◌*◌, ◌/◌, ◌%◌, ◌==◌, ◌&&◌, not, max, nat_le, nat_lt, if◌then◌else◌, Bool, false, List, [], ◌∷◌, ◌++◌, length, take, drop, map, replicate, slice_index, Option, Some, None, option_and_then, Result, Ok, Err}
 use Rattle.std.specs.Option.{option_map}
 use Rattle.std.specs.List.{prefix_len, list_all, list_any, slice_split, join_with_byte}
 use Rattle.std.specs.Fmt.{decimal, digits}
 use Rattle.std.specs.Str.Parse.{digits_value}
 use Rattle.ikl_base.specs.declared.address.Addr.{Addr}
 use Rattle.ikl_base.specs.declared.address.Addr.TheVariants.{V4, V6}
+pub use Rattle.ikl_base.specs.Address.{IsAddress}
 use Rattle.yang_values.specs.Numbers.{is_number}
 use Rattle.yang_values.specs.Parts.{each, ◌>>=◌}
 use Rattle.yang_values.specs.HexText.{hex_number, is_colon}
@@ -144,8 +145,3 @@ unfoldable pub address_of : List ℕ → Result Addr BadValue
 address_of t =
     if list_any is_colon t then v6_of (eight_from t (double_colon t))
     else v4_of (quad_of (slice_split is_dot t))
-
--- four octets, or sixteen
-abbrev pub IsAddress : Addr → Type 0
-IsAddress (V4 octets) = (length octets ≡ 4) × All (λ octet. octet < 256) octets
-IsAddress (V6 octets) = (length octets ≡ 16) × All (λ octet. octet < 256) octets

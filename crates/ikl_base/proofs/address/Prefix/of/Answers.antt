@@ -1,5 +1,4 @@
-use Rattle.std.proofs.Common.{rules, IsTrue, ◌≡◌, ◌≤◌, true, refl}
-use Rattle.ikl_base.specs.Address.{bits_of, is_clear_from, address_cleared}
+use Rattle.std.proofs.Common.{refl}
 use Rattle.ikl_base.proofs.AddressLemmas.{is_clear_from-cleared, bits_of-cleared}
 use Rattle.ikl_base.proofs.address.Prefix.of.Goals as goal
 
