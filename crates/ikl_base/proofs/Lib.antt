@@ -1,3 +1,4 @@
 pub mod AddressLemmas
 pub mod PrefixLemmas
 pub mod ReasonLemmas
+pub mod FrontLemmas

@@ -1,5 +1,8 @@
 -- The values of texts one after another, and texts joined by a mark.
-use Rattle.std.proofs.Common.{◌≡◌, ℕ, ◌<◌, ◌≤◌, List, [], ◌∷◌, ◌++◌, Bool, length, map, Option, Some, None, refl, sym, ap, ◌∙◌, arith, append_assoc, append-nil, get_or, drop, length-append, subst}
+use Rattle.std.proofs.Common.{◌≡◌, ℕ, ◌<◌, ◌≤◌, List, [], ◌∷◌, ◌++◌, Bool, length, map, Option, Some, None, refl, sym, ap, ◌∙◌, arith, append_assoc, append-nil, get_or, take, drop, suc, length-append, subst}
+use Rattle.std.proofs.Math.Seq.{drop-cons}
+use Rattle.std.proofs.lemmas.List.{take-append-drop}
+use Rattle.std.proofs.lemmas.Grind.{flat_map-append}
 use Rattle.std.specs.Prelude.{IfSome, option_and_then}
 use Rattle.std.specs.Option.{option_map}
 use Rattle.std.specs.List.{flat_map, join_with_byte, slice_split}
@@ -113,3 +116,20 @@ joined_end mark text xs rest start middle end some tail first others =
 pub joined_none : (mark : ℕ) (text : ℕ → List ℕ) (xs : List ℕ) → length xs < 1 → [] ≡ join_with_byte mark (map text xs)
 joined_none mark text [] none = refl
 joined_none mark text (x ∷ xs) none = absurd (omega arith)
+
+-- each value behind a mark: those before one, the mark, the one, and those after it
+pub each_behind : (mark : ℕ) (text : ℕ → List ℕ) (xs : List ℕ) (i : ℕ) → i < length xs
+    → flat_map (λ y. mark ∷ text y) xs
+    ≡ (flat_map (λ y. mark ∷ text y) (take i xs) ++ mark ∷ []) ++ (text (get_or xs i 0) ++ flat_map (λ y. mark ∷ text y) (drop (suc i) xs))
+each_behind mark text xs i inside =
+    let f : ℕ → List ℕ = λ y. mark ∷ text y in
+    let front = flat_map f (take i xs) in
+    let tail = text (get_or xs i 0) ++ flat_map f (drop (suc i) xs) in
+    ap (λ ys. flat_map f ys) (sym (take-append-drop i xs))
+    ∙ flat_map-append f (take i xs) (drop i xs)
+    ∙ ap (λ ys. front ++ flat_map f ys) (drop-cons xs i 0 inside)
+    ∙ sym (append_assoc front (mark ∷ []) tail)
+
+-- those before one, and what follows
+pub each_before : (f : ℕ → List ℕ) (xs : List ℕ) (i : ℕ) → flat_map f xs ≡ flat_map f (take i xs) ++ flat_map f (drop i xs)
+each_before f xs i = ap (λ ys. flat_map f ys) (sym (take-append-drop i xs)) ∙ flat_map-append f (take i xs) (drop i xs)

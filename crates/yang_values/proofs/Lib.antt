@@ -11,3 +11,4 @@ pub mod QuadText
 pub mod GroupText
 pub mod PrefixText
 pub mod AddressText
+pub mod ShortenedText

@@ -1,5 +1,5 @@
 -- The canonical text of an IPv4 address is read again.
-use Rattle.std.proofs.Common.{◌≡◌, ℕ, ◌<◌, ◌||◌, Bool, true, false, List, [], ◌∷◌, length, Ok, refl, ap, arith}
+use Rattle.std.proofs.Common.{◌≡◌, ℕ, ◌<◌, ◌||◌, Bool, true, false, List, [], ◌∷◌, ◌++◌, length, get_or, Ok, refl, sym, ap, append_assoc, arith}
 use Rattle.std.specs.List.{All, AllByRecursion, list_all}
 use Rattle.std.specs.Char.{is_ascii_digit}
 use Rattle.std.specs.Fmt.{decimal}
@@ -61,3 +61,13 @@ v4_again (a ∷ b ∷ c ∷ d ∷ []) size small =
     (each_also (λ o. o < 256) (λ o. All (λ c. is_dot c ≡ false) (decimal o)) no_dot octets small) in
     rw (plain, split) (ap v4_of (quad_again a b c d small.0 small.1.0 small.1.1.0 small.1.1.1.0))
 v4_again _ size small = absurd (omega arith)
+
+-- four numbers, as two halves with a dot between them
+pub two_halves : (xs : List ℕ) → length xs ≡ 4
+    → dotted xs ≡ dotted (get_or xs 0 0 ∷ get_or xs 1 0 ∷ []) ++ 46 ∷ dotted (get_or xs 2 0 ∷ get_or xs 3 0 ∷ [])
+two_halves [] n = absurd (omega arith)
+two_halves (a ∷ []) n = absurd (omega arith)
+two_halves (a ∷ b ∷ []) n = absurd (omega arith)
+two_halves (a ∷ b ∷ c ∷ []) n = absurd (omega arith)
+two_halves (a ∷ b ∷ c ∷ d ∷ []) n = sym (append_assoc (decimal a) (46 ∷ decimal b) (46 ∷ (decimal c ++ 46 ∷ decimal d)))
+two_halves (a ∷ b ∷ c ∷ d ∷ e ∷ es) n = absurd (omega arith)

@@ -1,8 +1,9 @@
 // Addresses of both families.
-ghost use Rattle.std.specs.Prelude.{◌≡◌, IfOk, OnOk, ◌++◌};
+ghost use Rattle.std.specs.Prelude.{◌≡◌, IfOk, ◌++◌};
 ghost use Rattle.std.specs.List.{list_any, slice_split};
 ghost use Rattle.yang_values.specs.HexText.{is_colon};
 ghost use Rattle.yang_values.specs.Addresses.{is_dot, quad_of, double_colon, eight_from, v4_of, v6_of, address_of, address_text};
+ghost use Rattle.ikl_base.specs.Answers.{Adds};
 
 use crate::groups::{put_groups, read_eight, to_octets};
 use crate::quad::{put_quad, read_quad};
@@ -51,7 +52,7 @@ pub fn read_address(t: &[u8]) -> Result<Addr, BadValue>
 /// Adds the canonical text of an address.
 #[tactic(auto, unfolding(crate::specs::Addresses::address_text))]
 pub fn put_address(out: &mut Vec<u8>, a: &Addr) -> Result<(), NoMemory>
-    ensures { OnOk result (out.new.items ≡ out.old.items ++ address_text a.now) }
+    ensures { Adds result out.old.items (address_text a.now) out.new.items }
 {
     match a {
         Addr::V4(octets) => put_quad(out, octets),

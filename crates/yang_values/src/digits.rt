@@ -1,10 +1,11 @@
 // Octets as hex digits.
-ghost use Rattle.std.specs.Prelude.{◌≡◌, ◌<◌, ◌≤◌, length, IsTrue, IfOk, OnOk, ◌++◌, ◌∷◌};
+ghost use Rattle.std.specs.Prelude.{◌≡◌, ◌<◌, ◌≤◌, length, IsTrue, IfOk, ◌++◌, ◌∷◌};
 ghost use Rattle.std.specs.Char.{digit_value, is_ascii_hexdigit};
 ghost use Rattle.std.specs.List.{flat_map, list_all};
 ghost use Rattle.std.specs.Str.Parse.{digits_value};
 ghost use Rattle.yang_values.specs.Reading.{Reads};
 ghost use Rattle.yang_values.specs.HexText.{digits_text, digits_of, hex_colons, hex_of, hex_number, pair_of, pair_text};
+ghost use Rattle.ikl_base.specs.Answers.{Adds};
 
 use crate::parts::first_part;
 use crate::value::BadValue;
@@ -75,7 +76,7 @@ pub fn read_digits(alloc: Global, t: &[u8]) -> Result<Octets, OrMemory<BadValue>
 
 /// Adds two hex digits in lower case for each octet.
 pub fn put_digits(out: &mut Vec<u8>, o: &[u8]) -> Result<(), NoMemory>
-    ensures { OnOk result (out.new.items ≡ out.old.items ++ digits_text o.now) }
+    ensures { Adds result out.old.items (digits_text o.now) out.new.items }
 {
     let start = out.len();
     let Some(end) = o.len().checked_mul(2).and_then(|n| n.checked_add(start)) else {
@@ -125,8 +126,7 @@ pub fn read_hex(alloc: Global, t: &[u8]) -> Result<Octets, OrMemory<BadValue>>
 
 // Adds each octet as a colon and two hex digits.
 fn put_pairs(out: &mut Vec<u8>, octets: &[u8]) -> Result<(), NoMemory>
-    ensures { OnOk result (out.new.items
-        ≡ out.old.items ++ flat_map (λ octet. 58 ∷ pair_text octet) octets.now) }
+    ensures { Adds result out.old.items (flat_map (λ octet. 58 ∷ pair_text octet) octets.now) out.new.items }
 {
     for octet in octets {
         out.push(b':')?;

@@ -1,8 +1,9 @@
 // IPv6 addresses: eight groups of hex digits with colons between them, of which `::` leaves zero ones out.
-ghost use Rattle.std.specs.Prelude.{◌≡◌, ◌+◌, ◌≤◌, ◌<◌, ◌++◌, ◌∷◌, length, take, Some, false, option_and_then, OnOk, IfSome, MatchOption};
+ghost use Rattle.std.specs.Prelude.{◌≡◌, ◌+◌, ◌≤◌, ◌<◌, ◌++◌, ◌∷◌, length, take, Some, false, option_and_then, IfSome, MatchOption};
 ghost use Rattle.std.specs.Fmt.{digit_glyph};
 ghost use Rattle.std.specs.List.{flat_map};
 ghost use Rattle.yang_values.specs.Addresses.{groups_of, octets_of, group_text, joined, zeros_at_front, longest_run, first_run, shortened, groups_text, groups_in, double_colon, is_double_at, eight, eight_between, filled, eight_from};
+ghost use Rattle.ikl_base.specs.Answers.{Adds};
 
 use crate::digits::read_hex_number;
 use crate::parts::first_part;
@@ -189,7 +190,7 @@ fn glyph(n: u8) -> u8
 
 // Adds a group in hex, without leading zeros.
 fn put_group(out: &mut Vec<u8>, group: u16) -> Result<(), NoMemory>
-    ensures { OnOk result (out.new.items ≡ out.old.items ++ group_text group) }
+    ensures { Adds result out.old.items (group_text group) out.new.items }
 {
     if group >= 16 {
         put_group(out, group / 16)?;
@@ -199,8 +200,7 @@ fn put_group(out: &mut Vec<u8>, group: u16) -> Result<(), NoMemory>
 
 // Adds each group behind a colon.
 fn put_behind(out: &mut Vec<u8>, groups: &[u16]) -> Result<(), NoMemory>
-    ensures { OnOk result (out.new.items
-        ≡ out.old.items ++ flat_map (λ group. 58 ∷ group_text group) groups.now) }
+    ensures { Adds result out.old.items (flat_map (λ group. 58 ∷ group_text group) groups.now) out.new.items }
 {
     for group in groups {
         out.push(b':')?;
@@ -211,7 +211,7 @@ fn put_behind(out: &mut Vec<u8>, groups: &[u16]) -> Result<(), NoMemory>
 
 // Adds groups with colons between them.
 fn put_joined(out: &mut Vec<u8>, groups: &[u16]) -> Result<(), NoMemory>
-    ensures { OnOk result (out.new.items ≡ out.old.items ++ joined groups.now) }
+    ensures { Adds result out.old.items (joined groups.now) out.new.items }
 {
     let [first, rest @ ..] = groups else {
         return Ok(());
@@ -224,7 +224,7 @@ fn put_joined(out: &mut Vec<u8>, groups: &[u16]) -> Result<(), NoMemory>
 /// Adds the text of an IPv6 address.
 #[tactic(auto, unfolding(crate::specs::Addresses::groups_text))]
 pub(crate) fn put_groups(out: &mut Vec<u8>, octets: &[u8; 16]) -> Result<(), NoMemory>
-    ensures { OnOk result (out.new.items ≡ out.old.items ++ groups_text (groups_of octets.now)) }
+    ensures { Adds result out.old.items (groups_text (groups_of octets.now)) out.new.items }
 {
     let groups = to_groups(octets);
     let (place, length) = longest(&groups);

@@ -1,11 +1,12 @@
 // Decimal numbers.
-ghost use Rattle.std.specs.Prelude.{◌≡◌, ◌<◌, ◌≤◌, ◌^◌, IfOk, IsTrue, OnOk, ◌++◌};
+ghost use Rattle.std.specs.Prelude.{◌≡◌, ◌<◌, ◌≤◌, ◌^◌, IfOk, IsTrue, ◌++◌};
 ghost use Rattle.std.specs.Char.{is_ascii_digit};
 ghost use Rattle.std.specs.List.{list_all};
 ghost use Rattle.std.specs.Option.{SomeIff};
 ghost use Rattle.std.specs.Fmt.{decimal};
 ghost use Rattle.std.specs.Str.Parse.{digits_value};
 ghost use Rattle.yang_values.specs.Numbers.{is_number, number_of, u64_of, port_of};
+ghost use Rattle.ikl_base.specs.Answers.{Adds};
 
 use crate::value::BadValue;
 use ikl_base::{NoMemory, Octets};
@@ -76,7 +77,7 @@ pub fn read_port(n: u64) -> Result<u16, BadValue>
 
 /// Adds the digits of a number.
 pub fn put_number(out: &mut Vec<u8>, n: u64) -> Result<(), NoMemory>
-    ensures { OnOk result (out.new.items ≡ out.old.items ++ decimal n) }
+    ensures { Adds result out.old.items (decimal n) out.new.items }
 {
     if n >= 10 {
         put_number(out, n / 10)?;

@@ -1,7 +1,8 @@
 // Prefixes.
-ghost use Rattle.std.specs.Prelude.{◌≡◌, IfOk, OnOk, ◌++◌};
+ghost use Rattle.std.specs.Prelude.{◌≡◌, IfOk, ◌++◌};
 ghost use Rattle.ikl_base.specs.Address.{bits_of};
 ghost use Rattle.yang_values.specs.Prefixes.{prefix_of, prefix_from, prefix_text};
+ghost use Rattle.ikl_base.specs.Answers.{Adds};
 
 use crate::address::{put_address, read_address};
 use crate::number::{is_decimal, put_number, read_number};
@@ -51,7 +52,7 @@ pub fn read_prefix(t: &[u8]) -> Result<Prefix, BadValue>
 /// Adds the canonical text of a prefix.
 #[tactic(auto, unfolding(crate::specs::Prefixes::prefix_text))]
 pub fn put_prefix(out: &mut Vec<u8>, p: &Prefix) -> Result<(), NoMemory>
-    ensures { OnOk result (out.new.items ≡ out.old.items ++ prefix_text p.now) }
+    ensures { Adds result out.old.items (prefix_text p.now) out.new.items }
 {
     put_address(out, &p.addr)?;
     out.push(b'/')?;

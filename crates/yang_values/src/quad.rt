@@ -1,9 +1,10 @@
 // IPv4 addresses: four decimal numbers with dots between them.
-ghost use Rattle.std.specs.Prelude.{◌≡◌, ◌≢◌, ◌&&◌, if◌then◌else◌, IsTrue, ◌++◌, ◌∷◌, [], length, OnOk, MatchOption};
+ghost use Rattle.std.specs.Prelude.{◌≡◌, ◌≢◌, ◌&&◌, if◌then◌else◌, IsTrue, ◌++◌, ◌∷◌, [], length, MatchOption};
 ghost use Rattle.std.specs.List.{slice_split};
 ghost use Rattle.yang_values.specs.Addresses.{dotted, is_dot, fits_octet, quad_of};
 ghost use Rattle.yang_values.specs.Numbers.{is_number};
 ghost use Rattle.std.specs.Str.Parse.{digits_value};
+ghost use Rattle.ikl_base.specs.Answers.{Adds};
 
 use crate::number::{is_decimal, put_number, read_number};
 use crate::parts::first_part;
@@ -74,7 +75,7 @@ pub(crate) fn read_quad(t: &[u8]) -> Result<[u8; 4], BadValue>
 
 // Adds two numbers with a dot between them.
 fn put_half(out: &mut Vec<u8>, a: u8, b: u8) -> Result<(), NoMemory>
-    ensures { OnOk result (out.new.items ≡ out.old.items ++ dotted (a ∷ b ∷ [])) }
+    ensures { Adds result out.old.items (dotted (a ∷ b ∷ [])) out.new.items }
 {
     put_number(out, u64::from(a))?;
     out.push(b'.')?;
@@ -83,7 +84,7 @@ fn put_half(out: &mut Vec<u8>, a: u8, b: u8) -> Result<(), NoMemory>
 
 /// Adds four numbers with dots between them.
 pub(crate) fn put_quad(out: &mut Vec<u8>, octets: &[u8; 4]) -> Result<(), NoMemory>
-    ensures { OnOk result (out.new.items ≡ out.old.items ++ dotted octets.now) }
+    ensures { Adds result out.old.items (dotted octets.now) out.new.items }
 {
     put_half(out, octets[0], octets[1])?;
     out.push(b'.')?;
