@@ -3,7 +3,7 @@ use Rattle.std.proofs.Common.{◌≡◌, ℕ, ◌+◌, ◌≤◌, Bool, true, fa
 use Rattle.std.proofs.lemmas.Grind.{common_steps}
 use Rattle.std.specs.List.{list_any}
 use Rattle.hist_controller.specs.Acts.{Way, Association, ControllerOrder, Read, Policy, PutIn, PutOut, RemoveIn, RemoveOut, PlacedCommand, SetPolicy, Tunnel, End, Rekey, Keys, ControllerAct, Opened, Cut, Answered, Heard, Ordered, Accepted, Refused}
-use Rattle.hist_controller.specs.Past.{oldest, queue, is_read, serials, directions, new_ways, is_made_by, is_over, is_start, is_renewal, PuttingIn, is_out_ordered, has_answer, is_in_progress, inbound_put, left, RemovingIn, is_answer_to, is_cause, is_wanted}
+use Rattle.hist_controller.specs.Past.{oldest, queue, is_read, serials, directions, new_ways, is_made_by, is_over, is_owed, is_end_of, is_start, is_renewal, PuttingIn, is_out_ordered, has_answer, is_in_progress, inbound_put, left, RemovingIn, is_answer_to, is_cause, is_wanted}
 use Rattle.hist_controller.specs.Clauses.{Has, MayOrder, IsControllerPast}
 use Rattle.hist_controller.specs.Counts.{is_in_put_of, in_puts, out_puts, cause_count}
 use Rattle.hist_controller.proofs.Lists.{has-left, length-both}
@@ -17,14 +17,27 @@ one-of b = if b then 1 else 0
 abbrev Only : Way → List ControllerAct → Type 0
 Only d h = (e : Way) → Has e (directions h) → (d.id == e.id) ≡ true → e ≡ d
 
-few-or : (c w : Bool) (n m : ℕ) → n + one-of w ≤ m → n + one-of (c || w) ≤ (if c then m + 1 else m)
-few-or true w n m e = grind arith
-few-or false w n m e = e
+few-or : (c w o : Bool) (n m : ℕ) → n + one-of (w && not o) ≤ m → n + one-of ((c || w) && not o) ≤ (if c && not o then m + 1 else m)
+few-or true true true n m e = e
+few-or true true false n m e = grind arith
+few-or true false o n m e = plus o
+  where
+    plus : (o : Bool) → n + one-of (not o) ≤ (if not o then m + 1 else m)
+    plus true = e
+    plus false = grind arith
+few-or false w o n m e = e
 
-few-told : (b s r w : Bool) (n m : ℕ) → (b ≡ true → n ≡ 0) → n + one-of w ≤ m → n + one-of (if b then s else (r || w)) ≤ (if b then (if s then 1 else 0) else if r then m + 1 else m)
-few-told true true r w n m f e = let z : n ≡ 0 = f refl in omega arith
-few-told true false r w n m f e = let z : n ≡ 0 = f refl in omega arith
-few-told false s r w n m f e = few-or r w n m e
+few-told : (b s r w z o : Bool) (n m : ℕ) → (b ≡ true → n ≡ 0) → n + one-of (w && not o) ≤ m → n + one-of ((if b then s else (r || w)) && not (not b && (z || o))) ≤ (if b then (if s then 1 else 0) else if r && not o then m + 1 else m)
+few-told true true r w z o n m f e = let q : n ≡ 0 = f refl in omega arith
+few-told true false r w z o n m f e = let q : n ≡ 0 = f refl in omega arith
+few-told false s r w true o n m f e = let a = few-or r w o n m e in never (r || w) (r && not o) (w && not o) n m e
+  where
+    never : (x y v : Bool) (n m : ℕ) → n + one-of v ≤ m → n + one-of (x && false) ≤ (if y then m + 1 else m)
+    never true true v n m e = omega arith
+    never true false v n m e = omega arith
+    never false true v n m e = omega arith
+    never false false v n m e = omega arith
+few-told false s r w false o n m f e = few-or r w o n m e
 
 -- before its own command a direction has no put
 no-put-yet : (h : List ControllerAct) (g : ℕ) (d : Way) (o : ControllerOrder) → MayOrder h g o → length (directions h) ≤ d.id → in_puts d h ≡ 0 → (if is_in_put_of d o then in_puts d h + 1 else in_puts d h) ≡ 0
@@ -55,32 +68,32 @@ made-above (End r) n d e = cc
 made-above (Rekey r) n d e = cc
 made-above (Keys k) n d e = cc
 
-few-put : (b w : Bool) (n m : ℕ) → (b ≡ true → w ≡ true) → n + one-of w ≤ m → (if b then n + 1 else n) + one-of (not b && w) ≤ m
-few-put true w n m f e = let t : w ≡ true = f refl in let e' : n + one-of true ≤ m = subst (λ z. n + one-of z ≤ m) t e in omega arith
-few-put false w n m f e = e
+few-put : (b w o : Bool) (n m : ℕ) → (b ≡ true → (w && not o) ≡ true) → n + one-of (w && not o) ≤ m → (if b then n + 1 else n) + one-of ((not b && w) && not o) ≤ m
+few-put true w o n m f e = let t : (w && not o) ≡ true = f refl in let e' : n + one-of true ≤ m = subst (λ z. n + one-of z ≤ m) t e in omega arith
+few-put false w o n m f e = e
 
-owed-wanted : (w o a b : Bool) → ((w && not o) && a && b) ≡ true → w ≡ true
-owed-wanted w o a b e = grind arith
+is-owed : (w a b : Bool) → (w && a && b) ≡ true → w ≡ true
+is-owed w a b e = grind arith
 
-few-order : (d : Way) (h : List ControllerAct) (g s i : ℕ) (o : ControllerOrder) → Only d h → MayOrder h g o → in_puts d h + one-of (is_wanted d h) ≤ cause_count d h → in_puts d (Ordered g s i o ∷ h) + one-of (is_wanted d (Ordered g s i o ∷ h)) ≤ cause_count d h
+few-order : (d : Way) (h : List ControllerAct) (g s i : ℕ) (o : ControllerOrder) → Only d h → MayOrder h g o → in_puts d h + one-of (is_owed d h) ≤ cause_count d h → in_puts d (Ordered g s i o ∷ h) + one-of (is_owed d (Ordered g s i o ∷ h)) ≤ cause_count d h
 few-order d h g s i Read u m e = e
 few-order d h g s i (Policy l) u m e = e
 few-order d h g s i (PutIn x) u m e =
-    few-put (d.id == x.way.id) (is_wanted d h) (in_puts d h) (cause_count d h)
-    (λ q. ap (λ z. is_wanted z h) (sym (u x.way m.of q)) ∙ owed-wanted (is_wanted x.way h) (is_over x.way h) (is_read x.way.sender h) (is_read x.way.receiver h) m.may)
+    few-put (d.id == x.way.id) (is_wanted d h) (is_over d h) (in_puts d h) (cause_count d h)
+    (λ q. ap (λ z. is_owed z h) (sym (u x.way m.of q)) ∙ is-owed (is_owed x.way h) (is_read x.way.sender h) (is_read x.way.receiver h) m.may)
     e
 few-order d h g s i (PutOut x) u m e = e
 few-order d h g s i (RemoveIn n) u m e = e
 few-order d h g s i (RemoveOut n) u m e = e
 
-few : (p : ℕ) (d : Way) (h : List ControllerAct) → IsControllerPast p h → Only d h → in_puts d h + one-of (is_wanted d h) ≤ cause_count d h
+few : (p : ℕ) (d : Way) (h : List ControllerAct) → IsControllerPast p h → Only d h → in_puts d h + one-of (is_owed d h) ≤ cause_count d h
 few p d [] l u = omega arith
 few p d (Opened g s ∷ h) l u = few p d h l.1 u
-few p d (Cut g s ∷ h) l u = few-or (is_cause d (Cut g s) h) (is_wanted d h) (in_puts d h) (cause_count d h) (few p d h l.1 u)
-few p d (Answered g s n a ∷ h) l u = few-or (is_cause d (Answered g s n a) h) (is_wanted d h) (in_puts d h) (cause_count d h) (few p d h l.1 u)
-few p d (Heard g s t ∷ h) l u = few-or (is_cause d (Heard g s t) h) (is_wanted d h) (in_puts d h) (cause_count d h) (few p d h l.1 u)
+few p d (Cut g s ∷ h) l u = few-or (is_cause d (Cut g s) h) (is_wanted d h) (is_over d h) (in_puts d h) (cause_count d h) (few p d h l.1 u)
+few p d (Answered g s n a ∷ h) l u = few-or (is_cause d (Answered g s n a) h) (is_wanted d h) (is_over d h) (in_puts d h) (cause_count d h) (few p d h l.1 u)
+few p d (Heard g s t ∷ h) l u = few-or (is_cause d (Heard g s t) h) (is_wanted d h) (is_over d h) (in_puts d h) (cause_count d h) (few p d h l.1 u)
 few p d (Ordered g s i o ∷ h) l u = few-order d h g s i o u l.0.3 (few p d h l.1 u)
-few p d (Accepted c ∷ h) l u = few-told (is_made_by c (length (directions h)) d) (is_start c) (is_renewal d c) (is_wanted d h) (in_puts d h) (cause_count d h) (λ b. no-puts p h d l.1 (made-above c (length (directions h)) d b)) (few p d h l.1 (λ e i. u e (has-left e (directions h) (new_ways (length (directions h)) c) i)))
+few p d (Accepted c ∷ h) l u = few-told (is_made_by c (length (directions h)) d) (is_start c) (is_renewal d c) (is_wanted d h) (is_end_of d.tunnel.reqid c) (is_over d h) (in_puts d h) (cause_count d h) (λ b. no-puts p h d l.1 (made-above c (length (directions h)) d b)) (few p d h l.1 (λ e i. u e (has-left e (directions h) (new_ways (length (directions h)) c) i)))
 few p d (Refused w ∷ h) l u = few p d h l.1 u
 
 -- ## an outbound put has its own inbound one

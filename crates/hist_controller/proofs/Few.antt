@@ -88,7 +88,7 @@ goes-on e o true i b c p q r s u = inl refl
 goes-on e o false false b c p q r s u = inr refl
 goes-on e o false true b c p q r s u = absurd (let w : ((not false && not false) && not false && true && true && true) ≡ false = rw (p, q, r, s) at u in let v : true ≡ false = w in cc)
 
-busy-there : (h : List ControllerAct) (d : Way) (x : Association) (g : ℕ) (o : ControllerOrder) → is_own d (left d h) o ≡ true → Has o (queue g h) → (g ≡ d.sender) ⊎ (g ≡ d.receiver) → is_busy d h ≡ false → ⊥
+pub busy-there : (h : List ControllerAct) (d : Way) (x : Association) (g : ℕ) (o : ControllerOrder) → is_own d (left d h) o ≡ true → Has o (queue g h) → (g ≡ d.sender) ⊎ (g ≡ d.receiver) → is_busy d h ≡ false → ⊥
 busy-there h d x g o y i (inl e) f = any-yes (is_own d (left d h)) (queue d.sender h) o (subst (λ z. Has o (queue z h)) e i) y (neither (list_any (is_own d (left d h)) (queue d.sender h)) (list_any (is_own d (left d h)) (queue d.receiver h)) f).0
 busy-there h d x g o y i (inr e) f = any-yes (is_own d (left d h)) (queue d.receiver h) o (subst (λ z. Has o (queue z h)) e i) y (neither (list_any (is_own d (left d h)) (queue d.sender h)) (list_any (is_own d (left d h)) (queue d.receiver h)) f).1
 

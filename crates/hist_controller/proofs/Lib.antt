@@ -26,3 +26,5 @@ pub mod PeerNames
 pub mod Reasons
 pub mod WaitingOrders
 pub mod Choices
+pub mod OwnCauses
+pub mod WaitsFor

@@ -27,7 +27,7 @@ both-no : (a b : Bool) → not a ≡ true → b ≡ false → (a || b) ≡ false
 both-no true b e f = cc
 both-no false b e f = f
 
-stays-left : (h : List ControllerAct) (d : Way) (x : Association) → Has x (left d h) → has_answer RemovingIn x.serial h ≡ false
+pub stays-left : (h : List ControllerAct) (d : Way) (x : Association) → Has x (left d h) → has_answer RemovingIn x.serial h ≡ false
 stays-left [] d x i = refl
 stays-left (Opened g s ∷ h) d x i = stays-left h d x i
 stays-left (Cut g s ∷ h) d x i = stays-left h d x i

@@ -151,6 +151,6 @@ lost-told ps p h g s l n f i =
     let c = n g g i i in
     let r : (g == g) ≡ true = grind arith in
     let w : drop (sessions.answered (peer_name ps g) (openings g h) (past_told ps h)) (sessions.orders_given (peer_name ps g) (openings g h) (past_told ps h)) ≡ map (order_told ps) (queue g h)
-        = subst (λ z. (if z then [] else drop (sessions.answered (peer_name ps g) (openings g h) (past_told ps h)) (sessions.orders_given (peer_name ps g) (openings g h) (past_told ps h))) ≡ map (order_told ps) (queue g h)) (q.uncut l.0.0) q.same in
+    = subst (λ z. (if z then [] else drop (sessions.answered (peer_name ps g) (openings g h) (past_told ps h)) (sessions.orders_given (peer_name ps g) (openings g h) (past_told ps h))) ≡ map (order_told ps) (queue g h)) (q.uncut l.0.0) q.same in
     let t : (s == openings g h) ≡ true = grind arith in
     subst (λ z. sessions.orders_lost (peer_name ps g) z (past_told ps (Cut g z ∷ h)) ≡ map (order_told ps) (queue g h)) (sym e) (let t' : (openings g h == openings g h) ≡ true = grind arith in rw (c, r, t') w)

@@ -94,21 +94,25 @@ oldest-has (x ∷ q) o e = let w : o ≡ x = cc in inl w
 
 -- ## what an association that is not ended waits for
 
+pub record Awaited (h : List ControllerAct) : Type 0 where
+  pub inbound : (d : Way) (x : Association) → Has x (left d h) → is_ended x h ≡ false → has_answer PuttingIn x.serial h ≡ false → Has (PutIn x) (queue x.way.receiver h)
+  pub outbound : (d : Way) (x : Association) → Has x (left d h) → is_ended x h ≡ false → is_out_ordered x.serial h ≡ true → has_answer PuttingOut x.serial h ≡ false → Has (PutOut x) (queue x.way.sender h)
+
+-- and where each put is answered with 201 or refused, only the newest one is put whole and not ended
 pub record Waits (h : List ControllerAct) : Type 0 where
   pub inbound : (d : Way) (x : Association) → Has x (left d h) → is_ended x h ≡ false → has_answer PuttingIn x.serial h ≡ false → Has (PutIn x) (queue x.way.receiver h)
   pub outbound : (d : Way) (x : Association) → Has x (left d h) → is_ended x h ≡ false → is_out_ordered x.serial h ≡ true → has_answer PuttingOut x.serial h ≡ false → Has (PutOut x) (queue x.way.sender h)
   pub replaced : (d : Way) (x y : Association) → Has x (left d h) → Has y (left d h) → x.serial < y.serial → has_answer PuttingOut y.serial h ≡ true → is_ended y h ≡ false → is_ended x h ≡ true
 
-waits-opened : (p : ℕ) (h : List ControllerAct) (g s : ℕ) → queue g h ≡ [] → Waits h → Waits (Opened g s ∷ h)
-waits-opened p h g s q k =
+awaited-opened : (p : ℕ) (h : List ControllerAct) (g s : ℕ) → queue g h ≡ [] → Awaited h → Awaited (Opened g s ∷ h)
+awaited-opened p h g s q k =
     record {
       inbound = λ d x i e v. opened-keeps h x.way.receiver g (PutIn x) (x.way.receiver == g) refl q (k.inbound d x i e v);
       outbound = λ d x i e t v. opened-keeps h x.way.sender g (PutOut x) (x.way.sender == g) refl q (k.outbound d x i e t v);
-      replaced = λ d x y i j e v w. k.replaced d x y i j e v w;
     }
 
-waits-cut : (h : List ControllerAct) (g s : ℕ) → Waits h → Waits (Cut g s ∷ h)
-waits-cut h g s k =
+awaited-cut : (h : List ControllerAct) (g s : ℕ) → Awaited h → Awaited (Cut g s ∷ h)
+awaited-cut h g s k =
     record {
       inbound = λ d x i e v.
           let n = neither (list_any (λ o. is_kind PuttingIn x.serial o || is_kind PuttingOut x.serial o) (queue g h)) (is_ended x h) e in
@@ -116,9 +120,6 @@ waits-cut h g s k =
       outbound = λ d x i e t v.
           let n = neither (list_any (λ o. is_kind PuttingIn x.serial o || is_kind PuttingOut x.serial o) (queue g h)) (is_ended x h) e in
           cut-keeps h x.way.sender g (PutOut x) (λ o. is_kind PuttingIn x.serial o || is_kind PuttingOut x.serial o) (x.way.sender == g) refl (eq-own x.serial) n.0 (k.outbound d x i n.1 t v);
-      replaced = λ d x y i j e v w.
-          let n = neither (list_any (λ o. is_kind PuttingIn y.serial o || is_kind PuttingOut y.serial o) (queue g h)) (is_ended y h) w in
-          or-right (list_any (λ o. is_kind PuttingIn x.serial o || is_kind PuttingOut x.serial o) (queue g h)) (is_ended x h) (k.replaced d x y i j e v n.1);
     }
 
 plain-put : (a b : Bool) → (a || b) ≡ true → (a ≡ true) ⊎ (b ≡ true)
@@ -162,8 +163,8 @@ replaced-now h g a d x y (Some (PutOut z)) i j f l m t e = elim (plain-put (a.st
       absurd (let u : true ≡ false = sym r ∙ e in cc)
 ]
 
-waits-answered : (p : ℕ) (h : List ControllerAct) (g s n : ℕ) (a : Answer) → IsControllerPast p h → is_plain (oldest (queue g h)) a.status ≡ true → Waits h → Waits (Answered g s n a ∷ h)
-waits-answered p h g s n a l m k =
+awaited-answered : (h : List ControllerAct) (g s n : ℕ) (a : Answer) → Awaited h → Awaited (Answered g s n a ∷ h)
+awaited-answered h g s n a k =
     record {
       inbound = λ d x i e v.
           let j = old d x i in
@@ -175,20 +176,10 @@ waits-answered p h g s n a l m k =
           let u = neither (is_spoiled x g (oldest (queue g h)) a (has_answer PuttingIn x.serial h) (is_out_ordered x.serial h)) (is_ended x h) e in
           let w = neither (is_answer_to PuttingOut x.serial (oldest (queue g h))) (has_answer PuttingOut x.serial h) v in
           answered-keeps h x.way.sender g (PutOut x) PuttingOut x.serial (x.way.sender == g) refl (eq-own x.serial) w.0 (k.outbound d x j u.1 t w.1);
-      replaced = λ d x y i j e v w. after-answer d x y (old d x i) (old d y j) e (is_answer_to PuttingOut y.serial (oldest (queue g h))) refl v (neither (is_spoiled y g (oldest (queue g h)) a (has_answer PuttingIn y.serial h) (is_out_ordered y.serial h)) (is_ended y h) w);
     }
   where
     old : (d : Way) (x : Association) → Has x (filter (λ z. not (is_answer_to RemovingIn z.serial (oldest (queue g h)))) (left d h)) → Has x (left d h)
     old d x i = has-filter (λ z. not (is_answer_to RemovingIn z.serial (oldest (queue g h)))) x (left d h) i
-
-    same : (d : Way) (y : Association) → Has y (left d h) → (z : Association) → oldest (queue g h) ≡ Some (PutOut z) → y.serial ≡ z.serial → y ≡ z
-    same d y j z t e =
-        let o = out-home p h l g z (queue-given h g (PutOut z) (oldest-has (queue g h) (PutOut z) t)) in
-        one-put p h l y.way.receiver z.way.receiver y z (lefts p h l d y j).put o.1 e
-
-    after-answer : (d : Way) (x y : Association) → Has x (left d h) → Has y (left d h) → x.serial < y.serial → (b : Bool) → is_answer_to PuttingOut y.serial (oldest (queue g h)) ≡ b → (b || has_answer PuttingOut y.serial h) ≡ true → (is_spoiled y g (oldest (queue g h)) a (has_answer PuttingIn y.serial h) (is_out_ordered y.serial h) ≡ false) × (is_ended y h ≡ false) → (is_spoiled x g (oldest (queue g h)) a (has_answer PuttingIn x.serial h) (is_out_ordered x.serial h) || is_ended x h) ≡ true
-    after-answer d x y i j e true t v w = let q = replaced-now h g a d x y (oldest (queue g h)) i j (same d y j) e m t w.0 in rw q refl
-    after-answer d x y i j e false t v w = or-right (is_spoiled x g (oldest (queue g h)) a (has_answer PuttingIn x.serial h) (is_out_ordered x.serial h)) (is_ended x h) (k.replaced d x y i j e v w.1)
 
 no-new : (x : Association) (b : Bool) → (not (x.serial == x.serial) && b) ≡ true → ⊥
 no-new x b e = let q = eq-own x.serial in let u : (not true && b) ≡ true = rw q at e in absurd (let v : false ≡ true = u in cc)
@@ -206,12 +197,11 @@ out-now p h g s n (PutOut z) l m d x i e =
     let t : x.way.sender ≡ g = ap (λ (y : Association). y.way.sender) w ∙ (ap (λ (y : Way). y.sender) (sym v) ∙ sym m.at) in
     subst (λ y. Has (PutOut y) (queue x.way.sender (Ordered g s n (PutOut z) ∷ h))) (sym w) (new-waits h g x.way.sender s n (PutOut z) t)
 
-waits-ordered : (p : ℕ) (h : List ControllerAct) (g s n : ℕ) (o : ControllerOrder) → IsControllerPast p h → MayOrder h g o → Waits h → Waits (Ordered g s n o ∷ h)
-waits-ordered p h g s n o l m k =
+awaited-ordered : (p : ℕ) (h : List ControllerAct) (g s n : ℕ) (o : ControllerOrder) → IsControllerPast p h → MayOrder h g o → Awaited h → Awaited (Ordered g s n o ∷ h)
+awaited-ordered p h g s n o l m k =
     record {
       inbound = λ d x i e v. in-case d x (has-more x (left d h) (inbound_put d o) i) e v;
       outbound = λ d x i e t v. out-case d x (has-more x (left d h) (inbound_put d o) i) e t v;
-      replaced = λ d x y i j e v w. after-case d x y (has-more x (left d h) (inbound_put d o) i) (has-more y (left d h) (inbound_put d o) j) e v w;
     }
   where
     older : (d : Way) (x : Association) → Has x (left d h) → is_kind PuttingIn x.serial o ≡ false
@@ -238,11 +228,57 @@ waits-ordered p h g s n o l m k =
         let q = (put-one d x o i).0 in
         absurd (no-new x (is_kind PuttingOut x.serial (PutIn x) || is_out_ordered x.serial h) (subst (λ z. (not (is_kind PuttingIn x.serial z) && (is_kind PuttingOut x.serial z || is_out_ordered x.serial h)) ≡ true) q t))
 
+pub awaited : (p : ℕ) (h : List ControllerAct) → IsControllerPast p h → Awaited h
+awaited p [] l = record { inbound = λ d x i e v. absurd i; outbound = λ d x i e t v. absurd i }
+awaited p (Opened g s ∷ h) l = awaited-opened p h g s (shut-queue p h g l.1 l.0.0) (awaited p h l.1)
+awaited p (Cut g s ∷ h) l = awaited-cut h g s (awaited p h l.1)
+awaited p (Answered g s n z ∷ h) l = awaited-answered h g s n z (awaited p h l.1)
+awaited p (Heard g s t ∷ h) l = let k = awaited p h l.1 in record { inbound = k.inbound; outbound = k.outbound }
+awaited p (Ordered g s n o ∷ h) l = awaited-ordered p h g s n o l.1 l.0.3 (awaited p h l.1)
+awaited p (Accepted c ∷ h) l =
+    let k = awaited p h l.1 in
+    record {
+      inbound = λ d x i e v. k.inbound d x (has-if x _ (left d h) i).1 (neither (is_end_of x.way.tunnel.reqid c) (is_ended x h) e).1 v;
+      outbound = λ d x i e t v. k.outbound d x (has-if x _ (left d h) i).1 (neither (is_end_of x.way.tunnel.reqid c) (is_ended x h) e).1 t v;
+    }
+awaited p (Refused w ∷ h) l = let k = awaited p h l.1 in record { inbound = k.inbound; outbound = k.outbound }
+
+-- ## what an earlier one is where a later one was put whole
+
+abbrev Replaced : List ControllerAct → Type 0
+Replaced h = (d : Way) (x y : Association) → Has x (left d h) → Has y (left d h) → x.serial < y.serial → has_answer PuttingOut y.serial h ≡ true → is_ended y h ≡ false → is_ended x h ≡ true
+
+replaced-cut : (h : List ControllerAct) (g s : ℕ) → Replaced h → Replaced (Cut g s ∷ h)
+replaced-cut h g s k d x y i j e v w =
+    let n = neither (list_any (λ o. is_kind PuttingIn y.serial o || is_kind PuttingOut y.serial o) (queue g h)) (is_ended y h) w in
+    or-right (list_any (λ o. is_kind PuttingIn x.serial o || is_kind PuttingOut x.serial o) (queue g h)) (is_ended x h) (k d x y i j e v n.1)
+
+replaced-answered : (p : ℕ) (h : List ControllerAct) (g s n : ℕ) (a : Answer) → IsControllerPast p h → is_plain (oldest (queue g h)) a.status ≡ true → Replaced h → Replaced (Answered g s n a ∷ h)
+replaced-answered p h g s n a l m k d x y i j e v w = after-answer d x y (old d x i) (old d y j) e (is_answer_to PuttingOut y.serial (oldest (queue g h))) refl v (neither (is_spoiled y g (oldest (queue g h)) a (has_answer PuttingIn y.serial h) (is_out_ordered y.serial h)) (is_ended y h) w)
+  where
+    old : (d : Way) (x : Association) → Has x (filter (λ z. not (is_answer_to RemovingIn z.serial (oldest (queue g h)))) (left d h)) → Has x (left d h)
+    old d x i = has-filter (λ z. not (is_answer_to RemovingIn z.serial (oldest (queue g h)))) x (left d h) i
+
+    same : (d : Way) (y : Association) → Has y (left d h) → (z : Association) → oldest (queue g h) ≡ Some (PutOut z) → y.serial ≡ z.serial → y ≡ z
+    same d y j z t e =
+        let o = out-home p h l g z (queue-given h g (PutOut z) (oldest-has (queue g h) (PutOut z) t)) in
+        one-put p h l y.way.receiver z.way.receiver y z (lefts p h l d y j).put o.1 e
+
+    after-answer : (d : Way) (x y : Association) → Has x (left d h) → Has y (left d h) → x.serial < y.serial → (b : Bool) → is_answer_to PuttingOut y.serial (oldest (queue g h)) ≡ b → (b || has_answer PuttingOut y.serial h) ≡ true → (is_spoiled y g (oldest (queue g h)) a (has_answer PuttingIn y.serial h) (is_out_ordered y.serial h) ≡ false) × (is_ended y h ≡ false) → (is_spoiled x g (oldest (queue g h)) a (has_answer PuttingIn x.serial h) (is_out_ordered x.serial h) || is_ended x h) ≡ true
+    after-answer d x y i j e true t v w = let q = replaced-now h g a d x y (oldest (queue g h)) i j (same d y j) e m t w.0 in rw q refl
+    after-answer d x y i j e false t v w = or-right (is_spoiled x g (oldest (queue g h)) a (has_answer PuttingIn x.serial h) (is_out_ordered x.serial h)) (is_ended x h) (k d x y i j e v w.1)
+
+replaced-ordered : (p : ℕ) (h : List ControllerAct) (g s n : ℕ) (o : ControllerOrder) → IsControllerPast p h → MayOrder h g o → Replaced h → Replaced (Ordered g s n o ∷ h)
+replaced-ordered p h g s n o l m k d x y i j e v w = after-case d x y (has-more x (left d h) (inbound_put d o) i) (has-more y (left d h) (inbound_put d o) j) e v w
+  where
+    older : (d : Way) (x : Association) → Has x (left d h) → is_kind PuttingIn x.serial o ≡ false
+    older d x i = no-in h g o x m (low p h l d x i)
+
     after-case : (d : Way) (x y : Association) → Has x (left d h) ⊎ Has x (inbound_put d o) → Has y (left d h) ⊎ Has y (inbound_put d o) → x.serial < y.serial → (not (is_kind PuttingIn y.serial o) && has_answer PuttingOut y.serial h) ≡ true → (not (is_kind PuttingIn y.serial o) && is_ended y h) ≡ false → (not (is_kind PuttingIn x.serial o) && is_ended x h) ≡ true
     after-case d x y (inl i) (inl j) e v w =
         let q = older d x i in
         let r = older d y j in
-        rw q (k.replaced d x y i j e (rw r at v) (rw r at w))
+        rw q (k d x y i j e (rw r at v) (rw r at w))
     after-case d x y (inr i) (inl j) e v w =
         let q = put-serial h g o x m (put-one d x o i).0 in
         let b = low p h l d y j in
@@ -252,17 +288,14 @@ waits-ordered p h g s n o l m k =
         absurd (no-new y (has_answer PuttingOut y.serial h) (subst (λ z. (not (is_kind PuttingIn y.serial z) && has_answer PuttingOut y.serial h) ≡ true) q v))
 
 pub waits : (p : ℕ) (h : List ControllerAct) → IsControllerPast p h → PlainAnswers h → Waits h
-waits p [] l a = record { inbound = λ d x i e v. absurd i; outbound = λ d x i e t v. absurd i; replaced = λ d x y i j e v w. absurd i }
-waits p (Opened g s ∷ h) l a = waits-opened p h g s (shut-queue p h g l.1 l.0.0) (waits p h l.1 a)
-waits p (Cut g s ∷ h) l a = waits-cut h g s (waits p h l.1 a)
-waits p (Answered g s n z ∷ h) l a = waits-answered p h g s n z l.1 a.0 (waits p h l.1 a.1)
-waits p (Heard g s t ∷ h) l a = let k = waits p h l.1 a in record { inbound = k.inbound; outbound = k.outbound; replaced = k.replaced }
-waits p (Ordered g s n o ∷ h) l a = waits-ordered p h g s n o l.1 l.0.3 (waits p h l.1 a)
-waits p (Accepted c ∷ h) l a =
-    let k = waits p h l.1 a in
-    record {
-      inbound = λ d x i e v. k.inbound d x (has-if x _ (left d h) i).1 (neither (is_end_of x.way.tunnel.reqid c) (is_ended x h) e).1 v;
-      outbound = λ d x i e t v. k.outbound d x (has-if x _ (left d h) i).1 (neither (is_end_of x.way.tunnel.reqid c) (is_ended x h) e).1 t v;
-      replaced = λ d x y i j e v w. or-right (is_end_of x.way.tunnel.reqid c) (is_ended x h) (k.replaced d x y (has-if x _ (left d h) i).1 (has-if y _ (left d h) j).1 e v (neither (is_end_of y.way.tunnel.reqid c) (is_ended y h) w).1);
-    }
-waits p (Refused w ∷ h) l a = let k = waits p h l.1 a in record { inbound = k.inbound; outbound = k.outbound; replaced = k.replaced }
+waits p h l a = let k = awaited p h l in record { inbound = k.inbound; outbound = k.outbound; replaced = replaced p h l a }
+  where
+    replaced : (p : ℕ) (h : List ControllerAct) → IsControllerPast p h → PlainAnswers h → Replaced h
+    replaced p [] l a = λ d x y i. absurd i
+    replaced p (Opened g s ∷ h) l a = replaced p h l.1 a
+    replaced p (Cut g s ∷ h) l a = replaced-cut h g s (replaced p h l.1 a)
+    replaced p (Answered g s n z ∷ h) l a = replaced-answered p h g s n z l.1 a.0 (replaced p h l.1 a.1)
+    replaced p (Heard g s t ∷ h) l a = replaced p h l.1 a
+    replaced p (Ordered g s n o ∷ h) l a = replaced-ordered p h g s n o l.1 l.0.3 (replaced p h l.1 a)
+    replaced p (Accepted c ∷ h) l a = λ d x y i j e v w. or-right (is_end_of x.way.tunnel.reqid c) (is_ended x h) (replaced p h l.1 a d x y (has-if x _ (left d h) i).1 (has-if y _ (left d h) j).1 e v (neither (is_end_of y.way.tunnel.reqid c) (is_ended y h) w).1)
+    replaced p (Refused w ∷ h) l a = replaced p h l.1 a

@@ -1,8 +1,8 @@
 -- How often things are ordered.
-use Rattle.std.specs.Prelude.{◌≡◌, ℕ, ◌+◌, ◌-◌, ◌<◌, Bool, false, ◌==◌, ◌&&◌, List, [], ◌∷◌, ◌++◌, Some, length, if◌then◌else◌}
+use Rattle.std.specs.Prelude.{◌≡◌, ℕ, ◌+◌, ◌-◌, ◌<◌, Bool, false, ◌==◌, ◌&&◌, not, List, [], ◌∷◌, ◌++◌, Some, length, if◌then◌else◌}
 use Rattle.ikeless_tree.specs.declared.entry.SpdEntry.{SpdEntry}
 use Rattle.hist_controller.specs.Acts.{Way, ControllerOrder, Policy, PutIn, PutOut, PlacedCommand, SetPolicy, ControllerAct, Opened, Ordered, Accepted}
-use Rattle.hist_controller.specs.Past.{keys, directions, is_made_by, Kind, is_kind, is_start, is_renewal, is_cause}
+use Rattle.hist_controller.specs.Past.{keys, directions, is_made_by, is_over, Kind, is_kind, is_start, is_renewal, is_cause}
 use Rattle.hist_controller.specs.Machine.{place}
 
 -- how often such an order of serial n was given
@@ -43,14 +43,14 @@ out_puts d [] = 0
 out_puts d (Ordered g s n o ∷ h) = if is_out_put_of d o then out_puts d h + 1 else out_puts d h
 out_puts d (_ ∷ h) = out_puts d h
 
--- how many causes of the direction stand since its own command
+-- how many causes of the direction stand since its own command, while its tunnel wasn't ended
 abbrev pub cause_count : Way → List ControllerAct → ℕ
 cause_count d [] = 0
 cause_count d (Accepted c ∷ h) =
     if is_made_by c (length (directions h)) d then (if is_start c then 1 else 0)
-    else if is_renewal d c then cause_count d h + 1
+    else if is_renewal d c && not (is_over d h) then cause_count d h + 1
     else cause_count d h
-cause_count d (a ∷ h) = if is_cause d a h then cause_count d h + 1 else cause_count d h
+cause_count d (a ∷ h) = if is_cause d a h && not (is_over d h) then cause_count d h + 1 else cause_count d h
 
 -- a put has the key whose place its serial is
 abbrev pub KeyRight : List ControllerAct → ControllerOrder → Type 0

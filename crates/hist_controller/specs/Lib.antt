@@ -12,3 +12,5 @@ pub mod Orders
 pub mod Ever
 pub mod Table
 pub mod Choice
+pub mod Causes
+pub mod Waiting

@@ -7,13 +7,14 @@ ghost use Rattle.hist_acts.specs.Past as happened;
 ghost use Rattle.ikeless_tree.specs.Check.{is_key_length};
 ghost use Rattle.ikeless_tree.specs.declared.command.Peer.{Peer};
 ghost use Rattle.ikeless_tree.specs.declared.order.Answer.{Answer};
-ghost use Rattle.hist_controller.specs.Acts.{Way, Association, ControllerOrder, PutIn, PutOut, RemoveIn, RemoveOut, ControllerAct, Answered, Cut, ControllerEvent, in_name, out_name};
+ghost use Rattle.hist_controller.specs.Acts.{Way, Association, ControllerOrder, PutIn, PutOut, RemoveIn, RemoveOut, ControllerAct, Answered, Cut, Ordered, Accepted, PlacedCommand, ControllerEvent, in_name, out_name};
 ghost use Rattle.hist_acts.specs.Past.{after};
-ghost use Rattle.hist_controller.specs.Past.{is_open, openings, orders, answered, is_read, directions, keys, serials, queue, oldest, is_in_progress, left, is_unseen, PuttingIn, PuttingOut, RemovingIn, RemovingOut};
+ghost use Rattle.hist_controller.specs.Past.{is_open, openings, orders, answered, is_read, directions, keys, serials, queue, oldest, is_in_progress, left, is_unseen, is_ended, is_made_by, is_over, is_owed, is_start, is_wanted, has_answer, PuttingIn, PuttingOut, RemovingIn, RemovingOut};
 ghost use Rattle.hist_controller.specs.State.{state_of, did};
 ghost use Rattle.hist_controller.specs.Machine.{acts_of, next, run, place};
 ghost use Rattle.hist_controller.specs.Law.{peer_number, aes_part, tunnels, block, history, event_refusal, one_or_none, refusals_in};
 ghost use Rattle.hist_controller.specs.Clauses.{Has, IsControllerPast, ControllerMayActAll, NotIdle};
+ghost use Rattle.hist_controller.specs.Causes.{CauseAmong, CauseStands, WasEnded};
 ghost use Rattle.hist_controller.specs.Choice.{IsBlock};
 ghost use Rattle.hist_controller.specs.Counts.{times, times_at, times_now, in_puts, out_puts, cause_count, KeysRight, ListsRight};
 ghost use Rattle.hist_controller.specs.Halves.{PlainAnswers, half_count};
@@ -21,6 +22,7 @@ ghost use Rattle.hist_controller.specs.Numbers.{numbered};
 ghost use Rattle.hist_controller.specs.Orders.{AllBefore, WasOrdered, PutOf};
 ghost use Rattle.hist_controller.specs.Told.{peer_name, order_told, all_told, past_told, Named, are_names_apart};
 ghost use Rattle.hist_controller.specs.Ever.{made, AllNotIdle};
+ghost use Rattle.hist_controller.specs.Waiting.{WaitsForGateways, WaitsForKey, WaitsForRemoval};
 ghost use Rattle.hist_controller.specs.Table.{Table, first_table, did_table, next_table, seen, Fits, AllFit, EventFits, AllEventsFit};
 
 /// What is kept of a past, one act later, is what the act makes of what was kept.
@@ -68,16 +70,32 @@ pub fn is_never_idle()
     ensures ever { (n : ℕ) (h : List ControllerAct) → IsControllerPast n h → NotIdle h → AllNotIdle h }
 {}
 
+/// What a direction waits for is an answer to an order of its own, a session or a reading at one of its gateways, or a key; and
+/// each of these is named: no key is waited for but where the direction is owed an association, and an ended association waits
+/// for the gateway at which its next half is removed.
+pub fn names_what_is_waited_for()
+    ensures owed { (n : ℕ) (h : List ControllerAct) → IsControllerPast n h → NotIdle h → (d : Way) → Has d (directions h) → is_owed d h ≡ true → WaitsForKey h d }
+    ensures progress { (n : ℕ) (h : List ControllerAct) → IsControllerPast n h → NotIdle h → (d : Way) → Has d (directions h) → (x : Association) → Has x (left d h) → is_in_progress h x ≡ true → WaitsForGateways h d }
+    ensures ended { (n : ℕ) (h : List ControllerAct) → IsControllerPast n h → NotIdle h → (d : Way) → Has d (directions h) → (x : Association) → Has x (left d h) → is_ended x h ≡ true → WaitsForRemoval h d x }
+{}
+
 /// Each half is put once at most, with the key of its serial.
 pub fn puts_once()
     ensures once { (n : ℕ) (h : List ControllerAct) → IsControllerPast n h → (serial : ℕ) → (times PuttingIn serial h ≤ 1) × (times PuttingOut serial h ≤ 1) }
     ensures keyed { (n : ℕ) (h : List ControllerAct) → IsControllerPast n h → KeysRight h }
 {}
 
-/// The inbound puts of a direction are no more than its causes, and its outbound puts no more than its inbound ones: at
+/// The inbound puts of a direction are no more than its causes while its tunnel is not ended, and its outbound puts no more than its inbound ones: at
 /// most two puts for each cause.
 pub fn puts_for_causes()
     ensures { (n : ℕ) (h : List ControllerAct) → IsControllerPast n h → (d : Way) → Has d (directions h) → (in_puts d h ≤ cause_count d h) × (out_puts d h ≤ in_puts d h) }
+{}
+
+/// Each inbound put has a cause of its own: between two inbound puts of a direction a cause of it stands, and between its command
+/// and its first inbound put too, unless the command itself is one.
+pub fn each_put_has_its_cause()
+    ensures between { (p f r m g s n : ℕ) (x y : Association) (recent old : List ControllerAct) → IsControllerPast p (Ordered g s n (PutIn y) ∷ recent ++ Ordered f r m (PutIn x) ∷ old) → y.way ≡ x.way → CauseAmong y.way recent (Ordered f r m (PutIn x) ∷ old) }
+    ensures first { (p g s n : ℕ) (y : Association) (c : PlacedCommand) (recent old : List ControllerAct) → IsControllerPast p (Ordered g s n (PutIn y) ∷ recent ++ Accepted c ∷ old) → is_made_by c (length (directions old)) y.way ≡ true → (is_start c ≡ true) ⊎ CauseAmong y.way recent (Accepted c ∷ old) }
 {}
 
 /// A half is ordered removed once at most in each session of its gateway, and not more often than sessions were opened.
@@ -136,9 +154,21 @@ pub fn has_few_halves()
     ensures halves { (n : ℕ) (h : List ControllerAct) → IsControllerPast n h → PlainAnswers h → (g : ℕ) → half_count g h (directions h) ≤ 4096 }
 {}
 
-/// The order that is answered is the one with the number and session of the answer; and the causes that speak of the
-/// associations left say the same of all that were ever put.
+/// What the words that look back say plainly. The order that is answered is the one with the number and session of the answer.
+/// While a session is open the orders that wait are those of its numbers after the answered ones, and else none waits. An
+/// association is left exactly where its inbound half was ordered put and no removal of that was answered. A direction wants an
+/// association exactly where a cause of it stands since its command and its last inbound put, and its tunnel is over exactly
+/// where an end of it was accepted after its command. The causes that speak of the associations left say the same of all that
+/// were ever put.
 pub fn reads_plainly()
+    ensures waiting { (p : ℕ) (h : List ControllerAct) → IsControllerPast p h → (g : ℕ) → is_open g h ≡ true → (j : ℕ) → place j (queue g h) ≡ numbered g (openings g h) (answered g h + 1 + j) h }
+    ensures shut { (p : ℕ) (h : List ControllerAct) (g : ℕ) → IsControllerPast p h → is_open g h ≡ false → queue g h ≡ [] }
+    ensures left { (p : ℕ) (h : List ControllerAct) → IsControllerPast p h → (d : Way) → Has d (directions h) → (x : Association) → Has x (left d h) → (d ≡ x.way) × WasOrdered (PutIn x) d.receiver h × (has_answer RemovingIn x.serial h ≡ false) }
+    ensures stays_left { (p : ℕ) (h : List ControllerAct) → IsControllerPast p h → (x : Association) (g : ℕ) → WasOrdered (PutIn x) g h → has_answer RemovingIn x.serial h ≡ false → Has x (left x.way h) }
+    ensures wanted { (d : Way) (h : List ControllerAct) → is_wanted d h ≡ true → CauseStands d h }
+    ensures stands { (d : Way) (h : List ControllerAct) → CauseStands d h → is_wanted d h ≡ true }
+    ensures over { (d : Way) (h : List ControllerAct) → Has d (directions h) → is_over d h ≡ true → WasEnded d h }
+    ensures ended { (d : Way) (h : List ControllerAct) → WasEnded d h → is_over d h ≡ true }
     ensures number { (p g s n : ℕ) (a : Answer) (h : List ControllerAct) → IsControllerPast p (Answered g s n a ∷ h) → numbered g s n h ≡ oldest (queue g h) }
     ensures progress { (n : ℕ) (h : List ControllerAct) → IsControllerPast n h → (d : Way) → list_any (is_in_progress h) (made d h) ≡ list_any (is_in_progress h) (left d h) }
     ensures reading { (n : ℕ) (h : List ControllerAct) → IsControllerPast n h → (d : Way) (g : ℕ) (names : List (List ℕ)) → list_any (is_unseen h d g names) (made d h) ≡ list_any (is_unseen h d g names) (left d h) }

@@ -5,8 +5,8 @@
 mod laws;
 
 pub use laws::{
-    accepts_fresh_keys, fits_a_table, follows_the_clauses, has_few_halves, has_homes,
-    is_never_idle, keeps, knows_its_gateways, leaves_no_choice, names_differ, orders_newest_lists, puts_for_causes,
-    puts_once, reads_plainly, refuses_with_reason, removes_once, runs, stands_before, steps,
-    tells_a_transcript,
+    accepts_fresh_keys, each_put_has_its_cause, fits_a_table, follows_the_clauses, has_few_halves,
+    has_homes, is_never_idle, keeps, knows_its_gateways, leaves_no_choice, names_differ,
+    names_what_is_waited_for, orders_newest_lists, puts_for_causes, puts_once, reads_plainly,
+    refuses_with_reason, removes_once, runs, stands_before, steps, tells_a_transcript,
 };
