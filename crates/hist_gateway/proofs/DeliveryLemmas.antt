@@ -3,7 +3,7 @@ use Rattle.std.proofs.Common.{◌≡◌, ℕ, ◌==◌, true, false, List, ◌�
 use Rattle.ip_packet.specs.declared.outer.Outer.{Outer}
 use Rattle.ip_packet.specs.View.{Packet, view_of}
 use Rattle.ip_packet.specs.Outer.{AreOneFamily, outer_header, outer_view}
-use Rattle.ikeless_tree.specs.declared.association.SadEntry.{SadEntry}
+use Rattle.ikeless_tree.specs.declared.sad.SadEntry.{SadEntry}
 use Rattle.esp_frame.specs.Esp.{esp, keying, spi_of}
 use Rattle.esp_frame.specs.Open as open_esp
 use Rattle.hist_acts.specs.declared.act.Act.{Act}

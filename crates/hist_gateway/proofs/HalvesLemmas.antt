@@ -2,7 +2,7 @@
 use Rattle.std.proofs.Common.{◌≡◌, ◌≤◌, ℕ, ◌+◌, ◌==◌, nat_le, Bool, true, false, not, ◌&&◌, ◌||◌, List, [], ◌∷◌, ◌++◌, length, find, Option, Some, None, refl, sym, ◌∙◌, ap, subst, arith, if◌then◌else◌}
 use Rattle.std.specs.Str.{bytes_eq}
 use Rattle.ip_packet.specs.View.{Packet}
-use Rattle.ikeless_tree.specs.declared.association.SadEntry.{SadEntry}
+use Rattle.ikeless_tree.specs.declared.sad.SadEntry.{SadEntry}
 use Rattle.ikeless_tree.specs.declared.entry.Direction.TheVariants.{Out}
 use Rattle.ikeless_tree.specs.declared.reply.GoneWhy.{GoneWhy}
 use Rattle.spd_match.specs.Match.{holds_packet}

@@ -4,8 +4,8 @@ use Rattle.std.specs.List.{list_any}
 use Rattle.ip_packet.specs.declared.packet.NotPacket.{NotPacket}
 use Rattle.ip_packet.specs.declared.packet.NotPacket.TheVariants as faults
 use Rattle.ip_packet.specs.View.{Packet, view_of}
-use Rattle.ikeless_tree.specs.declared.association.SadEntry.{SadEntry}
-use Rattle.ikeless_tree.specs.declared.association.Tree.{Tree}
+use Rattle.ikeless_tree.specs.declared.sad.SadEntry.{SadEntry}
+use Rattle.ikeless_tree.specs.declared.sad.Tree.{Tree}
 use Rattle.ikeless_tree.specs.declared.entry.SpdEntry.{SpdEntry}
 use Rattle.ikeless_tree.specs.declared.entry.Action.{Action}
 use Rattle.ikeless_tree.specs.declared.entry.Action.TheVariants as actions
@@ -42,7 +42,7 @@ use Rattle.hist_gateway.specs.Let.{newest, unless, send_acts, let_by_half, let_b
 use Rattle.hist_gateway.specs.Arrive as arrive
 use Rattle.hist_gateway.specs.Handle.{Fault, answer_of, handle_acts, change_acts, requests}
 use Rattle.hist_gateway.specs.Block.{Gateway, GatewayEvent, Let, Arrive, Clock, Handle, Session_taken, gw_block, clock_acts}
-use Rattle.ikeless_tree.specs.declared.association.SadRow.{SadRow}
+use Rattle.ikeless_tree.specs.declared.sad.SadRow.{SadRow}
 use Rattle.hist_gateway.proofs.KeepsLemmas.{same-is}
 use Rattle.hist_gateway.specs.May.{IsInstallable, IsNewHalf, AreNewHalves, MayInstall, AreInstalled, LetBefore, OpensArrival, GatewayMayDrop, GatewayMayAct, GatewayMayActAll, IsGatewayPast, IsNumbered, AreNumbered, is_boot}
 

@@ -6,7 +6,7 @@ use Rattle.replay_win.specs.Marks.{is_among, is_below, greatest, verdict_by, ver
 use Rattle.hist_acts.specs.declared.act.Act.{Act}
 use Rattle.hist_acts.specs.declared.act.Act.TheVariants as acts
 use Rattle.hist_acts.specs.Past.{after}
-use Rattle.ikeless_tree.specs.declared.association.SadEntry.{SadEntry}
+use Rattle.ikeless_tree.specs.declared.sad.SadEntry.{SadEntry}
 use Rattle.hist_halves.specs.Sealed.{number_of}
 use Rattle.hist_halves.specs.Halves.{is_half, sent, numbers_taken}
 use Rattle.hist_gateway.specs.Block.{Gateway, GatewayEvent, gw_block, gw_history}

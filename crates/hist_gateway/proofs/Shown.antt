@@ -8,9 +8,9 @@ use Rattle.ikl_base.specs.declared.address.Addr.TheVariants.{V4, V6}
 use Rattle.ikl_base.specs.declared.address.Prefix.{Prefix}
 use Rattle.ip_packet.specs.View.{Packet, view_of}
 use Rattle.ip_packet.specs.Ipv6.{upper_of}
-use Rattle.ikeless_tree.specs.declared.association.Df.TheVariants as dfs
-use Rattle.ikeless_tree.specs.declared.association.Limits.{Limits}
-use Rattle.ikeless_tree.specs.declared.association.SadEntry.{SadEntry}
+use Rattle.ikeless_tree.specs.declared.sad.Df.TheVariants as dfs
+use Rattle.ikeless_tree.specs.declared.sad.Limits.{Limits}
+use Rattle.ikeless_tree.specs.declared.sad.SadEntry.{SadEntry}
 use Rattle.ikeless_tree.specs.declared.entry.Direction.{Direction}
 use Rattle.ikeless_tree.specs.declared.entry.Direction.TheVariants.{In, Out}
 use Rattle.ikeless_tree.specs.declared.entry.Action.{Action}

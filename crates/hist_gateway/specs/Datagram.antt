@@ -12,9 +12,9 @@ use Rattle.ip_packet.specs.declared.packet.NotPacket.TheVariants as faults
 use Rattle.ip_packet.specs.declared.outer.Outer.{Outer}
 use Rattle.ip_packet.specs.View.{Packet}
 use Rattle.ip_packet.specs.Outer.{outer_header}
-use Rattle.ikeless_tree.specs.declared.association.Df.{Df}
-use Rattle.ikeless_tree.specs.declared.association.Df.TheVariants as dfs
-use Rattle.ikeless_tree.specs.declared.association.SadEntry.{SadEntry}
+use Rattle.ikeless_tree.specs.declared.sad.Df.{Df}
+use Rattle.ikeless_tree.specs.declared.sad.Df.TheVariants as dfs
+use Rattle.ikeless_tree.specs.declared.sad.SadEntry.{SadEntry}
 use Rattle.ikeless_tree.specs.declared.entry.Direction.TheVariants.{Out}
 use Rattle.ikeless_tree.specs.declared.entry.Range.{Range}
 use Rattle.ikeless_tree.specs.declared.entry.Selector.{Selector}

@@ -1,7 +1,7 @@
 -- What the lifetimes of halves end and tell (RFC 4301 section 4.4.2.1): halves that are gone come first, then the notices, each in
 -- the order of installation.
 use Rattle.std.specs.Prelude.{ℕ, List, [], ◌∷◌, ◌++◌, if◌then◌else◌}
-use Rattle.ikeless_tree.specs.declared.association.SadEntry.{SadEntry}
+use Rattle.ikeless_tree.specs.declared.sad.SadEntry.{SadEntry}
 use Rattle.ikeless_tree.specs.declared.order.Notice.{Notice}
 use Rattle.ikeless_tree.specs.declared.reply.GoneWhy.TheVariants as gone
 use Rattle.life_count.specs.declared.event.LifeEvent.{LifeEvent}

@@ -24,7 +24,7 @@ ghost use Rattle.hist_gateway.specs.Arrive.{use_acts};
 ghost use Rattle.hist_gateway.specs.Datagram.{datagram};
 ghost use Rattle.hist_halves.specs.Sealed.{by_spi, esp_of, number_of, next_header};
 ghost use Rattle.hist_acts.specs.declared.act.Act.TheVariants as acts;
-ghost use Rattle.ikeless_tree.specs.declared.association.SadEntry.{SadEntry};
+ghost use Rattle.ikeless_tree.specs.declared.sad.SadEntry.{SadEntry};
 ghost use Rattle.ip_packet.specs.View.{Packet};
 ghost use Rattle.ip_packet.specs.Outer.{AreOneFamily};
 ghost use Rattle.esp_frame.specs.Esp.{esp, keying};

@@ -4,7 +4,7 @@ use Rattle.ip_packet.specs.declared.packet.NotPacket.{NotPacket}
 use Rattle.ip_packet.specs.Field.{version}
 use Rattle.ip_packet.specs.View.{Packet, view_of}
 pub use Rattle.ikeless_tree.specs.Half.{is_inbound}
-use Rattle.ikeless_tree.specs.declared.association.SadEntry.{SadEntry}
+use Rattle.ikeless_tree.specs.declared.sad.SadEntry.{SadEntry}
 use Rattle.ikeless_tree.specs.declared.reply.DropWhy.{DropWhy}
 use Rattle.ikeless_tree.specs.declared.reply.DropWhy.TheVariants as why
 use Rattle.esp_frame.specs.Esp.{seq_of}

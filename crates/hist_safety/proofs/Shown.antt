@@ -10,9 +10,9 @@ use Rattle.ip_packet.specs.Outer.{outer_header, outer_view}
 use Rattle.ip_packet.specs.View.{Packet, by_upper, packet_4, packet_6, view_of}
 use Rattle.ip_packet.proofs.Headers.{upper_of-end}
 use Rattle.ip_packet.proofs.OuterViews.{sealed}
-use Rattle.ikeless_tree.specs.declared.association.SadEntry.{SadEntry}
-use Rattle.ikeless_tree.specs.declared.association.Limits.{Limits}
-use Rattle.ikeless_tree.specs.declared.association.Df.TheVariants.{Copy}
+use Rattle.ikeless_tree.specs.declared.sad.SadEntry.{SadEntry}
+use Rattle.ikeless_tree.specs.declared.sad.Limits.{Limits}
+use Rattle.ikeless_tree.specs.declared.sad.Df.TheVariants.{Copy}
 use Rattle.ikeless_tree.specs.declared.command.Peer.{Peer}
 use Rattle.ikeless_tree.specs.declared.entry.Action.TheVariants.{Bypass, Protect}
 use Rattle.ikeless_tree.specs.declared.entry.Direction.TheVariants.{In, Out}

@@ -3,7 +3,7 @@
 -- test the name in the act stands first and the name asked for second.
 use Rattle.std.specs.Prelude.{ℕ, ◌+◌, ◌-◌, nat_lt, ◌&&◌, ◌||◌, Bool, false, List, [], ◌∷◌, ◌++◌, codes, length, take, Option, Some, None, if◌then◌else◌}
 use Rattle.std.specs.Str.{bytes_eq}
-use Rattle.ikeless_tree.specs.declared.association.SadEntry.{SadEntry}
+use Rattle.ikeless_tree.specs.declared.sad.SadEntry.{SadEntry}
 use Rattle.ikeless_tree.specs.declared.entry.Selector.{Selector}
 use Rattle.ikeless_tree.specs.declared.order.Order.{Order}
 use Rattle.ikeless_tree.specs.declared.order.Order.TheVariants as asks

@@ -4,9 +4,9 @@ use Rattle.std.proofs.Common.{ℕ, ◌+◌, true, List, [], ◌∷◌, Some, Non
 use Rattle.ikl_base.specs.declared.address.Addr.TheVariants.{V4, V6}
 use Rattle.ikl_base.specs.declared.address.Prefix.{Prefix}
 use Rattle.ip_packet.specs.View.{Packet}
-use Rattle.ikeless_tree.specs.declared.association.Df.TheVariants as dfs
-use Rattle.ikeless_tree.specs.declared.association.Limits.{Limits}
-use Rattle.ikeless_tree.specs.declared.association.SadEntry.{SadEntry}
+use Rattle.ikeless_tree.specs.declared.sad.Df.TheVariants as dfs
+use Rattle.ikeless_tree.specs.declared.sad.Limits.{Limits}
+use Rattle.ikeless_tree.specs.declared.sad.SadEntry.{SadEntry}
 use Rattle.ikeless_tree.specs.declared.command.Peer.{Peer}
 use Rattle.ikeless_tree.specs.declared.command.TunnelSpec.{TunnelSpec}
 use Rattle.ikeless_tree.specs.declared.entry.Action.TheVariants as actions

@@ -1,6 +1,6 @@
 -- No put that was ordered is refused. A past has its newest act first.
 use Rattle.std.specs.Prelude.{◌≡◌, ℕ, List, [], ◌∷◌, Some}
-use Rattle.ikeless_tree.specs.declared.association.SadEntry.{SadEntry}
+use Rattle.ikeless_tree.specs.declared.sad.SadEntry.{SadEntry}
 use Rattle.ikeless_tree.specs.declared.order.Answer.{Answer}
 use Rattle.ikeless_tree.specs.declared.order.Order.TheVariants as asks
 use Rattle.hist_acts.specs.declared.act.Act.{Act}

@@ -15,8 +15,8 @@ use Rattle.ikeless_tree.specs.declared.entry.Action.{Action}
 use Rattle.ikeless_tree.specs.declared.entry.Action.TheVariants as actions
 use Rattle.ikeless_tree.specs.declared.entry.Direction.{Direction}
 use Rattle.ikeless_tree.specs.declared.entry.Direction.TheVariants as directions
-use Rattle.ikeless_tree.specs.declared.association.Df.{Df}
-use Rattle.ikeless_tree.specs.declared.association.Df.TheVariants as bits
+use Rattle.ikeless_tree.specs.declared.sad.Df.{Df}
+use Rattle.ikeless_tree.specs.declared.sad.Df.TheVariants as bits
 use Rattle.ikeless_tree.specs.declared.order.Lane.{Lane}
 use Rattle.ikeless_tree.specs.declared.order.Lane.TheVariants as lanes
 use Rattle.ikeless_tree.specs.Words.{all_tags, tag_text, tag_of, all_refusals, refusal_text, refusal_of, all_apps, app_text, app_of, all_drops, drop_text, drop_of, all_ends, gone_text, gone_of, all_actions, action_text, action_of, all_directions, direction_text, direction_of, all_dfs, df_text, df_of, all_lanes, lane_text, lane_of, direction_word, direction_of_word, mode_text, mode_of, softness_text, softness_of}

@@ -1,5 +1,5 @@
-use crate::association::Limits;
 use crate::entry::Entries;
+use crate::sad::Limits;
 use ikl_base::{Addr, Duplicate, ListOf, Name, NoMemory, Octets, Prefix};
 
 /// A gateway, by its name and the address of its tunnels' ends.

@@ -1,6 +1,6 @@
-use crate::association::{Limits, SadEntry};
 use crate::entry::{Entries, Selector};
 use crate::reply::Tag;
+use crate::sad::{Limits, SadEntry};
 use ikl_base::{Duplicate, ListOf, Name, NoMemory};
 
 /// Names, in order.

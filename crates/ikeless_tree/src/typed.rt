@@ -3,10 +3,10 @@
 ghost use Rattle.std.specs.Prelude.{◌<◌, ◌^◌, All};
 ghost use Rattle.ikeless_tree.specs.Typed.{AreOctets, IsTypedRange, IsTypedProtocol, IsTypedSelector, IsTypedPolicy, AreTypedPolicies, IsTypedLimits, IsTypedHalf, IsTypedState, IsTypedRow, AreTypedRows, IsTypedTree, IsTypedTunnel, IsTypedCommand, IsTypedOrder, IsTypedAnswer, IsTypedNotice};
 
-use crate::association::{Limits, Rows, SaState, SadEntry, SadRow, Tree};
 use crate::command::{Command, TunnelSpec};
 use crate::entry::{Entries, Ports, Range, Selector, SpdEntry};
 use crate::order::{Answer, Notice, Order};
+use crate::sad::{Limits, Rows, SaState, SadEntry, SadRow, Tree};
 
 fn octets_fit(octets: &[u8])
     ensures { AreOctets octets.now }

@@ -7,15 +7,15 @@ ghost use Rattle.ikeless_tree.specs.declared.reply.DropWhy.{DropWhy};
 ghost use Rattle.ikeless_tree.specs.declared.reply.GoneWhy.{GoneWhy};
 ghost use Rattle.ikeless_tree.specs.declared.entry.Action.{Action};
 ghost use Rattle.ikeless_tree.specs.declared.entry.Direction.{Direction};
-ghost use Rattle.ikeless_tree.specs.declared.association.Df.{Df};
+ghost use Rattle.ikeless_tree.specs.declared.sad.Df.{Df};
 ghost use Rattle.ikeless_tree.specs.declared.order.Lane.{Lane};
 ghost use Rattle.ikeless_tree.specs.Words.{tag_text, refusal_text, app_text, drop_text, gone_text, action_text, direction_text, df_text, lane_text, tag_of, refusal_of, app_of, drop_of, gone_of, action_of, direction_of, df_of, lane_of, direction_word, direction_of_word, mode_text, mode_of, softness_text, softness_of};
 
-use crate::association::Df;
 use crate::command::Refusal;
 use crate::entry::{Action, Direction};
 use crate::order::Lane;
 use crate::reply::{App, DropWhy, GoneWhy, Tag};
+use crate::sad::Df;
 
 const TAGS: [Tag; 7] = [
     Tag::MalformedMessage,

@@ -1,7 +1,7 @@
 // What is accepted, said apart from how it is read.
 ghost use Rattle.std.specs.Prelude.{◌≡◌, ◌<◌, ◌∷◌, [], ℕ, List, All, Some, Ok, None, IsTrue, IsUtf8};
 ghost use Rattle.ikeless_tree.specs.declared.entry.SpdEntry.{SpdEntry};
-ghost use Rattle.ikeless_tree.specs.declared.association.SadEntry.{SadEntry};
+ghost use Rattle.ikeless_tree.specs.declared.sad.SadEntry.{SadEntry};
 ghost use Rattle.ikeless_tree.specs.declared.command.Command.{Command};
 ghost use Rattle.ikeless_tree.specs.Check.{spd_fault, sad_fault};
 ghost use Rattle.json_codec.specs.Operations.{is_operation, operation_of, HasWindow, command_fault};

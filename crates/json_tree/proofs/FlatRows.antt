@@ -1,10 +1,10 @@
 -- What is written for associations has no floats, and nests a few levels deep.
 use Rattle.std.proofs.Common.{◌==◌, ℕ, Bool, true, false, if◌then◌else◌, List, [], ◌∷◌, Option, Some, None, refl, arith, codes, decimal}
 use Rattle.serde_json.specs.Data.{string, boolean, object, Members, no_members, put}
-use Rattle.ikeless_tree.specs.declared.association.Limits.{Limits}
-use Rattle.ikeless_tree.specs.declared.association.SadEntry.{SadEntry}
-use Rattle.ikeless_tree.specs.declared.association.SadRow.{SadRow}
-use Rattle.ikeless_tree.specs.declared.association.SaState.{SaState}
+use Rattle.ikeless_tree.specs.declared.sad.Limits.{Limits}
+use Rattle.ikeless_tree.specs.declared.sad.SadEntry.{SadEntry}
+use Rattle.ikeless_tree.specs.declared.sad.SadRow.{SadRow}
+use Rattle.ikeless_tree.specs.declared.sad.SaState.{SaState}
 use Rattle.json_values.specs.Written.{count, wide, only}
 use Rattle.json_tree.specs.Associations.{with_count, with_wide, limits_members, has_no_limits, with_lifetime, with_soft, tunnel_data, encryption_data, with_key, with_sealing, with_fixed, with_ends, config_data, sad_entry_data, counts_data, state_data, with_state, row_data, row_items, one_association, all_rows}
 use Rattle.json_tree.proofs.Flat.{IsFlat, AreFlat, AreFlatItems, flat_put, flat_none, flat_object, flat_array, flat_string, flat_count, flat_item, flat_no_items, flat_only, flat_selector}

@@ -7,10 +7,10 @@ use Rattle.std.proofs.lemmas.Bool.{and_parts, and_from}
 use Rattle.serde_json.specs.Data.{Data, string, boolean, array, object, Items, no_items, item, Members, no_members, member, put}
 use Rattle.ikeless_tree.specs.declared.entry.Range.{Range}
 use Rattle.ikeless_tree.specs.declared.entry.Selector.{Selector}
-use Rattle.ikeless_tree.specs.declared.association.Limits.{Limits}
-use Rattle.ikeless_tree.specs.declared.association.SadEntry.{SadEntry}
-use Rattle.ikeless_tree.specs.declared.association.SadRow.{SadRow}
-use Rattle.ikeless_tree.specs.declared.association.SaState.{SaState}
+use Rattle.ikeless_tree.specs.declared.sad.Limits.{Limits}
+use Rattle.ikeless_tree.specs.declared.sad.SadEntry.{SadEntry}
+use Rattle.ikeless_tree.specs.declared.sad.SadRow.{SadRow}
+use Rattle.ikeless_tree.specs.declared.sad.SaState.{SaState}
 use Rattle.json_values.specs.Written.{count, wide, only, range_data, range_items, with_ports, proto_data, selector_data}
 use Rattle.json_tree.specs.Associations.{with_count, with_wide, limits_members, has_no_limits, with_lifetime, with_soft, tunnel_data, encryption_data, with_sealing, with_fixed, with_ends, config_data, counts_data, state_data, with_state, row_data, row_items, all_rows, is_free_of, are_free_of, have_not}
 

@@ -4,7 +4,7 @@ use Rattle.std.proofs.lemmas.Bool.{and_parts}
 use Rattle.std.specs.Str.{bytes_eq}
 use Rattle.serde_json.specs.Data.{depth}
 use Rattle.serde_json.specs.Written.{has_float}
-use Rattle.ikeless_tree.specs.declared.association.SadRow.{SadRow}
+use Rattle.ikeless_tree.specs.declared.sad.SadRow.{SadRow}
 use Rattle.json_tree.specs.Associations.{is_free_of}
 use Rattle.json_tree.specs.OneRow.{one_row}
 use Rattle.json_tree.proofs.FlatRows.{flat_all_rows}

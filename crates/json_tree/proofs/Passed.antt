@@ -7,8 +7,8 @@ use Rattle.std.proofs.lemmas.List.{take-append-drop}
 use Rattle.std.proofs.lemmas.Slice.Eq.{bytes_eq-Decides}
 use Rattle.std.specs.Str.{bytes_eq}
 use Rattle.std.proofs.Common.{codes, ◌==◌, ◌∙◌, take, drop, inl, inr}
-use Rattle.ikeless_tree.specs.declared.association.SadEntry.{SadEntry}
-use Rattle.ikeless_tree.specs.declared.association.SadRow.{SadRow}
+use Rattle.ikeless_tree.specs.declared.sad.SadEntry.{SadEntry}
+use Rattle.ikeless_tree.specs.declared.sad.SadRow.{SadRow}
 use Rattle.json_tree.specs.Associations.{is_row_named, ArePassed}
 use Rattle.ikeless_tree.specs.Check.{is_sad_name, is_serial, has_front, is_word_octet, sad_fault, is_path_octet, is_spd_name, entry_fault, entries_fault, first_of, spd_fault}
 use Rattle.ikeless_tree.specs.declared.reply.TreeFault.{TreeFault}

@@ -13,7 +13,7 @@ use Rattle.serde_json.specs.Data.{Data, null, boolean, number, string, array, ob
 use Rattle.serde_json.specs.Read.{read, of_json, of_items}
 use Rattle.serde_json.specs.Written.{outline, items_outline, members_outline, has_float, IsInOrder, comma_if, compact_text, items_text}
 use Rattle.serde_json.proofs.Texts.{tokens_from_order, print-outline}
-use Rattle.ikeless_tree.specs.declared.association.SadRow.{SadRow}
+use Rattle.ikeless_tree.specs.declared.sad.SadRow.{SadRow}
 use Rattle.json_values.specs.Written.{only}
 use Rattle.json_tree.specs.Associations.{row_data, row_items, all_rows}
 use Rattle.json_tree.specs.ReadAgain.{IsReadAgain, AreReadAgain}

@@ -3,9 +3,9 @@ use Rattle.std.specs.Prelude.{ℕ, ◌-◌, ◌^◌, List, codes, Option, Some, 
 use Rattle.serde_json.specs.Data.{Data}
 use Rattle.serde_json.specs.Find.{get, as_array}
 use Rattle.ikl_base.specs.declared.address.Addr.{Addr}
-use Rattle.ikeless_tree.specs.declared.association.Df.{Df}
-use Rattle.ikeless_tree.specs.declared.association.Limits.{Limits}
-use Rattle.ikeless_tree.specs.declared.association.SadEntry.{SadEntry}
+use Rattle.ikeless_tree.specs.declared.sad.Df.{Df}
+use Rattle.ikeless_tree.specs.declared.sad.Limits.{Limits}
+use Rattle.ikeless_tree.specs.declared.sad.SadEntry.{SadEntry}
 use Rattle.ikeless_tree.specs.Check.{is_sad_name, sad_fault}
 use Rattle.json_values.specs.declared.fault.Kind.TheVariants as kinds
 use Rattle.json_values.specs.declared.fault.Fault.{Fault}

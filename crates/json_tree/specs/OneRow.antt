@@ -1,7 +1,7 @@
 -- The body that shows one association with its state, and without its key.
 use Rattle.std.specs.Prelude.{codes}
 use Rattle.serde_json.specs.Data.{Data, array, item, no_items}
-use Rattle.ikeless_tree.specs.declared.association.SadRow.{SadRow}
+use Rattle.ikeless_tree.specs.declared.sad.SadRow.{SadRow}
 use Rattle.json_values.specs.Written.{only}
 use Rattle.json_tree.specs.Associations.{row_data}
 

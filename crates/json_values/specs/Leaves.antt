@@ -10,8 +10,8 @@ use Rattle.ikeless_tree.specs.declared.entry.Direction.{Direction}
 use Rattle.ikeless_tree.specs.declared.entry.Direction.TheVariants as directions
 use Rattle.ikeless_tree.specs.declared.entry.Action.{Action}
 use Rattle.ikeless_tree.specs.declared.entry.Action.TheVariants as actions
-use Rattle.ikeless_tree.specs.declared.association.Df.{Df}
-use Rattle.ikeless_tree.specs.declared.association.Df.TheVariants as bits
+use Rattle.ikeless_tree.specs.declared.sad.Df.{Df}
+use Rattle.ikeless_tree.specs.declared.sad.Df.TheVariants as bits
 use Rattle.ikeless_tree.specs.Check.{is_key_length}
 use Rattle.yang_values.specs.Numbers.{u64_of}
 use Rattle.yang_values.specs.Addresses.{address_of}

@@ -4,8 +4,8 @@ use Rattle.ikeless_tree.specs.declared.entry.Direction.{Direction}
 use Rattle.ikeless_tree.specs.declared.entry.Direction.TheVariants as directions
 use Rattle.ikeless_tree.specs.declared.entry.Action.{Action}
 use Rattle.ikeless_tree.specs.declared.entry.Action.TheVariants as actions
-use Rattle.ikeless_tree.specs.declared.association.Df.{Df}
-use Rattle.ikeless_tree.specs.declared.association.Df.TheVariants as bits
+use Rattle.ikeless_tree.specs.declared.sad.Df.{Df}
+use Rattle.ikeless_tree.specs.declared.sad.Df.TheVariants as bits
 
 abbrev pub direction_word : Direction → List ℕ
 direction_word directions.In = codes "inbound"

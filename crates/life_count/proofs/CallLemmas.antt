@@ -1,6 +1,6 @@
 -- The counts of a lifetime look back over all calls.
 use Rattle.std.proofs.Common.{◌≡◌, ℕ, ◌+◌, false, List, [], ◌∷◌, refl, sym, ap, ◌∙◌}
-use Rattle.ikeless_tree.specs.declared.association.Limits.{Limits}
+use Rattle.ikeless_tree.specs.declared.sad.Limits.{Limits}
 use Rattle.life_count.specs.Lifetime.{Lifetime, counted, counts_of, event_at, with_told, looked}
 use Rattle.life_count.specs.Calls.{Call, Use, Tick, Session, octets_of, uses_of, last_use, counts_after, was_told, told_by, next_event, life_after}
 use Rattle.life_count.proofs.CountLemmas.{life-with, counted-life}

@@ -1,6 +1,6 @@
 -- Counts that stop.
 use Rattle.std.proofs.Common.{◌≡◌, ℕ, ◌+◌, Bool, ap, ◌∙◌, arith}
-use Rattle.ikeless_tree.specs.declared.association.Limits.{Limits}
+use Rattle.ikeless_tree.specs.declared.sad.Limits.{Limits}
 use Rattle.life_count.specs.Lifetime.{Lifetime, cut, cut_32, cut_64, counted}
 
 -- counts stop once, whether they are cut at the end or on the way

@@ -1,6 +1,6 @@
 -- What befell an association since its installation, the newest first, and what the counts are that look back over it.
 use Rattle.std.specs.Prelude.{ℕ, ◌+◌, ◌||◌, Bool, false, List, [], ◌∷◌}
-use Rattle.ikeless_tree.specs.declared.association.Limits.{Limits}
+use Rattle.ikeless_tree.specs.declared.sad.Limits.{Limits}
 use Rattle.life_count.specs.declared.event.LifeEvent.{LifeEvent}
 use Rattle.life_count.specs.declared.event.LifeEvent.TheVariants as events
 use Rattle.life_count.specs.Lifetime.{Lifetime, begun, counted, counts_at, event_at, event_by, is_soft, looked, with_told}

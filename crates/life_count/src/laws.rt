@@ -1,6 +1,6 @@
 // Laws of the definitions, for proofs of the crates above: their calls do nothing.
 ghost use Rattle.std.specs.Prelude.{◌≡◌, ℕ, List};
-ghost use Rattle.ikeless_tree.specs.declared.association.Limits.{Limits};
+ghost use Rattle.ikeless_tree.specs.declared.sad.Limits.{Limits};
 ghost use Rattle.life_count.specs.Lifetime.{counts_of};
 ghost use Rattle.life_count.specs.Calls.{Call, life_after, counts_after, next_event, told_by};
 

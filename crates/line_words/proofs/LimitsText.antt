@@ -6,7 +6,7 @@ use Rattle.std.specs.Fmt.{decimal}
 use Rattle.std.proofs.lemmas.Bool.{and_parts, and_from}
 use Rattle.std.proofs.lemmas.List.Folds.{list_all-append}
 use Rattle.ikl_base.specs.declared.status.LineFault.{LineFault}
-use Rattle.ikeless_tree.specs.declared.association.Limits.{Limits}
+use Rattle.ikeless_tree.specs.declared.sad.Limits.{Limits}
 use Rattle.yang_values.specs.Numbers.{is_number}
 use Rattle.yang_values.specs.Prefixes.{is_value_octet, is_slash}
 use Rattle.yang_values.proofs.JoinedText.{lacks_mark}

@@ -6,9 +6,9 @@ use Rattle.ikl_base.specs.declared.address.Addr.{Addr}
 use Rattle.ikl_base.specs.declared.status.LineFault.{LineFault}
 use Rattle.ikl_base.specs.declared.status.LineFault.TheVariants as faults
 use Rattle.ikeless_tree.specs.Check.{sad_fault}
-use Rattle.ikeless_tree.specs.declared.association.Df.{Df}
-use Rattle.ikeless_tree.specs.declared.association.Df.TheVariants as dfs
-use Rattle.ikeless_tree.specs.declared.association.SadEntry.{SadEntry}
+use Rattle.ikeless_tree.specs.declared.sad.Df.{Df}
+use Rattle.ikeless_tree.specs.declared.sad.Df.TheVariants as dfs
+use Rattle.ikeless_tree.specs.declared.sad.SadEntry.{SadEntry}
 use Rattle.ikeless_tree.specs.declared.reply.TreeFault.{TreeFault}
 use Rattle.yang_values.specs.Addresses.{address_of}
 use Rattle.yang_values.specs.HexText.{digits_of}

@@ -2,7 +2,7 @@
 use Rattle.std.specs.Prelude.{ℕ, ◌-◌, ◌^◌, List, [], ◌∷◌, Result, Ok, Err}
 use Rattle.std.specs.List.{slice_split}
 use Rattle.ikl_base.specs.declared.status.LineFault.{LineFault}
-use Rattle.ikeless_tree.specs.declared.association.Limits.{Limits}
+use Rattle.ikeless_tree.specs.declared.sad.Limits.{Limits}
 use Rattle.yang_values.specs.Prefixes.{is_slash}
 use Rattle.line_words.specs.declared.lifetimes.Lifetimes.{Lifetimes}
 use Rattle.line_words.specs.Words.{◌>>=◌, number_in}

@@ -2,9 +2,9 @@
 use Rattle.std.specs.Prelude.{◌≡◌, ℕ, ◌^◌, ◌<◌, Bool, IsTrue, List, Option, Some, None, All}
 use Rattle.std.specs.List.{list_all}
 use Rattle.ikeless_tree.specs.Check.{spd_fault, sad_fault, is_gateway, is_sad_name}
-use Rattle.ikeless_tree.specs.declared.association.Limits.{Limits}
+use Rattle.ikeless_tree.specs.declared.sad.Limits.{Limits}
 use Rattle.ikeless_tree.specs.declared.command.Peer.{Peer}
-use Rattle.ikeless_tree.specs.declared.association.SadEntry.{SadEntry}
+use Rattle.ikeless_tree.specs.declared.sad.SadEntry.{SadEntry}
 use Rattle.ikeless_tree.specs.declared.entry.Range.{Range}
 use Rattle.ikeless_tree.specs.declared.entry.Selector.{Selector}
 use Rattle.ikeless_tree.specs.declared.entry.SpdEntry.{SpdEntry}

@@ -1,7 +1,7 @@
 -- A notification has no floats, and nests a few levels deep.
 use Rattle.std.proofs.Common.{ℕ, Bool, List, codes, refl, arith}
 use Rattle.serde_json.specs.Data.{Data, boolean}
-use Rattle.ikeless_tree.specs.declared.association.Limits.{Limits}
+use Rattle.ikeless_tree.specs.declared.sad.Limits.{Limits}
 use Rattle.ikeless_tree.specs.declared.entry.Selector.{Selector}
 use Rattle.ikeless_tree.specs.declared.order.Notice.{Notice}
 use Rattle.ikeless_tree.specs.declared.order.Notice.TheVariants as notices

@@ -4,7 +4,7 @@ use Rattle.std.specs.Prelude.{◌≡◌, ℕ, ◌-◌, ◌^◌, Bool, true, fals
 use Rattle.serde_json.specs.Data.{Data, boolean, string, object, no_members, put}
 use Rattle.serde_json.specs.Find.{get, as_bool}
 use Rattle.ikeless_tree.specs.declared.entry.Selector.{Selector}
-use Rattle.ikeless_tree.specs.declared.association.Limits.{Limits}
+use Rattle.ikeless_tree.specs.declared.sad.Limits.{Limits}
 use Rattle.ikeless_tree.specs.declared.order.Notice.{Notice}
 use Rattle.ikeless_tree.specs.declared.order.Notice.TheVariants as notices
 use Rattle.ikeless_tree.specs.Check.{is_spd_name, is_sad_name, has_empty_range, has_many_ranges}

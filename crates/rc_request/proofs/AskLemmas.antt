@@ -4,7 +4,7 @@ use Rattle.std.specs.Str.{bytes_eq}
 use Rattle.ikl_base.specs.Answers.{Gives}
 use Rattle.ikl_base.specs.declared.fault.OrMemory.{OrMemory}
 use Rattle.ikeless_tree.specs.declared.entry.SpdEntry.{SpdEntry}
-use Rattle.ikeless_tree.specs.declared.association.SadEntry.{SadEntry}
+use Rattle.ikeless_tree.specs.declared.sad.SadEntry.{SadEntry}
 use Rattle.ikeless_tree.specs.Check.{spd_fault, sad_fault}
 use Rattle.json_values.specs.declared.fault.CodecFault.{CodecFault}
 use Rattle.json_codec.specs.Bodies.{spd_of, spd_entry_of, sad_entry_of}

@@ -4,9 +4,9 @@ use Rattle.std.specs.Prelude.{IfSome}
 use Rattle.std.specs.List.{list_any}
 use Rattle.serde_json.specs.Data.{depth}
 use Rattle.serde_json.specs.Written.{compact_text}
-use Rattle.ikeless_tree.specs.declared.association.SadEntry.{SadEntry}
-use Rattle.ikeless_tree.specs.declared.association.SadRow.{SadRow}
-use Rattle.ikeless_tree.specs.declared.association.Tree.{Tree}
+use Rattle.ikeless_tree.specs.declared.sad.SadEntry.{SadEntry}
+use Rattle.ikeless_tree.specs.declared.sad.SadRow.{SadRow}
+use Rattle.ikeless_tree.specs.declared.sad.Tree.{Tree}
 use Rattle.ikeless_tree.specs.declared.command.Refusal.{Refusal}
 use Rattle.ikeless_tree.specs.declared.command.Refusal.TheVariants as refusals
 use Rattle.ikeless_tree.specs.declared.order.Order.{Order}

@@ -12,7 +12,7 @@ use Rattle.ikl_base.specs.declared.address.Addr.{Addr}
 use Rattle.serde_json.specs.Data.{depth}
 use Rattle.serde_json.specs.Read.{read}
 use Rattle.serde_json.specs.Written.{compact_text}
-use Rattle.ikeless_tree.specs.declared.association.SadEntry.{SadEntry}
+use Rattle.ikeless_tree.specs.declared.sad.SadEntry.{SadEntry}
 use Rattle.ikeless_tree.specs.declared.entry.SpdEntry.{SpdEntry}
 use Rattle.ikeless_tree.specs.Check.{is_sad_name, is_path_octet, spd_fault, sad_fault}
 use Rattle.ikeless_tree.specs.declared.order.Order.{Order}

@@ -17,12 +17,12 @@ use Rattle.ikeless_tree.specs.declared.entry.Direction.TheVariants as directions
 use Rattle.ikeless_tree.specs.declared.entry.Range.{Range}
 use Rattle.ikeless_tree.specs.declared.entry.Selector.{Selector}
 use Rattle.ikeless_tree.specs.declared.entry.SpdEntry.{SpdEntry}
-use Rattle.ikeless_tree.specs.declared.association.Df.{Df}
-use Rattle.ikeless_tree.specs.declared.association.Df.TheVariants as bits
-use Rattle.ikeless_tree.specs.declared.association.Limits.{Limits}
-use Rattle.ikeless_tree.specs.declared.association.SadEntry.{SadEntry}
-use Rattle.ikeless_tree.specs.declared.association.SadRow.{SadRow}
-use Rattle.ikeless_tree.specs.declared.association.SaState.{SaState}
+use Rattle.ikeless_tree.specs.declared.sad.Df.{Df}
+use Rattle.ikeless_tree.specs.declared.sad.Df.TheVariants as bits
+use Rattle.ikeless_tree.specs.declared.sad.Limits.{Limits}
+use Rattle.ikeless_tree.specs.declared.sad.SadEntry.{SadEntry}
+use Rattle.ikeless_tree.specs.declared.sad.SadRow.{SadRow}
+use Rattle.ikeless_tree.specs.declared.sad.SaState.{SaState}
 use Rattle.ikeless_tree.specs.declared.command.Refusal.{Refusal}
 use Rattle.ikeless_tree.specs.declared.command.Refusal.TheVariants as refusals
 use Rattle.ikeless_tree.specs.declared.reply.Tag.{Tag}

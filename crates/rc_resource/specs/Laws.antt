@@ -1,7 +1,7 @@
 -- What laws over orders and replies speak of. The numbers of a value are those of its types, as those of every value that a
 -- program has.
 use Rattle.std.specs.Prelude.{◌^◌, ◌<◌, List, All}
-use Rattle.ikeless_tree.specs.declared.association.SadRow.{SadRow}
+use Rattle.ikeless_tree.specs.declared.sad.SadRow.{SadRow}
 use Rattle.ikeless_tree.specs.declared.order.Answer.{Answer}
 use Rattle.ikeless_tree.specs.declared.order.Order.{Order}
 use Rattle.ikeless_tree.specs.declared.order.Order.TheVariants as orders

@@ -1,7 +1,7 @@
 // Laws for the crates above: each is the contract of a function with an empty body, or of one that calls other laws.
 ghost use Rattle.std.specs.Prelude.{◌≡◌, Ok, IfSome, IsUtf8};
 ghost use Rattle.ikl_base.specs.declared.address.Addr.{Addr};
-ghost use Rattle.ikeless_tree.specs.declared.association.Tree.{Tree};
+ghost use Rattle.ikeless_tree.specs.declared.sad.Tree.{Tree};
 ghost use Rattle.ikeless_tree.specs.declared.order.Order.{Order};
 ghost use Rattle.reply_table.specs.Order.{ask_of};
 ghost use Rattle.reply_table.specs.Reply.{reply};

@@ -2,10 +2,10 @@
 use Rattle.std.proofs.Common.{◌≡◌, ℕ, List, [], ◌∷◌, codes, replicate, None, refl, arith}
 use Rattle.ikl_base.specs.declared.address.Addr.TheVariants.{V4}
 use Rattle.ikl_base.specs.declared.address.Prefix.{Prefix}
-use Rattle.ikeless_tree.specs.declared.association.Df.TheVariants as dfs
-use Rattle.ikeless_tree.specs.declared.association.Limits.{Limits}
-use Rattle.ikeless_tree.specs.declared.association.SadEntry.{SadEntry}
-use Rattle.ikeless_tree.specs.declared.association.Tree.{Tree}
+use Rattle.ikeless_tree.specs.declared.sad.Df.TheVariants as dfs
+use Rattle.ikeless_tree.specs.declared.sad.Limits.{Limits}
+use Rattle.ikeless_tree.specs.declared.sad.SadEntry.{SadEntry}
+use Rattle.ikeless_tree.specs.declared.sad.Tree.{Tree}
 use Rattle.ikeless_tree.specs.declared.entry.Action.TheVariants as actions
 use Rattle.ikeless_tree.specs.declared.entry.Direction.TheVariants.{Out}
 use Rattle.ikeless_tree.specs.declared.entry.Selector.{Selector}

@@ -1,7 +1,7 @@
 // Laws for the crates above: each is the contract of a function with an empty body.
 ghost use Rattle.std.specs.Prelude.{◌≡◌, ◌≤◌, ◌⊎◌, List, ℕ};
-ghost use Rattle.ikeless_tree.specs.declared.association.Tree.{Tree};
-ghost use Rattle.ikeless_tree.specs.declared.association.SadEntry.{SadEntry};
+ghost use Rattle.ikeless_tree.specs.declared.sad.Tree.{Tree};
+ghost use Rattle.ikeless_tree.specs.declared.sad.SadEntry.{SadEntry};
 ghost use Rattle.ikeless_tree.specs.declared.entry.SpdEntry.{SpdEntry};
 ghost use Rattle.ikeless_tree.specs.declared.order.Order.TheVariants as orders;
 ghost use Rattle.reply_table.specs.declared.ask.Ask.{Ask};

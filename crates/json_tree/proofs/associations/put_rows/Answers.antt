@@ -1,6 +1,6 @@
 use Rattle.std.proofs.Common.{◌≡◌, ◌++◌, ◌∙◌, ap, sym, subst, true, string_bytes}
 use Rattle.serde_json.specs.Written.{comma_if, compact_text}
-use Rattle.ikeless_tree.specs.declared.association.SadRow.{SadRow}
+use Rattle.ikeless_tree.specs.declared.sad.SadRow.{SadRow}
 use Rattle.json_tree.specs.Associations.{row_data, is_row_named}
 use Rattle.json_values.proofs.Lists.{all_here}
 use Rattle.json_tree.proofs.RowTexts.{one_more_row, one_more_again}
