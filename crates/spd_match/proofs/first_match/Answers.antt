@@ -1,4 +1,4 @@
-use Rattle.std.proofs.Common.{◌≡◌, ◌<◌, ◌≤◌, ℕ, List, [], ◌∷◌, length, Bool, true, false, cond, nat_lt, Option, Some, None, option_and_then, position, find, slice_get, refl, sym, ◌∙◌, ap, zero, suc, arith}
+use Rattle.std.proofs.Common.{◌≡◌, ◌≤◌, ℕ, List, [], ◌∷◌, length, Bool, true, false, cond, nat_lt, Some, None, option_and_then, position, find, slice_get, refl, sym, ◌∙◌, ap, zero, suc, arith}
 use Rattle.std.specs.List.{position_or_len}
 use Rattle.std.proofs.lemmas.Grind.{common_steps}
 use Rattle.std.proofs.lemmas.List.Folds.{find_at}
