@@ -63,6 +63,21 @@ impl Life {
         }
     }
 
+    /// The same lifetime once more. It takes no memory.
+    pub fn copy(&self) -> Life
+        ensures { result ≡ self.now }
+    {
+        Life {
+            hard: self.hard,
+            soft: self.soft,
+            installed: self.installed,
+            used: self.used,
+            octets: self.octets,
+            packets: self.packets,
+            is_told: self.is_told,
+        }
+    }
+
     /// The counts at this clock: the age, the ESP octets and packets of all uses, and the time since the last one.
     pub fn current(&self, now: u32) -> Limits
         ensures { result ≡ counts_of now self.now }

@@ -8,7 +8,7 @@ use Rattle.ikeless_tree.specs.declared.sad.SadEntry.{SadEntry}
 use Rattle.ikeless_tree.specs.declared.entry.Direction.TheVariants.{Out}
 use Rattle.replay_win.specs.Marks.{Marks, marked, no_marks}
 use Rattle.spd_match.specs.Match.{holds_packet}
-use Rattle.life_count.specs.Lifetime.{Lifetime, begun, counted, with_told}
+use Rattle.life_count.specs.Lifetime.{Lifetime, begun, counted, looked, with_told}
 use Rattle.sad_store.specs.declared.half.Half.{Half}
 
 -- ---- one half
@@ -36,6 +36,19 @@ send now size x = with_life (counted size now x.life) (with_sent (x.sent + 1) x)
 -- the number is taken under this half, with these ESP octets at this clock
 abbrev pub take_number : ℕ → ℕ → ℕ → Half → Half
 take_number now size n x = with_life (counted size now x.life) (with_window (marked x.window n) x)
+
+abbrev pub number_next : Half → Half
+number_next x = with_sent (x.sent + 1) x
+
+abbrev pub mark_number : ℕ → Half → Half
+mark_number n x = with_window (marked x.window n) x
+
+-- one more use with these ESP octets at this clock, and a look; a look alone
+abbrev pub use_half : ℕ → ℕ → Half → Half
+use_half size now x = with_life (looked now (counted size now x.life)) x
+
+abbrev pub look_at : ℕ → Half → Half
+look_at now x = with_life (looked now x.life) x
 
 -- nothing that was told of this half stands
 abbrev pub hushed : Half → Half

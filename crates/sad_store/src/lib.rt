@@ -1,6 +1,12 @@
 //! The halves of associations at one gateway, in the order of their installation (RFC 4301 section 4.4.2).
 #![tactic(auto)]
 
+mod change;
+mod fault;
+mod find;
 mod half;
+mod store;
 
+pub use fault::InstallFault;
 pub use half::Half;
+pub use store::SadStore;

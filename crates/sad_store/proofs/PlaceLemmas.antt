@@ -1,0 +1,202 @@
+-- Where halves are found, and lists without one.
+use Rattle.std.proofs.Common.{◌≡◌, ℕ, zero, suc, ◌+◌, ◌≤◌, not, ◌&&◌, ◌||◌, Bool, true, false, List, [], ◌∷◌, ◌++◌, length, cond, nat_lt, Option, Some, None, option_and_then, position, find, slice_get, refl, sym, ap, ◌∙◌, if◌then◌else◌, arith}
+use Rattle.std.specs.List.{list_any, remove, position_or_len}
+use Rattle.std.specs.Str.{bytes_eq}
+use Rattle.std.proofs.lemmas.Grind.{common_steps}
+use Rattle.std.proofs.lemmas.List.Folds.{find_at}
+use Rattle.std.proofs.lemmas.Slice.Eq.{bytes_eq-Decides}
+use Rattle.ip_packet.specs.View.{Packet}
+use Rattle.ikeless_tree.specs.declared.association.SadEntry.{SadEntry}
+use Rattle.sad_store.specs.declared.half.Half.{Half}
+use Rattle.sad_store.specs.Halves.{fresh, has_half_named, is_half_named, halves_without, names_of, may_seal, newer_half, later_place, newest_half, newest_place}
+use Rattle.sad_store.specs.Kept.{are_names_apart, IsKept}
+
+-- ---- names
+
+name-refl : (x : List ℕ) → bytes_eq x x ≡ true
+name-refl x = (bytes_eq-Decides x x).1 refl
+
+name-same : (x y : List ℕ) → bytes_eq x y ≡ true → x ≡ y
+name-same x y e = (bytes_eq-Decides x y).0 e
+
+-- ---- the first place
+
+past : (xs : List Half) (i : ℕ) → length xs ≤ i → None ≡ slice_get xs i
+past [] zero e = refl
+past [] (suc i) e = refl
+past (x ∷ xs) zero e = absurd (omega arith)
+past (x ∷ xs) (suc i) e = past xs i (omega arith)
+
+at_place : (xs : List Half) (n : ℕ) (b : Bool) → nat_lt n (length xs) ≡ b → option_and_then (slice_get xs) (cond b (Some n) None) ≡ slice_get xs n
+at_place xs n true e = refl
+at_place xs n false e = past xs n (grind (arith, common_steps))
+
+-- the element at the first place is the first one
+pub found-there : (p : Half → Bool) (xs : List Half) → option_and_then (slice_get xs) (position p xs) ≡ find p xs
+found-there p xs = at_place xs (position_or_len p xs) (nat_lt (position_or_len p xs) (length xs)) refl ∙ sym (find_at p xs)
+
+any-at : (p : Half → Bool) (xs : List Half) → list_any p xs ≡ nat_lt (position_or_len p xs) (length xs)
+any-at p [] = refl
+any-at p (x ∷ xs) = let ih = any-at p xs in grind (arith, ih)
+
+none-by : (b : Bool) (n : ℕ) → cond b (Some n) None ≡ None → b ≡ false
+none-by true n e = cc
+none-by false n e = refl
+
+some-by : (b : Bool) (n i : ℕ) → cond b (Some n) None ≡ Some i → (b ≡ true) × (n ≡ i)
+some-by true n i e = (refl, cc)
+some-by false n i e = cc
+
+pub none-there : (p : Half → Bool) (xs : List Half) → position p xs ≡ None → list_any p xs ≡ false
+none-there p xs e = any-at p xs ∙ none-by (nat_lt (position_or_len p xs) (length xs)) (position_or_len p xs) e
+
+pub some-there : (p : Half → Bool) (xs : List Half) (i : ℕ) → position p xs ≡ Some i → (list_any p xs ≡ true) × (position_or_len p xs ≡ i)
+some-there p xs i e = let s = some-by (nat_lt (position_or_len p xs) (length xs)) (position_or_len p xs) i e in (any-at p xs ∙ s.0, s.1)
+
+-- ---- halves but one
+
+or-parts : (a b : Bool) → (a || b) ≡ false → (a ≡ false) × (b ≡ false)
+or-parts true b e = cc
+or-parts false b e = (refl, e)
+
+and-parts : (a b : Bool) → (a && b) ≡ true → (a ≡ true) × (b ≡ true)
+and-parts true b e = (refl, e)
+and-parts false b e = cc
+
+not-true : (b : Bool) → not b ≡ true → b ≡ false
+not-true true e = cc
+not-true false e = refl
+
+without-by : (name : List ℕ) (x : Half) (xs : List Half) (b : Bool) → bytes_eq x.entry.name name ≡ b → b ≡ false → halves_without name xs ≡ xs → halves_without name (x ∷ xs) ≡ x ∷ xs
+without-by name x xs true own away ih = cc
+without-by name x xs false own away ih = rw own (ap (λ ys. x ∷ ys) ih)
+
+pub without-absent : (name : List ℕ) (xs : List Half) → has_half_named name xs ≡ false → halves_without name xs ≡ xs
+without-absent name [] e = refl
+without-absent name (x ∷ xs) e =
+    let parts = or-parts (bytes_eq x.entry.name name) (has_half_named name xs) e in
+    without-by name x xs (bytes_eq x.entry.name name) refl parts.0 (without-absent name xs parts.1)
+
+-- the names of halves stand in a list of names as halves of these names do
+names-any : (name : List ℕ) (xs : List Half) → list_any (λ y. bytes_eq y name) (names_of xs) ≡ has_half_named name xs
+names-any name [] = refl
+names-any name (x ∷ xs) = ap (λ b. bytes_eq x.entry.name name || b) (names-any name xs)
+
+remove-next : (x : Half) (xs : List Half) (k : ℕ) → remove (x ∷ xs) (1 + k) ≡ x ∷ remove xs k
+remove-next x xs k = let next : 1 + k ≡ suc k = omega arith in rw next refl
+
+removed-by : (name : List ℕ) (x : Half) (xs : List Half) (b : Bool) → bytes_eq x.entry.name name ≡ b → list_any (λ y. bytes_eq y x.entry.name) (names_of xs) ≡ false →
+    remove xs (position_or_len (is_half_named name) xs) ≡ halves_without name xs → remove (x ∷ xs) (position_or_len (is_half_named name) (x ∷ xs)) ≡ halves_without name (x ∷ xs)
+removed-by name x xs true own away ih =
+    let same : x.entry.name ≡ name = name-same x.entry.name name own in
+    let gone : has_half_named name xs ≡ false = ap (λ n. has_half_named n xs) (sym same) ∙ (sym (names-any x.entry.name xs) ∙ away) in
+    rw own (sym (without-absent name xs gone))
+removed-by name x xs false own away ih = rw own (remove-next x xs (position_or_len (is_half_named name) xs) ∙ ap (λ ys. x ∷ ys) ih)
+
+removed-first : (name : List ℕ) (xs : List Half) → are_names_apart (names_of xs) ≡ true → remove xs (position_or_len (is_half_named name) xs) ≡ halves_without name xs
+removed-first name [] e = refl
+removed-first name (x ∷ xs) e =
+    let parts = and-parts (not (list_any (λ y. bytes_eq y x.entry.name) (names_of xs))) (are_names_apart (names_of xs)) e in
+    removed-by name x xs (bytes_eq x.entry.name name) refl (not-true (list_any (λ y. bytes_eq y x.entry.name) (names_of xs)) parts.0) (removed-first name xs parts.1)
+
+pub removed-there : (name : List ℕ) (xs : List Half) (i : ℕ) → IsKept xs → position (is_half_named name) xs ≡ Some i → remove xs i ≡ halves_without name xs
+removed-there name xs i kept e = ap (remove xs) (sym (some-there (is_half_named name) xs i e).1) ∙ removed-first name xs kept.apart
+
+-- ---- what is kept
+
+any-end : (p : List ℕ → Bool) (ns : List (List ℕ)) (n : List ℕ) → list_any p (ns ++ n ∷ []) ≡ (p n || list_any p ns)
+any-end p [] n = refl
+any-end p (m ∷ ns) n = let ih = any-end p ns n in grind (arith, ih)
+
+name-back : (x y : List ℕ) (b c : Bool) → bytes_eq x y ≡ b → bytes_eq y x ≡ c → b ≡ c
+name-back x y true c p q = let e : y ≡ x = sym (name-same x y p) in sym ((bytes_eq-Decides y x).1 e) ∙ q
+name-back x y false true p q = let e : x ≡ y = sym (name-same y x q) in sym p ∙ (bytes_eq-Decides x y).1 e
+name-back x y false false p q = refl
+
+name-sym : (x y : List ℕ) → bytes_eq x y ≡ bytes_eq y x
+name-sym x y = name-back x y (bytes_eq x y) (bytes_eq y x) refl refl
+
+apart-end : (n : List ℕ) (ns : List (List ℕ)) → list_any (λ y. bytes_eq y n) ns ≡ false → are_names_apart ns ≡ true → are_names_apart (ns ++ n ∷ []) ≡ true
+apart-end n [] new e = refl
+apart-end n (m ∷ ns) new e =
+    let fresh = or-parts (bytes_eq m n) (list_any (λ y. bytes_eq y n) ns) new in
+    let parts = and-parts (not (list_any (λ y. bytes_eq y m) ns)) (are_names_apart ns) e in
+    let end = any-end (λ y. bytes_eq y m) ns n in
+    let ih = apart-end n ns fresh.1 parts.1 in
+    let turned = name-sym n m in
+    let own = fresh.0 in
+    let away = not-true (list_any (λ y. bytes_eq y m) ns) parts.0 in
+    let gone : list_any (λ y. bytes_eq y m) (ns ++ n ∷ []) ≡ false = end ∙ rw (turned, own, away) refl in
+    rw gone ih
+
+names-end : (xs : List Half) (x : Half) → names_of (xs ++ x ∷ []) ≡ names_of xs ++ x.entry.name ∷ []
+names-end [] x = refl
+names-end (y ∷ xs) x = ap (λ ns. y.entry.name ∷ ns) (names-end xs x)
+
+pub kept-end : (xs : List Half) (now : ℕ) (e : SadEntry) → IsKept xs → has_half_named e.name xs ≡ false → IsKept (xs ++ fresh now e ∷ [])
+kept-end xs now e kept new = record {
+  apart = ap are_names_apart (names-end xs (fresh now e)) ∙ apart-end e.name (names_of xs) (names-any e.name xs ∙ new) kept.apart;
+}
+
+pub kept-same : (xs ys : List Half) → names_of ys ≡ names_of xs → IsKept xs → IsKept ys
+kept-same xs ys same kept = record { apart = ap are_names_apart same ∙ kept.apart }
+
+any-without : (n name : List ℕ) (xs : List Half) → has_half_named n xs ≡ false → has_half_named n (halves_without name xs) ≡ false
+any-without n name [] e = refl
+any-without n name (x ∷ xs) e =
+    let parts = or-parts (bytes_eq x.entry.name n) (has_half_named n xs) e in any-by n name x xs (bytes_eq x.entry.name name) refl parts.0 (any-without n name xs parts.1)
+  where
+    any-by : (n name : List ℕ) (x : Half) (xs : List Half) (b : Bool) → bytes_eq x.entry.name name ≡ b → bytes_eq x.entry.name n ≡ false →
+        has_half_named n (halves_without name xs) ≡ false → has_half_named n (halves_without name (x ∷ xs)) ≡ false
+    any-by n name x xs true own away ih = rw own ih
+    any-by n name x xs false own away ih = rw (own, away) ih
+
+apart-without : (name : List ℕ) (xs : List Half) → are_names_apart (names_of xs) ≡ true → are_names_apart (names_of (halves_without name xs)) ≡ true
+apart-without name [] e = refl
+apart-without name (x ∷ xs) e =
+    let parts = and-parts (not (list_any (λ y. bytes_eq y x.entry.name) (names_of xs))) (are_names_apart (names_of xs)) e in
+    let away = not-true (list_any (λ y. bytes_eq y x.entry.name) (names_of xs)) parts.0 in
+    let gone = any-without x.entry.name name xs (sym (names-any x.entry.name xs) ∙ away) in
+    apart-by (bytes_eq x.entry.name name) refl (names-any x.entry.name (halves_without name xs) ∙ gone) (apart-without name xs parts.1)
+  where
+    apart-by : (b : Bool) → bytes_eq x.entry.name name ≡ b → list_any (λ y. bytes_eq y x.entry.name) (names_of (halves_without name xs)) ≡ false →
+        are_names_apart (names_of (halves_without name xs)) ≡ true → are_names_apart (names_of (halves_without name (x ∷ xs))) ≡ true
+    apart-by true own away ih = rw own ih
+    apart-by false own away ih = rw (own, away) ih
+
+pub kept-without : (name : List ℕ) (xs : List Half) → IsKept xs → IsKept (halves_without name xs)
+kept-without name xs kept = record { apart = apart-without name xs kept.apart }
+
+-- ---- the newest half
+
+-- a place and what stands there
+abbrev Agree : List Half → Option ℕ → Option Half → Type 0
+Agree xs None None = Unit {0}
+Agree xs None (Some y) = ⊥
+Agree xs (Some i) None = ⊥
+Agree xs (Some i) (Some y) = slice_get xs i ≡ Some y
+
+agree-seal : (x : Half) (xs : List Half) (b : Bool) → Agree (x ∷ xs) (if b then Some 0 else None) (if b then Some x else None)
+agree-seal x xs true = refl
+agree-seal x xs false = tt
+
+agree-step : (r : ℕ) (v : Packet) (x : Half) (xs : List Half) (place : Option ℕ) (half : Option Half) → Agree xs place half →
+    Agree (x ∷ xs) (later_place r v x place) (newer_half r v x half)
+agree-step r v x xs None None a = agree-seal x xs (may_seal r v x.entry)
+agree-step r v x xs None (Some y) a = absurd a
+agree-step r v x xs (Some i) None a = absurd a
+agree-step r v x xs (Some i) (Some y) a = let next : i + 1 ≡ suc i = omega arith in ap (slice_get (x ∷ xs)) next ∙ a
+
+agree : (r : ℕ) (v : Packet) (xs : List Half) → Agree xs (newest_place r v xs) (newest_half r v xs)
+agree r v [] = tt
+agree r v (x ∷ xs) = agree-step r v x xs (newest_place r v xs) (newest_half r v xs) (agree r v xs)
+
+agree-there : (xs : List Half) (place : Option ℕ) (half : Option Half) → Agree xs place half → option_and_then (slice_get xs) place ≡ half
+agree-there xs None None a = refl
+agree-there xs None (Some y) a = absurd a
+agree-there xs (Some i) None a = absurd a
+agree-there xs (Some i) (Some y) a = a
+
+-- the half at the newest place is the newest one
+pub newest-there : (r : ℕ) (v : Packet) (xs : List Half) → option_and_then (slice_get xs) (newest_place r v xs) ≡ newest_half r v xs
+newest-there r v xs = agree-there xs (newest_place r v xs) (newest_half r v xs) (agree r v xs)
