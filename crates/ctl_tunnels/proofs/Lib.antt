@@ -1,0 +1,3 @@
+pub mod HalfNames
+pub mod Keys
+pub mod Marks
