@@ -85,8 +85,8 @@ pub fn puts_once()
     ensures keyed { (n : ℕ) (h : List ControllerAct) → IsControllerPast n h → KeysRight h }
 {}
 
-/// The inbound puts of a direction are no more than its causes while its tunnel is not ended, and its outbound puts no more than its inbound ones: at
-/// most two puts for each cause.
+/// The inbound puts of a direction are no more than its causes while its tunnel is not ended, and its outbound puts no more than
+/// its inbound ones: at most two puts for each cause.
 pub fn puts_for_causes()
     ensures { (n : ℕ) (h : List ControllerAct) → IsControllerPast n h → (d : Way) → Has d (directions h) → (in_puts d h ≤ cause_count d h) × (out_puts d h ≤ in_puts d h) }
 {}

@@ -48,7 +48,7 @@ safe gs [] l = tt
 safe gs (a ∷ h) l = let s = act-safe gs a h l.1 l.0 in (s.0, s.1, s.2, s.3, arrival-safe gs a h l.1 l.0, safe gs h l.1)
 
 -- what must be given is genuine, so a whole history has its answer
-last-genuine : (gs : List Peer) (g o t p : List ℕ) (half : SadEntry) (h : List Act) → IsLawful gs h → MustGive gs g o t p half h → IsGenuine gs g o h
+pub last-genuine : (gs : List Peer) (g o t p : List ℕ) (half : SadEntry) (h : List Act) → IsLawful gs h → MustGive gs g o t p half h → IsGenuine gs g o h
 last-genuine gs g o t p half h l m = λ e text comes opens.
     let d = delivered gs g o t p half h l m in
     let s = same-found gs g o d.half e h d.comes comes in

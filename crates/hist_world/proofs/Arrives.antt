@@ -80,7 +80,7 @@ record ToUs (gs : List Peer) (g o : List ℕ) (v : Packet) : Type 0 where
   pub proto : v.proto ≡ 50
   pub own : address_of gs g ≡ Some v.dst
 
-esp-is : (o : List ℕ) (v : Packet) → view_of o ≡ Ok v → esp_of o ≡ v.payload
+pub esp-is : (o : List ℕ) (v : Packet) → view_of o ≡ Ok v → esp_of o ≡ v.payload
 esp-is o v e = ap payload_of e
 
 comes-to : (gs : List Peer) (g o : List ℕ) (h : List Act) (v : Packet) (e : SadEntry) → ToUs gs g o v → by_spi (spi_of v.payload) (live g h) ≡ Some e

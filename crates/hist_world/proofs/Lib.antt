@@ -34,3 +34,4 @@ mod ShownRestart
 mod ShownAbandoned
 mod ShownClock
 mod ShownCommands
+pub mod Ends

@@ -10,7 +10,7 @@ ghost use Rattle.hist_controller.specs.Halves.{PlainAnswers};
 ghost use Rattle.hist_controller.specs.Past.{left};
 ghost use Rattle.hist_controller.specs.Told.{peer_name};
 ghost use Rattle.hist_safety.specs.Law.{IsLawful};
-ghost use Rattle.hist_safety.specs.Safe.{Safe};
+ghost use Rattle.hist_safety.specs.Safe.{IsLastSafe, Safe};
 ghost use Rattle.hist_world.specs.Block.{Past, Shows, history, nothing, past_after, is_forged_event};
 ghost use Rattle.hist_world.specs.Events.{AreEventsOf, IsEventOf, IsKnown};
 ghost use Rattle.hist_world.specs.Headers.{IsHeader};
@@ -27,10 +27,13 @@ pub fn is_every_history_lawful()
 
 /// Whatever events come: no packet leaves in clear but where the first policy that holds it says bypass, no AES key and IV
 /// seal twice, each packet that is given was let in at its peer and is given once, what is sent has its inbound half live
-/// unless that met a hard limit or a restart, and what arrives unchanged and fresh before its half is ordered removed is given.
+/// unless that met a hard limit or a restart, and what arrives unchanged and fresh before its half is ordered removed is given;
+/// and no history ends with an arrival that must be given.
 pub fn is_every_history_safe()
-    ensures { (shows : Shows) (header : Header) (events : List Event) → IsHeader header → AreEventsOf header events
+    ensures parts { (shows : Shows) (header : Header) (events : List Event) → IsHeader header → AreEventsOf header events
         → Safe header.gateways (after [] (history shows header nothing events)) }
+    ensures end { (shows : Shows) (header : Header) (events : List Event) → IsHeader header → AreEventsOf header events
+        → IsLastSafe header.gateways (after [] (history shows header nothing events)) }
 {}
 
 /// Between the events of a history without a forged arrival what happened is lawful and has no open question, the
