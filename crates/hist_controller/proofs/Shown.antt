@@ -1,8 +1,9 @@
 -- The definitions on worked cases, by computing: they are not empty.
-use Rattle.std.proofs.Common.{◌≡◌, ℕ, Bool, true, false, List, [], ◌∷◌, ◌++◌, Some, None, codes, take, refl, lit≤}
+use Rattle.std.proofs.Common.{◌≡◌, ℕ, Bool, true, false, List, [], ◌∷◌, ◌++◌, Some, None, codes, length, take, refl, lit≤}
 use Rattle.std.specs.Fmt.{digits}
 use Rattle.ikl_base.specs.declared.address.Addr.TheVariants.{V4, V6}
 use Rattle.ikl_base.specs.declared.address.Prefix.{Prefix}
+use Rattle.ikeless_tree.specs.Check.{is_key_length}
 use Rattle.ikeless_tree.specs.declared.sad.Df.TheVariants as df
 use Rattle.ikeless_tree.specs.declared.sad.Limits.{Limits}
 use Rattle.ikeless_tree.specs.declared.sad.SadEntry.{SadEntry}
@@ -21,7 +22,8 @@ use Rattle.ikeless_tree.specs.declared.reply.Tag.TheVariants as tags
 use Rattle.hist_acts.specs.declared.act.Act.TheVariants as acts
 use Rattle.hist_controller.specs.Acts.{Way, Association, in_name, out_name, Read, Policy, PutIn, PutOut, RemoveIn, RemoveOut, PlacedTunnel, SetPolicy, Tunnel, End, Rekey, Keys, ControllerAct, Opened, Cut, Answered, Heard, Ordered, Accepted, Refused, ControllerEvent, Told, Opens, Cuts, Answers, Notices}
 use Rattle.hist_acts.specs.Past.{after}
-use Rattle.hist_controller.specs.Law.{history}
+use Rattle.hist_controller.specs.Law.{has_tunnel, history, is_seen, refusal, tunnels}
+use Rattle.hist_controller.specs.Past.{directions, keys}
 use Rattle.hist_controller.specs.Told.{between, all_told}
 
 -- 2001:db8:1::/48 behind a, 2001:db8:2::/48 behind b
@@ -435,6 +437,185 @@ shown-ended-early : history peers [] ended_early ≡
     ∷ []
 unfolding ended_early in_name out_name k1 k2 k3 k4 digits
 shown-ended-early = refl
+
+-- a key of 36 octets, the first 16 of which are those of another key
+k5 : List ℕ
+unfolding k1 k2
+k5 = take 16 k1 ++ k2
+
+abbrev second : TunnelSpec
+second = record { reqid = 20; now = false; first = codes "a"; second = codes "b"; first_prefix = behind_a; second_prefix = behind_b; window = 64; hard = limits 0; soft = limits 0 }
+
+abbrev second_ab : Way
+second_ab = record { id = 2; tunnel = second; sender = 0; receiver = 1; near = behind_a; far = behind_b }
+
+abbrev second_ba : Way
+second_ba = record { id = 3; tunnel = second; sender = 1; receiver = 0; near = behind_b; far = behind_a }
+
+abbrev one_way : TunnelSpec
+one_way = spec false (codes "a") (codes "b")
+
+abbrev one_ab : Way
+one_ab = record { id = 0; tunnel = one_way; sender = 0; receiver = 1; near = behind_a; far = behind_b }
+
+abbrev one_ba : Way
+one_ba = record { id = 1; tunnel = one_way; sender = 1; receiver = 0; near = behind_b; far = behind_a }
+
+-- a removal that is lost by a cut is ordered again in the next session, of the outbound half and of the inbound one
+lost_removals : List ControllerEvent
+lost_removals =
+    Told (commands.Keys k1) ∷ Told (commands.Tunnel t) ∷ Opens 0 ∷ Opens 1 ∷ Answers 0 (reading []) ∷ Answers 1 (reading [])
+    ∷ Answers 1 (plain 201) ∷ Answers 0 (plain 201) ∷ Told (commands.End 10) ∷ Cuts 0 ∷ Opens 0
+    ∷ Answers 0 (reading (codes "out/1" ∷ [])) ∷ Answers 0 (plain 204) ∷ Cuts 1 ∷ Opens 1 ∷ Answers 1 (reading (codes "in/1" ∷ []))
+    ∷ Answers 1 (plain 204) ∷ []
+
+shown-lost-removals : history peers [] lost_removals ≡
+    Accepted (Keys k1) ∷ Accepted (Tunnel (at t)) ∷ Opened 0 1 ∷ Ordered 0 1 1 Read ∷ Opened 1 1 ∷ Ordered 1 1 1 Read
+    ∷ Answered 0 1 1 (reading []) ∷ Answered 1 1 1 (reading []) ∷ Ordered 1 1 2 (PutIn (half 1 k1 ab)) ∷ Answered 1 1 2 (plain 201)
+    ∷ Ordered 0 1 2 (PutOut (half 1 k1 ab)) ∷ Answered 0 1 2 (plain 201) ∷ Accepted (End 10) ∷ Ordered 0 1 3 (RemoveOut 1) ∷ Cut 0 1
+    ∷ Opened 0 2 ∷ Ordered 0 2 1 Read ∷ Answered 0 2 1 (reading (codes "out/1" ∷ [])) ∷ Ordered 0 2 2 (RemoveOut 1)
+    ∷ Answered 0 2 2 (plain 204) ∷ Ordered 1 1 3 (RemoveIn 1) ∷ Cut 1 1 ∷ Opened 1 2 ∷ Ordered 1 2 1 Read
+    ∷ Answered 1 2 1 (reading (codes "in/1" ∷ [])) ∷ Ordered 1 2 2 (RemoveIn 1) ∷ Answered 1 2 2 (plain 204) ∷ []
+unfolding lost_removals in_name out_name k1 k2 k3 k4 k5 digits
+shown-lost-removals = refl
+
+-- two tunnels between the same gateways: a rekey and an end of one of them touch no association of the other
+two_tunnels : List ControllerEvent
+two_tunnels =
+    Told (commands.Keys k1) ∷ Told (commands.Keys k2) ∷ Told (commands.Keys k3) ∷ Told (commands.Keys k4) ∷ Told (commands.Tunnel t)
+    ∷ Told (commands.Tunnel second) ∷ Opens 0 ∷ Opens 1 ∷ Answers 0 (reading []) ∷ Answers 1 (reading []) ∷ Answers 1 (plain 201)
+    ∷ Answers 0 (plain 201) ∷ Answers 0 (plain 201) ∷ Answers 1 (plain 201) ∷ Told (commands.Rekey 20) ∷ Answers 1 (plain 201)
+    ∷ Answers 0 (plain 201) ∷ Told (commands.End 20) ∷ Answers 0 (plain 201) ∷ Answers 0 (plain 204) ∷ Answers 1 (plain 201)
+    ∷ Answers 1 (plain 204) ∷ Answers 1 (plain 204) ∷ []
+
+shown-two-tunnels : history peers [] two_tunnels ≡
+    Accepted (Keys k1) ∷ Accepted (Keys k2) ∷ Accepted (Keys k3) ∷ Accepted (Keys k4) ∷ Accepted (Tunnel (at t))
+    ∷ Accepted (Tunnel (at second)) ∷ Opened 0 1 ∷ Ordered 0 1 1 Read ∷ Opened 1 1 ∷ Ordered 1 1 1 Read ∷ Answered 0 1 1 (reading [])
+    ∷ Answered 1 1 1 (reading []) ∷ Ordered 1 1 2 (PutIn (half 1 k1 ab)) ∷ Ordered 0 1 2 (PutIn (half 2 k2 ba))
+    ∷ Answered 1 1 2 (plain 201) ∷ Ordered 0 1 3 (PutOut (half 1 k1 ab)) ∷ Answered 0 1 2 (plain 201)
+    ∷ Ordered 1 1 3 (PutOut (half 2 k2 ba)) ∷ Answered 0 1 3 (plain 201) ∷ Answered 1 1 3 (plain 201) ∷ Accepted (Rekey 20)
+    ∷ Ordered 1 1 4 (PutIn (half 3 k3 second_ab)) ∷ Ordered 0 1 4 (PutIn (half 4 k4 second_ba)) ∷ Answered 1 1 4 (plain 201)
+    ∷ Ordered 0 1 5 (PutOut (half 3 k3 second_ab)) ∷ Answered 0 1 4 (plain 201) ∷ Ordered 1 1 5 (PutOut (half 4 k4 second_ba))
+    ∷ Accepted (End 20) ∷ Answered 0 1 5 (plain 201) ∷ Ordered 0 1 6 (RemoveOut 3) ∷ Answered 0 1 6 (plain 204)
+    ∷ Ordered 1 1 6 (RemoveIn 3) ∷ Answered 1 1 5 (plain 201) ∷ Ordered 1 1 7 (RemoveOut 4) ∷ Answered 1 1 6 (plain 204)
+    ∷ Answered 1 1 7 (plain 204) ∷ Ordered 0 1 7 (RemoveIn 4) ∷ []
+unfolding two_tunnels in_name out_name k1 k2 k3 k4 k5 digits
+shown-two-tunnels = refl
+
+-- a reading that is answered before the put of in/1 does not show it, and neither ends it nor is a cause
+read_early : List ControllerEvent
+read_early =
+    Told (commands.Keys k1) ∷ Told (commands.Keys k2) ∷ Opens 0 ∷ Opens 1 ∷ Answers 0 (reading []) ∷ Answers 1 (reading [])
+    ∷ Notices 1 (notices.BadSpi 300) ∷ Told (commands.Tunnel t) ∷ Answers 1 (reading []) ∷ Answers 1 (plain 201)
+    ∷ Answers 0 (plain 201) ∷ []
+
+shown-read-early : history peers [] read_early ≡
+    Accepted (Keys k1) ∷ Accepted (Keys k2) ∷ Opened 0 1 ∷ Ordered 0 1 1 Read ∷ Opened 1 1 ∷ Ordered 1 1 1 Read
+    ∷ Answered 0 1 1 (reading []) ∷ Answered 1 1 1 (reading []) ∷ Heard 1 1 (notices.BadSpi 300) ∷ Ordered 1 1 2 Read
+    ∷ Accepted (Tunnel (at t)) ∷ Ordered 1 1 3 (PutIn (half 1 k1 ab)) ∷ Ordered 0 1 2 (PutIn (half 2 k2 ba))
+    ∷ Answered 1 1 2 (reading []) ∷ Answered 1 1 3 (plain 201) ∷ Ordered 0 1 3 (PutOut (half 1 k1 ab)) ∷ Answered 0 1 2 (plain 201)
+    ∷ Ordered 1 1 4 (PutOut (half 2 k2 ba)) ∷ []
+unfolding read_early in_name out_name k1 k2 k3 k4 k5 digits
+shown-read-early = refl
+
+-- of two ended associations of a direction the older one comes first, and outbound removals come before inbound ones
+oldest_first : List ControllerEvent
+oldest_first =
+    Told (commands.Keys k1) ∷ Told (commands.Keys k2) ∷ Told (commands.Keys k3) ∷ Told (commands.Keys k4)
+    ∷ Told (commands.Tunnel one_way) ∷ Opens 0 ∷ Opens 1 ∷ Answers 0 (reading []) ∷ Answers 1 (reading [])
+    ∷ Told (commands.Rekey 10) ∷ Answers 1 (plain 201) ∷ Answers 0 (plain 201) ∷ Answers 0 (plain 201) ∷ Answers 1 (plain 201)
+    ∷ Told (commands.Rekey 10) ∷ Answers 1 (plain 201) ∷ Answers 0 (plain 201) ∷ Told (commands.End 10) ∷ Cuts 0
+    ∷ Answers 1 (plain 201) ∷ Opens 0 ∷ Answers 0 (reading []) ∷ Answers 0 absent ∷ Answers 1 (plain 204) ∷ Answers 0 absent ∷ []
+
+shown-oldest-first : history peers [] oldest_first ≡
+    Accepted (Keys k1) ∷ Accepted (Keys k2) ∷ Accepted (Keys k3) ∷ Accepted (Keys k4) ∷ Accepted (Tunnel (at one_way)) ∷ Opened 0 1
+    ∷ Ordered 0 1 1 Read ∷ Opened 1 1 ∷ Ordered 1 1 1 Read ∷ Answered 0 1 1 (reading []) ∷ Answered 1 1 1 (reading [])
+    ∷ Accepted (Rekey 10) ∷ Ordered 1 1 2 (PutIn (half 1 k1 one_ab)) ∷ Ordered 0 1 2 (PutIn (half 2 k2 one_ba))
+    ∷ Answered 1 1 2 (plain 201) ∷ Ordered 0 1 3 (PutOut (half 1 k1 one_ab)) ∷ Answered 0 1 2 (plain 201)
+    ∷ Ordered 1 1 3 (PutOut (half 2 k2 one_ba)) ∷ Answered 0 1 3 (plain 201) ∷ Answered 1 1 3 (plain 201) ∷ Accepted (Rekey 10)
+    ∷ Ordered 1 1 4 (PutIn (half 3 k3 one_ab)) ∷ Ordered 0 1 4 (PutIn (half 4 k4 one_ba)) ∷ Answered 1 1 4 (plain 201)
+    ∷ Ordered 0 1 5 (PutOut (half 3 k3 one_ab)) ∷ Answered 0 1 4 (plain 201) ∷ Ordered 1 1 5 (PutOut (half 4 k4 one_ba))
+    ∷ Accepted (End 10) ∷ Cut 0 1 ∷ Answered 1 1 5 (plain 201) ∷ Ordered 1 1 6 (RemoveOut 2) ∷ Opened 0 2 ∷ Ordered 0 2 1 Read
+    ∷ Answered 0 2 1 (reading []) ∷ Ordered 0 2 2 (RemoveOut 1) ∷ Answered 0 2 2 absent ∷ Ordered 0 2 3 (RemoveOut 3)
+    ∷ Answered 1 1 6 (plain 204) ∷ Ordered 1 1 7 (RemoveOut 4) ∷ Answered 0 2 3 absent ∷ Ordered 1 1 8 (RemoveIn 1) ∷ []
+unfolding oldest_first in_name out_name k1 k2 k3 k4 k5 digits
+shown-oldest-first = refl
+
+-- an empty list is a list like any other, and what is ordered at an opening is the newest one
+emptied : List ControllerEvent
+emptied =
+    Told (commands.Policy (codes "a") list_a) ∷ Opens 0 ∷ Told (commands.Policy (codes "a") []) ∷ Answers 0 (reading [])
+    ∷ Answers 0 (plain 204) ∷ Cuts 0 ∷ Told (commands.Policy (codes "a") list_a) ∷ Told (commands.Policy (codes "a") []) ∷ Opens 0 ∷ []
+
+shown-emptied : history peers [] emptied ≡
+    Accepted (SetPolicy 0 list_a) ∷ Opened 0 1 ∷ Ordered 0 1 1 Read ∷ Ordered 0 1 2 (Policy list_a) ∷ Accepted (SetPolicy 0 [])
+    ∷ Ordered 0 1 3 (Policy []) ∷ Answered 0 1 1 (reading []) ∷ Answered 0 1 2 (plain 204) ∷ Cut 0 1 ∷ Accepted (SetPolicy 0 list_a)
+    ∷ Accepted (SetPolicy 0 []) ∷ Opened 0 2 ∷ Ordered 0 2 1 Read ∷ Ordered 0 2 2 (Policy []) ∷ []
+unfolding emptied in_name out_name k1 k2 k3 k4 k5 digits
+shown-emptied = refl
+
+-- a key of 36 octets is put like one of 20, and one whose first 16 octets it shares is another AES key
+long_keys : List ControllerEvent
+long_keys =
+    Told (commands.Keys k5) ∷ Told (commands.Keys (take 32 k5 ++ 9 ∷ 9 ∷ 9 ∷ 9 ∷ [])) ∷ Told (commands.Keys k1) ∷ Told (commands.Tunnel t) ∷ Opens 0 ∷ Opens 1 ∷ Answers 0 (reading [])
+    ∷ Answers 1 (reading []) ∷ Answers 1 (plain 201) ∷ []
+
+shown-long-keys : history peers [] long_keys ≡
+    Accepted (Keys k5) ∷ Refused refusals.KeySeen ∷ Accepted (Keys k1) ∷ Accepted (Tunnel (at t)) ∷ Opened 0 1 ∷ Ordered 0 1 1 Read ∷ Opened 1 1
+    ∷ Ordered 1 1 1 Read ∷ Answered 0 1 1 (reading []) ∷ Answered 1 1 1 (reading []) ∷ Ordered 1 1 2 (PutIn (half 1 k5 ab))
+    ∷ Ordered 0 1 2 (PutIn (half 2 k1 ba)) ∷ Answered 1 1 2 (plain 201) ∷ Ordered 0 1 3 (PutOut (half 1 k5 ab)) ∷ []
+unfolding long_keys in_name out_name k1 k2 k3 k4 k5 digits
+shown-long-keys = refl
+
+-- a tunnel counts while it is not ended or has an association left
+counted_tunnels : List ControllerEvent
+counted_tunnels = Told (commands.Keys k1) ∷ Told (commands.Tunnel t) ∷ Opens 0 ∷ Opens 1 ∷ Answers 0 (reading []) ∷ Answers 1 (reading []) ∷ Told (commands.Tunnel second) ∷ Told (commands.End 10) ∷ []
+
+abbrev tunnels_after : List ControllerEvent → ℕ
+tunnels_after es = tunnels (after [] (history peers [] es)) (directions (after [] (history peers [] es)))
+
+shown-counted : tunnels_after counted_tunnels ≡ 2
+unfolding counted_tunnels in_name out_name k1 k2 digits
+shown-counted = refl
+
+shown-uncounted : tunnels_after (counted_tunnels ++ Answers 1 denied ∷ Answers 1 absent ∷ []) ≡ 1
+unfolding counted_tunnels in_name out_name k1 k2 digits
+shown-uncounted = refl
+
+-- the first reason that applies: no such gateway, one gateway at both ends, a tunnel that there is
+refused_first : List ControllerEvent
+refused_first =
+    Told (commands.Tunnel t) ∷ Told (commands.Tunnel (spec true (codes "c") (codes "c"))) ∷ Told (commands.Tunnel (spec true (codes "b") (codes "b")))
+    ∷ Told (commands.Tunnel (spec true (codes "b") (codes "a"))) ∷ []
+
+shown-refused-first : history peers [] refused_first ≡
+    Accepted (Tunnel (at t)) ∷ Refused refusals.UnknownGateway ∷ Refused refusals.SameGateway ∷ Refused refusals.TunnelExists ∷ []
+unfolding refused_first
+shown-refused-first = refl
+
+-- The two limits, with a past that has so many in place of one computed: 1,024 tunnels, and 1,048,576 keys. A tunnel that there
+-- is, and a key that was seen, come first.
+shown-tunnel-limit : (h : List ControllerAct) → has_tunnel 10 h ≡ false → tunnels h (directions h) ≡ 1024 → refusal 2 h (Tunnel (at t)) ≡ Some refusals.TunnelLimit
+shown-tunnel-limit h e n = rw (e, n) refl
+
+shown-last-tunnel : (h : List ControllerAct) → has_tunnel 10 h ≡ false → tunnels h (directions h) ≡ 1023 → refusal 2 h (Tunnel (at t)) ≡ None
+shown-last-tunnel h e n = rw (e, n) refl
+
+shown-tunnel-first : (h : List ControllerAct) → has_tunnel 10 h ≡ true → tunnels h (directions h) ≡ 1024 → refusal 2 h (Tunnel (at t)) ≡ Some refusals.TunnelExists
+shown-tunnel-first h e n = rw e refl
+
+k1-long : is_key_length (length k1) ≡ true
+unfolding k1
+k1-long = refl
+
+shown-key-limit : (h : List ControllerAct) → is_seen k1 (keys h) ≡ false → length (keys h) ≡ 1048576 → refusal 2 h (Keys k1) ≡ Some refusals.KeyLimit
+shown-key-limit h e n = let l : is_key_length (length k1) ≡ true = k1-long in rw (l, e, n) refl
+
+shown-last-key : (h : List ControllerAct) → is_seen k1 (keys h) ≡ false → length (keys h) ≡ 1048575 → refusal 2 h (Keys k1) ≡ None
+shown-last-key h e n = let l : is_key_length (length k1) ≡ true = k1-long in rw (l, e, n) refl
+
+shown-key-first : (h : List ControllerAct) → is_seen k1 (keys h) ≡ true → length (keys h) ≡ 1048576 → refusal 2 h (Keys k1) ≡ Some refusals.KeySeen
+shown-key-first h e n = let l : is_key_length (length k1) ≡ true = k1-long in rw (l, e) refl
 
 -- ## as a transcript has them
 
