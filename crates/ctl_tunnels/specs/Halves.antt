@@ -7,8 +7,8 @@ use Rattle.std.specs.Fmt.{decimal}
 use Rattle.std.specs.Str.{bytes_eq}
 use Rattle.ikl_base.specs.declared.address.Addr.{Addr}
 use Rattle.ikl_base.specs.declared.address.Prefix.{Prefix}
-use Rattle.ikeless_tree.specs.declared.association.Df.TheVariants as df
-use Rattle.ikeless_tree.specs.declared.association.SadEntry.{SadEntry}
+use Rattle.ikeless_tree.specs.declared.sad.Df.TheVariants as df
+use Rattle.ikeless_tree.specs.declared.sad.SadEntry.{SadEntry}
 use Rattle.ikeless_tree.specs.declared.order as orders
 use Rattle.ikeless_tree.specs.declared.order.Order.TheVariants as tree
 use Rattle.hist_controller.specs.Acts.{in_name, out_name}

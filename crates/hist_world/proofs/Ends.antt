@@ -4,7 +4,7 @@ use Rattle.ikl_base.specs.declared.address.Addr.{Addr}
 use Rattle.ip_packet.specs.declared.packet.NotPacket.{NotPacket}
 use Rattle.ip_packet.specs.Ttl.{with_ttl}
 use Rattle.ip_packet.specs.View.{Packet}
-use Rattle.ikeless_tree.specs.declared.association.SadEntry.{SadEntry}
+use Rattle.ikeless_tree.specs.declared.sad.SadEntry.{SadEntry}
 use Rattle.ikeless_tree.specs.declared.command.Peer.{Peer}
 use Rattle.esp_frame.specs.Esp.{keying, spi_of}
 use Rattle.esp_frame.specs.Open.{opened}

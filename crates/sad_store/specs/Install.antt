@@ -1,6 +1,6 @@
 -- The first reason why an association can't be installed among the halves, if there is one, of this project.
 use Rattle.std.specs.Prelude.{◌≡◌, List, Option, Some, None, if◌then◌else◌}
-use Rattle.ikeless_tree.specs.declared.association.SadEntry.{SadEntry}
+use Rattle.ikeless_tree.specs.declared.sad.SadEntry.{SadEntry}
 use Rattle.sad_store.specs.declared.half.Half.{Half}
 use Rattle.sad_store.specs.declared.fault.InstallFault.{InstallFault}
 use Rattle.sad_store.specs.declared.fault.InstallFault.TheVariants as faults
