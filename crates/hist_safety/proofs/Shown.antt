@@ -2,10 +2,11 @@
 -- packet that is sealed, given, and dropped when it comes again, a rekey, a removal whose answer is lost by a cut, the
 -- removal again in the next session, a restart of the receiver, and a packet that is lost by it. All is by computing but for
 -- the sealed octets themselves: of those only the laws of ESP are used.
-use Rattle.std.proofs.Common.{◌≡◌, ℕ, ◌&&◌, ◌+◌, ◌<◌, ◌≤◌, ◌^◌, true, false, List, [], ◌∷◌, ◌++◌, codes, decimal, drop, length, Some, None, Ok, inl, inr, refl, sym, ◌∙◌, ap, subst, arith}
+use Rattle.std.proofs.Common.{◌≡◌, ℕ, ◌&&◌, ◌+◌, ◌<◌, ◌≤◌, ◌^◌, true, false, List, [], ◌∷◌, ◌++◌, codes, decimal, drop, length, Some, None, Ok, inl, inr, refl, sym, ◌∙◌, ap, subst, arith, Bool, Result}
 use Rattle.ikl_base.specs.declared.address.Addr.TheVariants.{V4, V6}
 use Rattle.ikl_base.specs.declared.address.Prefix.{Prefix}
 use Rattle.ip_packet.specs.declared.outer.Outer.{Outer}
+use Rattle.ip_packet.specs.declared.packet.NotPacket.{NotPacket}
 use Rattle.ip_packet.specs.Outer.{outer_header, outer_view}
 use Rattle.ip_packet.specs.View.{Packet, by_upper, packet_4, packet_6, view_of}
 use Rattle.ip_packet.proofs.Headers.{upper_of-end}
@@ -23,7 +24,7 @@ use Rattle.ikeless_tree.specs.declared.order.Notice.TheVariants as notices
 use Rattle.ikeless_tree.specs.declared.reply.DropWhy.TheVariants as why
 use Rattle.ikeless_tree.specs.declared.reply.GoneWhy.TheVariants as gone
 use Rattle.spd_match.specs.Match.{first_entry, holds_packet}
-use Rattle.esp_frame.specs.Esp.{esp, pad_len, padded, seq_of, spi_of}
+use Rattle.esp_frame.specs.Esp.{esp, iv_of, pad_len, padded, seq_of, spi_of}
 use Rattle.esp_frame.proofs.Opens.{length-esp}
 use Rattle.replay_win.specs.Marks.{verdict_over}
 use Rattle.replay_win.specs.declared.verdict.Verdict.{Verdict}
@@ -31,11 +32,12 @@ use Rattle.replay_win.specs.declared.verdict.Verdict.TheVariants.{Fresh, Seen}
 use Rattle.hist_acts.specs.declared.act.Act.{Act}
 use Rattle.hist_acts.specs.declared.act.Act.TheVariants as acts
 use Rattle.hist_halves.specs.Sealed.{by_spi, esp_of, number_of, other_half, payload_of}
-use Rattle.hist_halves.specs.Halves.{is_lapsed, is_live, is_sealed, live, numbers_taken}
+use Rattle.hist_halves.specs.Halves.{is_lapsed, is_live, is_sealed, live, numbers_taken, put_of}
 use Rattle.hist_clear.specs.Safe.{ClearIsLet}
 use Rattle.hist_safety.specs.Orders.{in_half, mirrored}
-use Rattle.hist_safety.specs.Carried.{Delivers, IsGenuine, IsUndelivered, Sends, keying_of}
+use Rattle.hist_safety.specs.Carried.{Delivers, IsGenuine, IsUndelivered, Sends, aes_in, keying_of, was_sealed}
 use Rattle.hist_safety.specs.Law.{IsLawful, IsWhole}
+use Rattle.hist_safety.specs.Safe.{IsLastSafe, MustGive, Safe}
 use Rattle.std.specs.Fmt.{digits}
 use Rattle.std.specs.Str.{bytes_eq}
 use Rattle.hist_acts.specs.Past.{force}
@@ -390,3 +392,70 @@ lawful12 = ((refl, genuine2, undelivered2, λ e. absurd (no e)), (refl, (refl, (
 -- It is whole. After it the outbound half of the second association stands at its gateway, and the inbound one lapsed.
 pub shown : IsLawful gateways h12 × IsWhole gateways h12 × (live (codes "a") h12 ≡ out2 ∷ []) × (is_live (codes "b") (codes "in/2") h12 ≡ false) × (is_lapsed (codes "b") (codes "in/2") h12 ≡ true)
 shown = (lawful12, refl, refl, refl, refl)
+
+-- ## what must be given, and histories that are not safe, part by part
+
+-- the datagram that was sent, as it comes to its gateway: it must be given
+must1 : MustGive gateways (codes "b") datagram1 (codes "1") p in1 arrived_past
+must1 = record {
+  here = refl;
+  packet = outer_view outer (sealed_in out1);
+  view = datagram_view out1;
+  proto = refl;
+  own = refl;
+  sender = codes "a";
+  number = 1;
+  unchanged = let e = name-self (esp_of datagram1) in rw e refl;
+  put = refl;
+  fresh = ap (verdict_over 64 []) (datagram_seq out1);
+  stays = refl;
+  whole = refl;
+}
+
+abbrev is_drop : Act → Bool
+is_drop (acts.Drop g w) = true
+is_drop _ = false
+
+-- it is dropped, and it is left without its answer
+unsafe-dropped : Safe gateways (acts.Drop (codes "b") why.Seen ∷ acts.Arrived (codes "b") datagram1 ∷ arrived_past) → ⊥
+unsafe-dropped s = no (sym (ap is_drop (s.4 (codes "1") p in1 must1)))
+
+unsafe-unanswered : IsLastSafe gateways (acts.Arrived (codes "b") datagram1 ∷ arrived_past) → ⊥
+unsafe-unanswered f = f (codes "1") p in1 must1
+
+p_first : first_entry list Out p_packet ≡ Some (record { name = codes "o1"; direction = Out; reqid = 10; action = Protect; selector = chosen; window = 64 })
+unfolding holds_packet
+p_first = refl
+
+ok-is : (a b : Packet) → ◌≡◌ {A = Result Packet NotPacket} (Ok a) (Ok b) → a ≡ b
+ok-is a b e = cc
+
+protect-bypass : Protect ≡ Bypass → ⊥
+protect-bypass e = grind arith
+
+-- a packet that a protect entry holds leaves in clear
+unsafe-clear : Safe gateways (acts.Clear (codes "a") p ∷ acts.Let (codes "a") p ∷ h5) → ⊥
+unsafe-clear s =
+    let b = s.0.bypass in
+    let v : p_packet ≡ b.packet = ok-is p_packet b.packet (sym p_view ∙ b.view) in
+    let f : first_entry list Out p_packet ≡ Some b.entry = subst (λ z. first_entry list Out z ≡ Some b.entry) (sym v) b.first in
+    let e : record { name = codes "o1"; direction = Out; reqid = 10; action = Protect; selector = chosen; window = 64 } ≡ b.entry = some-is _ b.entry (sym p_first ∙ f) in
+    protect-bypass (ap (λ (z : SpdEntry). z.action) e ∙ b.action)
+
+-- one AES key and one IV seal twice
+unsafe-twice : Safe gateways (acts.Sent (codes "a") (codes "out/1") 1 datagram1 ∷ arrived_past) → ⊥
+unsafe-twice s =
+    let n = name-self (iv_of (esp_of datagram1)) in
+    let e : was_sealed (aes_in (put_of (codes "a") (codes "out/1") arrived_past)) (iv_of (esp_of datagram1)) arrived_past ≡ true = rw n refl in
+    no (sym s.1 ∙ e)
+
+-- a packet is given that nobody sent, and one datagram is given twice
+unsafe-unsent : Safe gateways (acts.Gave (codes "b") (codes "in/1") 1 p ∷ acts.Arrived (codes "b") datagram1 ∷ h5) → ⊥
+unsafe-unsent s = no s.2.before
+
+unsafe-given-twice : Safe gateways (acts.Gave (codes "b") (codes "in/1") 1 p ∷ acts.Arrived (codes "b") datagram1 ∷ again_past) → ⊥
+unsafe-given-twice s = no (sym s.2.first)
+
+-- a datagram leaves whose inbound half was never installed
+unsafe-sent : Safe gateways (acts.Sent (codes "a") (codes "out/1") 1 datagram1 ∷ h2) → ⊥
+unsafe-sent s = no s.3.0
