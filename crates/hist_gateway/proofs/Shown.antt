@@ -2,7 +2,7 @@
 --
 -- Sealing and opening are not computed here, since AES over the inverses of its definition is too dear: a datagram that is sent
 -- stands as the term that says what it is, and what one opens to is a premise. Both are computed elsewhere, by the proved code.
-use Rattle.std.proofs.Common.{◌≡◌, ℕ, true, false, List, [], ◌∷◌, ◌++◌, codes, Some, None, Ok, Err, refl, ap, arith}
+use Rattle.std.proofs.Common.{◌≡◌, ℕ, zero, suc, ◌+◌, true, false, List, [], ◌∷◌, ◌++◌, codes, length, Some, None, Ok, Err, refl, ap, arith}
 use Rattle.ikl_base.specs.declared.address.Addr.{Addr}
 use Rattle.ikl_base.specs.declared.address.Addr.TheVariants.{V4, V6}
 use Rattle.ikl_base.specs.declared.address.Prefix.{Prefix}
@@ -19,6 +19,7 @@ use Rattle.ikeless_tree.specs.declared.entry.Selector.{Selector}
 use Rattle.ikeless_tree.specs.declared.entry.SpdEntry.{SpdEntry}
 use Rattle.ikeless_tree.specs.declared.order.Answer.{Answer}
 use Rattle.ikeless_tree.specs.declared.order.Notice.TheVariants as notices
+use Rattle.ikeless_tree.specs.declared.reply.DropWhy.{DropWhy}
 use Rattle.ikeless_tree.specs.declared.reply.DropWhy.TheVariants as why
 use Rattle.ikeless_tree.specs.declared.reply.GoneWhy.TheVariants as gone
 use Rattle.ikeless_tree.specs.declared.reply.Tag.{Tag}
@@ -31,8 +32,9 @@ use Rattle.esp_frame.specs.Open as esp
 use Rattle.spd_match.specs.Match.{holds_packet}
 use Rattle.hist_acts.specs.declared.act.Act.{Act}
 use Rattle.hist_acts.specs.declared.act.Act.TheVariants as acts
-use Rattle.hist_gateway.specs.Datagram.{datagram, flow_of}
-use Rattle.hist_gateway.specs.Let.{let_acts}
+use Rattle.hist_gateway.specs.Datagram.{datagram, flow_of, has_outer_df}
+use Rattle.hist_gateway.specs.Let.{let_acts, let_by_view}
+use Rattle.hist_gateway.specs.Stands.{does_bad_spi_stand}
 use Rattle.hist_gateway.specs.Arrive as arrive
 use Rattle.hist_gateway.specs.Block.{Gateway, GatewayEvent, Let, Arrive, Clock, Handle, Session_taken, gw_block, gw_history}
 
@@ -363,3 +365,88 @@ shown_acquire_ends : gw_history gateway_a [] (Handle (Ok (asks.PutSpd protect_4)
     ∷ acts.Policy a protect_4 ∷ acts.Handled a 0 4 (done 204) ∷ acts.Let a packet_4 ∷ acts.Drop a why.NoSa ∷ acts.Notice a 0 (notices.Acquire (codes "o1") (flow_of view_4)) ∷ []
 unfolding let_acts view_of holds_packet reply
 shown_acquire_ends = refl
+
+-- an acquire stays while a half for another rule is installed
+abbrev out_other : SadEntry
+out_other = record out_1 { reqid = 11 }
+
+shown_acquire_stays : gw_history gateway_a [] (Handle (Ok (asks.PutSpd protect_4)) ∷ Let packet_4 ∷ Handle (Ok (asks.PostSad out_other)) ∷ Let packet_4 ∷ [])
+    ≡ acts.Policy a protect_4 ∷ acts.Handled a 0 1 (done 204) ∷ acts.Let a packet_4 ∷ acts.Drop a why.NoSa ∷ acts.Notice a 0 (notices.Acquire (codes "o1") (flow_of view_4))
+    ∷ acts.Put a out_other ∷ acts.Handled a 0 2 (done 201) ∷ acts.Let a packet_4 ∷ acts.Drop a why.NoSa ∷ []
+unfolding let_acts view_of holds_packet reply
+shown_acquire_stays = refl
+
+-- ---- what comes in pieces
+
+-- packet_back, with a bit that says that more fragments follow
+abbrev fragment : List ℕ
+fragment = 69 ∷ 0 ∷ 0 ∷ 32 ∷ 0 ∷ 0 ∷ 32 ∷ 0 ∷ 64 ∷ 17 ∷ 70 ∷ 189 ∷ 10 ∷ 2 ∷ 0 ∷ 9 ∷ 10 ∷ 1 ∷ 0 ∷ 5 ∷ 18 ∷ 52 ∷ 0 ∷ 53 ∷ 0 ∷ 12 ∷ 0 ∷ 0 ∷ 97 ∷ 98 ∷ 99 ∷ 100 ∷ []
+
+shown_fragment : gw_history gateway_a [] (replaced_by actions.Bypass ∷ Arrive fragment ∷ [])
+    ≡ acts.Policy a (inward actions.Bypass) ∷ acts.Handled a 0 1 (done 204) ∷ acts.Arrived a fragment ∷ acts.Drop a why.Fragment ∷ []
+unfolding arrive.arrive_acts view_of holds_packet reply
+shown_fragment = refl
+
+-- ---- a limit on idle time, without a use and after one
+
+abbrev out_idle : SadEntry
+out_idle = half (codes "out/1") 257 (between first_site second_site) address_a address_b (limits 0 0 0 5) (limits 0 0 0 0)
+
+shown_idle : gw_history gateway_a (acts.Put a out_idle ∷ []) (Clock 4 ∷ Clock 5 ∷ [])
+    ≡ acts.Now 4 ∷ acts.Now 5 ∷ acts.Gone a (codes "out/1") gone.Hard ∷ acts.Notice a 0 (notices.Expire (codes "out/1") false (limits 5 0 0 5)) ∷ []
+shown_idle = refl
+
+shown_idle_used : gw_history gateway_a (acts.Sent a (codes "out/1") 1 datagram_1 ∷ acts.Let a packet_6 ∷ acts.Now 3 ∷ acts.Put a out_idle ∷ []) (Clock 7 ∷ Clock 8 ∷ [])
+    ≡ acts.Now 7 ∷ acts.Now 8 ∷ acts.Gone a (codes "out/1") gone.Hard ∷ acts.Notice a 0 (notices.Expire (codes "out/1") false (limits 8 88 1 5)) ∷ []
+unfolding view_of
+shown_idle_used = refl
+
+-- ---- what a datagram opens to and isn't a packet: padding, a dummy, no packet of the version told
+
+abbrev opened_to : List ℕ → Type 0
+opened_to text = esp.opened (keying in_1.spi in_1.key) sealed_1 ≡ Some text
+
+abbrev dropped_for : DropWhy → List Act
+dropped_for w = acts.Arrived b datagram_1 ∷ acts.Drop b w ∷ []
+
+shown_padding : opened_to (packet_6 ++ 1 ∷ 3 ∷ 2 ∷ 41 ∷ []) → gw_block gateway_b put_1 (Arrive datagram_1) ≡ dropped_for why.Padding
+unfolding arrive.arrive_acts view_of upper_of holds_packet esp.inner_packet
+shown_padding opens = ap (λ text. acts.Arrived b datagram_1 ∷ arrive.by_text b (acts.Arrived b datagram_1 ∷ put_1) in_1 1 text) opens
+
+shown_dummy : opened_to (packet_6 ++ 1 ∷ 2 ∷ 2 ∷ 59 ∷ []) → gw_block gateway_b put_1 (Arrive datagram_1) ≡ dropped_for why.Dummy
+unfolding arrive.arrive_acts view_of upper_of holds_packet esp.inner_packet
+shown_dummy opens = ap (λ text. acts.Arrived b datagram_1 ∷ arrive.by_text b (acts.Arrived b datagram_1 ∷ put_1) in_1 1 text) opens
+
+shown_inner : opened_to (80 ∷ 0 ∷ 0 ∷ 41 ∷ []) → gw_block gateway_b put_1 (Arrive datagram_1) ≡ dropped_for why.Inner
+unfolding arrive.arrive_acts view_of upper_of holds_packet esp.inner_packet
+shown_inner opens = ap (λ text. acts.Arrived b datagram_1 ∷ arrive.by_text b (acts.Arrived b datagram_1 ∷ put_1) in_1 1 text) opens
+
+shown_version : opened_to (packet_6 ++ 1 ∷ 2 ∷ 2 ∷ 4 ∷ []) → gw_block gateway_b put_1 (Arrive datagram_1) ≡ dropped_for why.Inner
+unfolding arrive.arrive_acts view_of upper_of holds_packet esp.inner_packet
+shown_version opens = ap (λ text. acts.Arrived b datagram_1 ∷ arrive.by_text b (acts.Arrived b datagram_1 ∷ put_1) in_1 1 text) opens
+
+-- ---- the DF bit of the outer header: clear, set, or that of the packet
+
+shown_df : (has_outer_df dfs.Clear view_6 ≡ false) × (has_outer_df dfs.Set view_6 ≡ true) × (has_outer_df dfs.Copy view_6 ≡ true) × (has_outer_df dfs.Copy (record view_6 { df = false }) ≡ false)
+shown_df = (refl, refl, refl, refl)
+
+-- ---- a bad SPI stands among the last 64
+
+-- so many notices of other SPIs, after a past
+abbrev told_of : ℕ → List Act → List Act
+told_of zero h = h
+told_of (suc n) h = acts.Notice b 0 (notices.BadSpi (1000 + n)) ∷ told_of n h
+
+shown_64th : does_bad_spi_stand b 257 (told_of 63 (acts.Notice b 0 (notices.BadSpi 257) ∷ [])) ≡ true
+shown_64th = refl
+
+shown_65th : does_bad_spi_stand b 257 (told_of 64 (acts.Notice b 0 (notices.BadSpi 257) ∷ [])) ≡ false
+shown_65th = refl
+
+-- ---- the greatest length of a packet, said of any packet with so many octets in place of one written out
+
+shown_longest : (v : Packet) (o : List ℕ) → length o ≡ 65000 → let_by_view a 3 [] o (Ok v) ≡ acts.Drop a why.NoPolicy ∷ []
+shown_longest v o e = rw e refl
+
+shown_too_long : (v : Packet) (o : List ℕ) → length o ≡ 65001 → let_by_view a 3 [] o (Ok v) ≡ acts.Drop a why.TooLong ∷ []
+shown_too_long v o e = rw e refl

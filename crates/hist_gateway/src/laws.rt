@@ -8,7 +8,7 @@ ghost use Rattle.hist_halves.specs.Halves.{live, is_live, numbers_taken};
 ghost use Rattle.hist_gateway.specs.Stands.{does_acquire_stand, was_soft_given, does_soft_stand, was_overflow_given, does_overflow_stand};
 ghost use Rattle.hist_gateway.specs.Uses.{was_taken};
 ghost use Rattle.replay_win.specs.Marks.{is_among};
-ghost use Rattle.hist_gateway.specs.Block.{Gateway, GatewayEvent, Let, Arrive, Clock, Handle, gw_block, gw_history};
+ghost use Rattle.hist_gateway.specs.Block.{Gateway, GatewayEvent, Let, Arrive, Clock, Handle, gw_block, gw_history, Session_taken};
 ghost use Rattle.hist_gateway.specs.Answers.{is_let_answer, is_arrival_answer, is_answer, has_one_answer, is_clock_reading};
 ghost use Rattle.hist_gateway.specs.Handle.{Fault, requests};
 ghost use Rattle.hist_acts.specs.Sessions.{handled};
@@ -147,4 +147,5 @@ pub fn answers()
     ensures datagram { (c : Gateway) (h : List Act) (o : List ℕ) → has_one_answer is_arrival_answer (gw_block c h (Arrive o)) ≡ true }
     ensures clock { (c : Gateway) (h : List Act) (t : ℕ) → list_any is_answer (gw_block c h (Clock t)) ≡ false }
     ensures request { (c : Gateway) (h : List Act) (request : Result Ask Fault) → list_any is_answer (gw_block c h (Handle request)) ≡ false }
+    ensures session { (c : Gateway) (h : List Act) → list_any is_answer (gw_block c h Session_taken) ≡ false }
 {}

@@ -1,3 +1,4 @@
+use Rattle.std.proofs.Common.{refl}
 use Rattle.hist_gateway.proofs.AnswersLemmas.{one-let, one-arrive, none-clock, none-handle}
 use Rattle.hist_gateway.proofs.laws.answers.Goals as goal
 
@@ -12,3 +13,6 @@ returns-clause-clock c = none-clock
 
 pub returns-clause-request : goal.returns-clause-request
 returns-clause-request c = none-handle
+
+pub returns-clause-session : goal.returns-clause-session
+returns-clause-session c = λ g h. refl
