@@ -35,6 +35,8 @@ use Rattle.hist_acts.specs.declared.act.Act.TheVariants as acts
 use Rattle.hist_gateway.specs.Datagram.{datagram, flow_of, has_outer_df}
 use Rattle.hist_gateway.specs.Let.{let_acts, let_by_view}
 use Rattle.hist_gateway.specs.Stands.{does_bad_spi_stand}
+use Rattle.hist_gateway.specs.Uses.{counts}
+use Rattle.life_count.specs.Lifetime.{counts_at}
 use Rattle.hist_gateway.specs.Arrive as arrive
 use Rattle.hist_gateway.specs.Block.{Gateway, GatewayEvent, Let, Arrive, Clock, Handle, Session_taken, gw_block, gw_history}
 
@@ -450,3 +452,25 @@ shown_longest v o e = rw e refl
 
 shown_too_long : (v : Packet) (o : List ℕ) → length o ≡ 65001 → let_by_view a 3 [] o (Ok v) ≡ acts.Drop a why.TooLong ∷ []
 shown_too_long v o e = rw e refl
+
+-- ---- a hard limit that a packet sent meets
+
+abbrev out_once : SadEntry
+out_once = half (codes "out/1") 257 (between first_site second_site) address_a address_b (limits 0 0 1 0) (limits 0 0 0 0)
+
+abbrev sent_once : List Act
+sent_once = acts.Sent a (codes "out/1") 1 (datagram out_once 1 view_6 packet_6) ∷ acts.Let a packet_6 ∷ acts.Put a out_once ∷ acts.Policy a protect_6 ∷ []
+
+shown_spent : gw_block gateway_a (acts.Put a out_once ∷ acts.Policy a protect_6 ∷ []) (Let packet_6)
+    ≡ acts.Let a packet_6 ∷ acts.Sent a (codes "out/1") 1 (datagram out_once 1 view_6 packet_6)
+    ∷ acts.Gone a (codes "out/1") gone.Hard ∷ acts.Notice a 0 (notices.Expire (codes "out/1") false (counts a (codes "out/1") sent_once)) ∷ []
+unfolding let_acts view_of upper_of holds_packet
+shown_spent = refl
+
+-- ---- counts stop at the greatest value of their types
+
+shown_ends : counts_at 4294967296 0 1 18446744073709551616 4294967297 ≡ limits 4294967295 18446744073709551615 4294967295 4294967295
+shown_ends = refl
+
+shown_before_ends : counts_at 4294967294 0 1 18446744073709551614 4294967294 ≡ limits 4294967294 18446744073709551614 4294967294 4294967293
+shown_before_ends = refl
