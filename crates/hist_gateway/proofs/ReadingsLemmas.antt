@@ -1,5 +1,6 @@
 -- Words that gather a list say what their plain readings say.
-use Rattle.std.proofs.Common.{◌≡◌, ℕ, Bool, true, false, not, ◌&&◌, ◌||◌, List, [], ◌∷◌, ◌++◌, refl, sym, ◌∙◌, ap, arith, if◌then◌else◌, ◌==◌, Some, None}
+use Rattle.std.proofs.Common.{◌≡◌, ℕ, Bool, true, false, not, ◌&&◌, ◌||◌, nat_le, ◌+◌, List, [], ◌∷◌, ◌++◌, refl, sym, ◌∙◌, ap, arith, if◌then◌else◌, ◌==◌, Some, None}
+use Rattle.std.proofs.lemmas.Grind.{common_steps}
 use Rattle.std.specs.List.{list_any}
 use Rattle.std.specs.Str.{bytes_eq}
 use Rattle.ikeless_tree.specs.declared.entry.SpdEntry.{SpdEntry}
@@ -11,11 +12,12 @@ use Rattle.hist_acts.specs.declared.act.Act.TheVariants as acts
 use Rattle.hist_acts.specs.Past.{force}
 use Rattle.hist_halves.specs.Sealed.{is_inbound, is_opened}
 use Rattle.replay_win.specs.Marks.{is_among}
-use Rattle.hist_gateway.specs.Uses.{arrival, is_for, number_in, was_taken}
-use Rattle.hist_halves.specs.Halves.{is_half, live, is_live, numbers_taken, with_number, without}
+use Rattle.hist_gateway.specs.Uses.{arrival, is_for, number_in, was_number_sent, was_taken}
+use Rattle.hist_halves.specs.Halves.{is_half, live, is_live, numbers_taken, sent, with_number, without}
 use Rattle.hist_gateway.specs.Stands.{has_reqid, is_acquire_of, does_acquire_stand, was_soft_given, does_soft_stand, was_overflow_given, does_overflow_stand}
 use Rattle.hist_gateway.specs.State.{acquires, unwanted, with_acquire}
-use Rattle.hist_gateway.specs.May.{has_half}
+use Rattle.hist_gateway.specs.May.{GatewayMayAct, IsGatewayPast, has_half}
+use Rattle.hist_gateway.specs.Block.{Gateway}
 use Rattle.hist_gateway.proofs.KeepsLemmas.{number-is, same-is}
 
 pub any-end : {A : Type 0} (p : A → Bool) (xs : List A) (x : A) → list_any p (xs ++ x ∷ []) ≡ (p x || list_any p xs)
@@ -166,3 +168,49 @@ soft-is g x h l = rw l refl
 
 pub overflow-is : (g x : List ℕ) (h : List Act) → is_live g x h ≡ true → does_overflow_stand g x h ≡ was_overflow_given g x h
 overflow-is g x h l = rw l refl
+
+-- ---- the numbers sent are those from one to the count
+
+none-sent : (s : ℕ) (b : Bool) → nat_le 1 s ≡ b → false ≡ (b && nat_le s 0)
+none-sent s false e = refl
+none-sent s true e = grind (arith, common_steps)
+
+more-sent : (s k : ℕ) (w : Bool) → w ≡ (nat_le 1 s && nat_le s k) → (b : Bool) → (s == k + 1) ≡ b → (b || w) ≡ (nat_le 1 s && nat_le s (k + 1))
+more-sent s k w e true q = let n : s ≡ k + 1 = grind arith in let a : nat_le 1 s ≡ true = grind (arith, common_steps) in let c : nat_le s (k + 1) ≡ true = grind (arith, common_steps) in rw (a, c) refl
+more-sent s k w e false q = let c : nat_le s k ≡ nat_le s (k + 1) = same-below (nat_le s k) (nat_le s (k + 1)) refl refl in e ∙ ap (λ z. nat_le 1 s && z) c
+  where
+    same-below : (x y : Bool) → nat_le s k ≡ x → nat_le s (k + 1) ≡ y → x ≡ y
+    same-below true true p r = refl
+    same-below false false p r = refl
+    same-below true false p r = absurd (let v : true ≡ false = grind (arith, common_steps) in cc)
+    same-below false true p r = absurd (let v : true ≡ false = grind (arith, common_steps) in cc)
+
+put-sent : (b : Bool) (s k : ℕ) (w : Bool) → w ≡ (nat_le 1 s && nat_le s k) → (not b && w) ≡ (nat_le 1 s && nat_le s (if b then 0 else k))
+put-sent true s k w e = none-sent s (nat_le 1 s) refl
+put-sent false s k w e = e
+
+half-is : (f y g x : List ℕ) → is_half f y g x ≡ true → (f ≡ g) × (y ≡ x)
+half-is f y g x e = by-parts (bytes_eq f g) (bytes_eq y x) refl refl e
+  where
+    by-parts : (a b : Bool) → bytes_eq f g ≡ a → bytes_eq y x ≡ b → (a && b) ≡ true → (f ≡ g) × (y ≡ x)
+    by-parts true true p q t = (same-is f g p, same-is y x q)
+    by-parts true false p q t = cc
+    by-parts false b p q t = cc
+
+sent-more : (h : List Act) (f y g x : List ℕ) (n s : ℕ) (w : Bool) → n ≡ sent f y h + 1 → w ≡ (nat_le 1 s && nat_le s (sent g x h)) → (b : Bool) → is_half f y g x ≡ b
+    → ((b && (s == n)) || w) ≡ (nat_le 1 s && nat_le s (if b then sent g x h + 1 else sent g x h))
+sent-more h f y g x n s w e t false p = t
+sent-more h f y g x n s w e t true p =
+    let k = half-is f y g x p in
+    let same : sent f y h ≡ sent g x h = ap (λ z. sent z y h) k.0 ∙ ap (λ z. sent g z h) k.1 in
+    let m : n ≡ sent g x h + 1 = omega (arith, e, same) in
+    rw m (more-sent s (sent g x h) w t (s == sent g x h + 1) refl)
+
+pub sent-is : (c : Gateway) (h : List Act) → IsGatewayPast c h → (g x : List ℕ) (s : ℕ) → was_number_sent g x s h ≡ (nat_le 1 s && nat_le s (sent g x h))
+sent-is c [] l g x s = none-sent s (nat_le 1 s) refl
+sent-is c (acts.Put f e ∷ h) l g x s = put-sent (is_half f e.name g x) s (sent g x h) (was_number_sent g x s h) (sent-is c h l.1 g x s)
+sent-is c (acts.Sent f y n o ∷ h) l g x s = sent-more h f y g x n s (was_number_sent g x s h) (sent-number c h f y n o l.0) (sent-is c h l.1 g x s) (is_half f y g x) refl
+  where
+    sent-number : (c : Gateway) (h : List Act) (f y : List ℕ) (n : ℕ) (o : List ℕ) → GatewayMayAct c h (acts.Sent f y n o) → n ≡ sent f y h + 1
+    sent-number c h f y n o m = m.number
+sent-is c (a ∷ h) l g x s = sent-is c h l.1 g x s

@@ -81,3 +81,10 @@ was_taken g x s (acts.Put f e ∷ h) = not (is_half f e.name g x) && was_taken g
 was_taken g x s (acts.Gave f y n o ∷ h) = (is_half f y g x && (s == n)) || was_taken g x s h
 was_taken g x s (acts.Drop f w ∷ h) = (is_use g x (acts.Drop f w) h && (s == number_in (arrival g h))) || was_taken g x s h
 was_taken g x s (_ ∷ h) = was_taken g x s h
+
+-- a datagram was sent under the half with this number, since its installation
+abbrev pub was_number_sent : List ℕ → List ℕ → ℕ → List Act → Bool
+was_number_sent g x s [] = false
+was_number_sent g x s (acts.Put f e ∷ h) = not (is_half f e.name g x) && was_number_sent g x s h
+was_number_sent g x s (acts.Sent f y n o ∷ h) = (is_half f y g x && (s == n)) || was_number_sent g x s h
+was_number_sent g x s (_ ∷ h) = was_number_sent g x s h

@@ -1,12 +1,12 @@
 // Laws for the crates above: each is the contract of a function with an empty body, or one that only calls such functions.
-ghost use Rattle.std.specs.Prelude.{◌≡◌, ℕ, true, false, List, [], ◌∷◌, ◌++◌, Some, Ok, Result};
+ghost use Rattle.std.specs.Prelude.{◌≡◌, ℕ, true, false, List, [], ◌∷◌, ◌++◌, Some, Ok, Result, ◌&&◌, nat_le};
 ghost use Rattle.std.specs.List.{list_any};
 ghost use Rattle.std.specs.Str.{bytes_eq};
 ghost use Rattle.hist_acts.specs.declared.act.Act.{Act};
 ghost use Rattle.hist_acts.specs.Past.{after};
-ghost use Rattle.hist_halves.specs.Halves.{live, is_live, numbers_taken};
+ghost use Rattle.hist_halves.specs.Halves.{live, is_live, numbers_taken, sent};
 ghost use Rattle.hist_gateway.specs.Stands.{does_acquire_stand, was_soft_given, does_soft_stand, was_overflow_given, does_overflow_stand};
-ghost use Rattle.hist_gateway.specs.Uses.{was_taken};
+ghost use Rattle.hist_gateway.specs.Uses.{was_number_sent, was_taken};
 ghost use Rattle.replay_win.specs.Marks.{is_among};
 ghost use Rattle.hist_gateway.specs.Block.{Gateway, GatewayEvent, Let, Arrive, Clock, Handle, gw_block, gw_history, Session_taken};
 ghost use Rattle.hist_gateway.specs.Answers.{is_let_answer, is_arrival_answer, is_answer, has_one_answer, is_clock_reading};
@@ -43,11 +43,13 @@ pub fn keeps()
 
 /// The lists are what their words say: a half is among the live ones where its installation stands and neither its end nor a
 /// restart follows, a policy is among those of the acquires where one of it stands, and a number is among those taken where what
-/// arrived with it was given, or dropped after it had opened. A notice that was given of a live half stands.
+/// arrived with it was given, or dropped after it had opened. The numbers sent under a half since its installation are those from
+/// one to the count of what was sent. A notice that was given of a live half stands.
 pub fn readings()
     ensures live { (g x : List ℕ) (h : List Act) → has_half x (live g h) ≡ is_live g x h }
     ensures acquires { (g name : List ℕ) (h : List Act) → list_any (λ p. bytes_eq p name) (acquires g h) ≡ does_acquire_stand g name h }
     ensures taken { (g x : List ℕ) (s : ℕ) (h : List Act) → is_among s (numbers_taken g x h) ≡ was_taken g x s h }
+    ensures sent { (c : Gateway) (h : List Act) → IsGatewayPast c h → (g x : List ℕ) (s : ℕ) → was_number_sent g x s h ≡ (nat_le 1 s && nat_le s (sent g x h)) }
     ensures soft { (g x : List ℕ) (h : List Act) → is_live g x h ≡ true → does_soft_stand g x h ≡ was_soft_given g x h }
     ensures overflow { (g x : List ℕ) (h : List Act) → is_live g x h ≡ true → does_overflow_stand g x h ≡ was_overflow_given g x h }
 {}

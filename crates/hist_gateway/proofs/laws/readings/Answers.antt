@@ -1,4 +1,4 @@
-use Rattle.hist_gateway.proofs.ReadingsLemmas.{live-is, acquires-is, taken-is, soft-is, overflow-is}
+use Rattle.hist_gateway.proofs.ReadingsLemmas.{live-is, acquires-is, taken-is, sent-is, soft-is, overflow-is}
 use Rattle.hist_gateway.proofs.laws.readings.Goals as goal
 
 pub returns-clause-live : goal.returns-clause-live
@@ -15,3 +15,6 @@ returns-clause-soft c = soft-is
 
 pub returns-clause-overflow : goal.returns-clause-overflow
 returns-clause-overflow c = overflow-is
+
+pub returns-clause-sent : goal.returns-clause-sent
+returns-clause-sent c = sent-is
