@@ -1,15 +1,20 @@
 -- Where halves are found, and lists without one.
-use Rattle.std.proofs.Common.{◌≡◌, ℕ, zero, suc, ◌+◌, ◌≤◌, not, ◌&&◌, ◌||◌, Bool, true, false, List, [], ◌∷◌, ◌++◌, length, cond, nat_lt, Option, Some, None, option_and_then, position, find, slice_get, refl, sym, ap, ◌∙◌, if◌then◌else◌, arith}
+use Rattle.std.proofs.Common.{◌≡◌, ℕ, zero, suc, ◌+◌, ◌<◌, ◌≤◌, ◌==◌, map, take, get_or, not, ◌&&◌, ◌||◌, Bool, true, false, List, [], ◌∷◌, ◌++◌, length, cond, nat_lt, Option, Some, None, option_and_then, position, find, slice_get, refl, sym, ap, ◌∙◌, if◌then◌else◌, arith}
 use Rattle.std.specs.List.{list_any, remove, position_or_len}
 use Rattle.std.specs.Str.{bytes_eq}
+use Rattle.std.specs.Option.{option_map}
+use Rattle.ikeless_tree.specs.declared.entry.Direction.TheVariants.{Out}
+use Rattle.spd_match.specs.Match.{holds_packet}
+use Rattle.std.proofs.lemmas.Bool.Decides.{nat_tests}
 use Rattle.std.proofs.lemmas.Grind.{common_steps}
 use Rattle.std.proofs.lemmas.List.Folds.{find_at}
 use Rattle.std.proofs.lemmas.Slice.Eq.{bytes_eq-Decides}
 use Rattle.ip_packet.specs.View.{Packet}
+use Rattle.ikeless_tree.specs.Half.{is_inbound}
 use Rattle.ikeless_tree.specs.declared.sad.SadEntry.{SadEntry}
 use Rattle.sad_store.specs.declared.half.Half.{Half}
-use Rattle.sad_store.specs.Halves.{fresh, has_half_named, is_half_named, halves_without, names_of, may_seal, newer_half, later_place, newest_half, newest_place}
-use Rattle.sad_store.specs.Kept.{are_names_apart, IsKept}
+use Rattle.sad_store.specs.Halves.{fresh, entries_of, has_half_named, is_half_named, is_half_of_spi, halves_without, names_of, may_seal, newer_half, later_place, newest_half, newest_place}
+use Rattle.sad_store.specs.Kept.{are_names_apart, IsKept, reqid_key, spi_key}
 
 -- ---- names
 
@@ -49,6 +54,9 @@ some-by false n i e = cc
 
 pub none-there : (p : Half → Bool) (xs : List Half) → position p xs ≡ None → list_any p xs ≡ false
 none-there p xs e = any-at p xs ∙ none-by (nat_lt (position_or_len p xs) (length xs)) (position_or_len p xs) e
+
+pub some-within : (p : Half → Bool) (xs : List Half) (i : ℕ) → position p xs ≡ Some i → i < length xs
+some-within p xs i e = let s = some-by (nat_lt (position_or_len p xs) (length xs)) (position_or_len p xs) i e in let t = s.0 in let is = s.1 in grind (arith, common_steps)
 
 pub some-there : (p : Half → Bool) (xs : List Half) (i : ℕ) → position p xs ≡ Some i → (list_any p xs ≡ true) × (position_or_len p xs ≡ i)
 some-there p xs i e = let s = some-by (nat_lt (position_or_len p xs) (length xs)) (position_or_len p xs) i e in (any-at p xs ∙ s.0, s.1)
@@ -99,8 +107,8 @@ removed-first name (x ∷ xs) e =
     let parts = and-parts (not (list_any (λ y. bytes_eq y x.entry.name) (names_of xs))) (are_names_apart (names_of xs)) e in
     removed-by name x xs (bytes_eq x.entry.name name) refl (not-true (list_any (λ y. bytes_eq y x.entry.name) (names_of xs)) parts.0) (removed-first name xs parts.1)
 
-pub removed-there : (name : List ℕ) (xs : List Half) (i : ℕ) → IsKept xs → position (is_half_named name) xs ≡ Some i → remove xs i ≡ halves_without name xs
-removed-there name xs i kept e = ap (remove xs) (sym (some-there (is_half_named name) xs i e).1) ∙ removed-first name xs kept.apart
+pub removed-there : (name : List ℕ) (xs : List Half) (i : ℕ) → are_names_apart (names_of xs) ≡ true → position (is_half_named name) xs ≡ Some i → remove xs i ≡ halves_without name xs
+removed-there name xs i apart e = ap (remove xs) (sym (some-there (is_half_named name) xs i e).1) ∙ removed-first name xs apart
 
 -- ---- what is kept
 
@@ -133,13 +141,28 @@ names-end : (xs : List Half) (x : Half) → names_of (xs ++ x ∷ []) ≡ names_
 names-end [] x = refl
 names-end (y ∷ xs) x = ap (λ ns. y.entry.name ∷ ns) (names-end xs x)
 
-pub kept-end : (xs : List Half) (now : ℕ) (e : SadEntry) → IsKept xs → has_half_named e.name xs ≡ false → IsKept (xs ++ fresh now e ∷ [])
-kept-end xs now e kept new = record {
+keys-end : (f : SadEntry → ℕ) (xs : List Half) (x : Half) → map f (entries_of (xs ++ x ∷ [])) ≡ map f (entries_of xs) ++ f x.entry ∷ []
+keys-end f [] x = refl
+keys-end f (y ∷ xs) x = ap (λ ks. f y.entry ∷ ks) (keys-end f xs x)
+
+pub kept-end : (xs : List Half) (spis reqids : List ℕ) (now : ℕ) (e : SadEntry) → IsKept xs spis reqids → has_half_named e.name xs ≡ false →
+    IsKept (xs ++ fresh now e ∷ []) (spis ++ spi_key e ∷ []) (reqids ++ e.reqid ∷ [])
+kept-end xs spis reqids now e kept new = record {
   apart = ap are_names_apart (names-end xs (fresh now e)) ∙ apart-end e.name (names_of xs) (names-any e.name xs ∙ new) kept.apart;
+  spis = ap (λ ks. ks ++ spi_key e ∷ []) kept.spis ∙ sym (keys-end spi_key xs (fresh now e));
+  reqids = ap (λ ks. ks ++ e.reqid ∷ []) kept.reqids ∙ sym (keys-end reqid_key xs (fresh now e));
 }
 
-pub kept-same : (xs ys : List Half) → names_of ys ≡ names_of xs → IsKept xs → IsKept ys
-kept-same xs ys same kept = record { apart = ap are_names_apart same ∙ kept.apart }
+names-entries : (xs : List Half) → names_of xs ≡ map (λ e. e.name) (entries_of xs)
+names-entries [] = refl
+names-entries (x ∷ xs) = ap (λ ns. x.entry.name ∷ ns) (names-entries xs)
+
+pub kept-same : (xs ys : List Half) (spis reqids : List ℕ) → entries_of ys ≡ entries_of xs → IsKept xs spis reqids → IsKept ys spis reqids
+kept-same xs ys spis reqids same kept = record {
+  apart = ap are_names_apart (names-entries ys ∙ (ap (map (λ (e : SadEntry). e.name)) same ∙ sym (names-entries xs))) ∙ kept.apart;
+  spis = kept.spis ∙ ap (map spi_key) (sym same);
+  reqids = kept.reqids ∙ ap (map reqid_key) (sym same);
+}
 
 any-without : (n name : List ℕ) (xs : List Half) → has_half_named n xs ≡ false → has_half_named n (halves_without name xs) ≡ false
 any-without n name [] e = refl
@@ -164,8 +187,111 @@ apart-without name (x ∷ xs) e =
     apart-by true own away ih = rw own ih
     apart-by false own away ih = rw (own, away) ih
 
-pub kept-without : (name : List ℕ) (xs : List Half) → IsKept xs → IsKept (halves_without name xs)
-kept-without name xs kept = record { apart = apart-without name xs kept.apart }
+keys-without : (f : SadEntry → ℕ) (xs : List Half) (i : ℕ) → remove (map f (entries_of xs)) i ≡ map f (entries_of (remove xs i))
+keys-without f [] zero = refl
+keys-without f [] (suc i) = refl
+keys-without f (x ∷ xs) zero = refl
+keys-without f (x ∷ xs) (suc i) = ap (λ ks. f x.entry ∷ ks) (keys-without f xs i)
+
+pub kept-without : (name : List ℕ) (xs : List Half) (spis reqids : List ℕ) (i : ℕ) → IsKept xs spis reqids → remove xs i ≡ halves_without name xs →
+    IsKept (halves_without name xs) (remove spis i) (remove reqids i)
+kept-without name xs spis reqids i kept e = record {
+  apart = apart-without name xs kept.apart;
+  spis = ap (λ ks. remove ks i) kept.spis ∙ (keys-without spi_key xs i ∙ ap (λ ys. map spi_key (entries_of ys)) e);
+  reqids = ap (λ ks. remove ks i) kept.reqids ∙ (keys-without reqid_key xs i ∙ ap (λ ys. map reqid_key (entries_of ys)) e);
+}
+
+-- ---- the column of SPIs
+
+key-is : (b : Bool) (own spi : ℕ) → ((if b then own + 1 else 0) == spi + 1) ≡ (b && (own == spi))
+key-is true own spi = grind (arith, nat_tests)
+key-is false own spi = grind (arith, nat_tests)
+
+spi-prefix : (spi : ℕ) (xs : List Half) → position_or_len (λ k. k == spi + 1) (map spi_key (entries_of xs)) ≡ position_or_len (is_half_of_spi spi) xs
+spi-prefix spi [] = refl
+spi-prefix spi (x ∷ xs) =
+    ap (λ b. cond (not b) (1 + position_or_len (λ k. k == spi + 1) (map spi_key (entries_of xs))) 0) (key-is (is_inbound x.entry.name) x.entry.spi spi)
+    ∙ ap (λ n. cond (not (is_half_of_spi spi x)) (1 + n) 0) (spi-prefix spi xs)
+
+keys-length : (f : SadEntry → ℕ) (xs : List Half) → length (map f (entries_of xs)) ≡ length xs
+keys-length f [] = refl
+keys-length f (x ∷ xs) = let ih = keys-length f xs in omega (arith, ih)
+
+pub spi-place : (spi : ℕ) (xs : List Half) → position (λ k. k == spi + 1) (map spi_key (entries_of xs)) ≡ position (is_half_of_spi spi) xs
+spi-place spi xs =
+    ap (λ n. cond (nat_lt n (length (map spi_key (entries_of xs)))) (Some n) None) (spi-prefix spi xs)
+    ∙ ap (λ l. cond (nat_lt (position_or_len (is_half_of_spi spi) xs) l) (Some (position_or_len (is_half_of_spi spi) xs)) None) (keys-length spi_key xs)
+
+pub spi-any : (spi : ℕ) (xs : List Half) → list_any (λ k. k == spi + 1) (map spi_key (entries_of xs)) ≡ list_any (is_half_of_spi spi) xs
+spi-any spi [] = refl
+spi-any spi (x ∷ xs) =
+    ap (λ b. b || list_any (λ k. k == spi + 1) (map spi_key (entries_of xs))) (key-is (is_inbound x.entry.name) x.entry.spi spi)
+    ∙ ap (λ b. is_half_of_spi spi x || b) (spi-any spi xs)
+
+-- ---- the column of reqids
+
+pub mapped-at : (f : Half → Bool) (xs : List Half) (i : ℕ) (d : Half) → i < length xs → option_map f (slice_get xs i) ≡ Some (f (get_or xs i d))
+mapped-at f [] i d e = absurd (omega arith)
+mapped-at f (x ∷ xs) zero d e = refl
+mapped-at f (x ∷ xs) (suc i) d e = mapped-at f xs i d (omega arith)
+
+-- a half with another reqid doesn't seal
+other-by : (a b c : Bool) → b ≡ false → (a && (b && c)) ≡ false
+other-by true b c e = ap (λ x. x && c) e
+other-by false b c e = refl
+
+pub seal-other : (r : ℕ) (v : Packet) (xs : List Half) (i k : ℕ) → i < length xs → (get_or (map reqid_key (entries_of xs)) i k == r) ≡ false →
+    option_map (λ x. may_seal r v x.entry) (slice_get xs i) ≡ Some false
+seal-other r v [] i k e other = absurd (omega arith)
+seal-other r v (x ∷ xs) zero k e other = ap Some (other-by (not (is_inbound x.entry.name)) (x.entry.reqid == r) (holds_packet x.entry.selector Out v) other)
+seal-other r v (x ∷ xs) (suc i) k e other = seal-other r v xs i k (omega arith) other
+
+take-last : (xs : List Half) (i : ℕ) (d : Half) → i < length xs → take (suc i) xs ≡ take i xs ++ get_or xs i d ∷ []
+take-last [] i d e = absurd (omega arith)
+take-last (x ∷ xs) zero d e = refl
+take-last (x ∷ xs) (suc i) d e = ap (λ ys. x ∷ ys) (take-last xs i d (omega arith))
+
+seal-later : (r : ℕ) (v : Packet) (y : Half) (b : Bool) (place : Option ℕ) (n : ℕ) →
+    later_place r v y (if b then Some n else place) ≡ (if b then Some (n + 1) else later_place r v y place)
+seal-later r v y true place n = refl
+seal-later r v y false place n = refl
+
+newest-end : (r : ℕ) (v : Packet) (xs : List Half) (x : Half) → newest_place r v (xs ++ x ∷ []) ≡ (if may_seal r v x.entry then Some (length xs) else newest_place r v xs)
+newest-end r v [] x = refl
+newest-end r v (y ∷ xs) x =
+    ap (later_place r v y) (newest-end r v xs x) ∙ (seal-later r v y (may_seal r v x.entry) (newest_place r v xs) (length xs)
+    ∙ ap (λ n. if may_seal r v x.entry then Some n else later_place r v y (newest_place r v xs)) (omega arith))
+
+length-take : (xs : List Half) (i : ℕ) → i < length xs → length (take i xs) ≡ i
+length-take [] i e = absurd (omega arith)
+length-take (x ∷ xs) zero e = refl
+length-take (x ∷ xs) (suc i) e = let ih = length-take xs i (omega arith) in omega (arith, ih)
+
+seals-there : (r : ℕ) (v : Packet) (xs : List Half) (i : ℕ) (d : Half) (b : Bool) → i < length xs → option_map (λ x. may_seal r v x.entry) (slice_get xs i) ≡ Some b →
+    may_seal r v (get_or xs i d).entry ≡ b
+seals-there r v [] i d b e is = absurd (omega arith)
+seals-there r v (x ∷ xs) zero d b e is = cc
+seals-there r v (x ∷ xs) (suc i) d b e is = seals-there r v xs i d b (omega arith) is
+
+-- the newest place among the first halves, one more of which is looked at
+newest-more : (r : ℕ) (v : Packet) (xs : List Half) (i : ℕ) (d : Half) (b : Bool) → i < length xs → option_map (λ x. may_seal r v x.entry) (slice_get xs i) ≡ Some b →
+    newest_place r v (take (i + 1) xs) ≡ (if b then Some i else newest_place r v (take i xs))
+newest-more r v xs i d b e is =
+    let next : i + 1 ≡ suc i = omega arith in
+    ap (λ n. newest_place r v (take n xs)) next
+    ∙ (ap (newest_place r v) (take-last xs i d e)
+    ∙ (newest-end r v (take i xs) (get_or xs i d)
+    ∙ (ap (λ n. if may_seal r v (get_or xs i d).entry then Some n else newest_place r v (take i xs)) (length-take xs i e)
+    ∙ ap (λ c. if c then Some i else newest_place r v (take i xs)) (seals-there r v xs i d b e is))))
+
+first-of : (xs : List Half) (i : ℕ) → i < length xs → Half
+first-of [] i e = absurd (omega arith)
+first-of (x ∷ xs) i e = x
+
+pub newest-back : (r : ℕ) (v : Packet) (xs : List Half) (i j : ℕ) (b : Bool) → j + 1 ≡ i → j < length xs → newest_place r v xs ≡ newest_place r v (take i xs) →
+    option_map (λ x. may_seal r v x.entry) (slice_get xs j) ≡ Some b → newest_place r v xs ≡ (if b then Some j else newest_place r v (take j xs))
+newest-back r v xs i j b next e rest is =
+    rest ∙ (ap (λ n. newest_place r v (take n xs)) (sym next) ∙ newest-more r v xs j (first-of xs j e) b e is)
 
 -- ---- the newest half
 

@@ -1,10 +1,11 @@
 // Halves in a list.
-ghost use Rattle.std.specs.Prelude.{◌≡◌, ◌<◌, position, length, IfSome};
+ghost use Rattle.std.specs.Prelude.{◌≡◌, ◌+◌, ◌<◌, ◌==◌, Some, length, position, map, slice_get};
+ghost use Rattle.std.specs.Option.{option_map};
 ghost use Rattle.std.specs.List.{list_any};
 ghost use Rattle.ip_packet.specs.View.{seen};
 ghost use Rattle.ikeless_tree.specs.Half.{is_inbound};
-ghost use Rattle.sad_store.specs.Halves.{halves_without, has_half_named, is_half_named, is_half_of_spi, is_spi_taken, may_seal, newest_place};
-ghost use Rattle.sad_store.specs.Kept.{IsKept};
+ghost use Rattle.sad_store.specs.Halves.{entries_of, halves_without, has_half_named, is_half_named, may_seal, newest_place};
+ghost use Rattle.sad_store.specs.Kept.{IsKept, reqid_key, spi_key};
 
 use crate::half::Half;
 use ikeless_tree::{Direction, SadEntry};
@@ -13,7 +14,7 @@ use ip_packet::View;
 use spd_match::holds;
 
 // The direction of a half is the front of its name.
-fn comes_in(name: &Name) -> bool
+pub(crate) fn comes_in(name: &Name) -> bool
     ensures { result ≡ is_inbound name.now }
 {
     name.as_slice().strip_prefix(b"in/".as_slice()).is_some()
@@ -31,28 +32,33 @@ pub(crate) fn is_taken(halves: &[Half], name: &[u8]) -> bool
     halves.iter().any(|x| x.entry.name.as_slice() == name)
 }
 
-fn is_of_spi(half: &Half, spi: u32) -> bool
-    ensures { result ≡ is_half_of_spi spi half.now }
+pub(crate) fn key_of(e: &SadEntry) -> u64
+    ensures { result ≡ spi_key e.now }
 {
-    comes_in(&half.entry.name) && half.entry.spi == spi
+    if comes_in(&e.name) {
+        u64::from(e.spi) + 1
+    } else {
+        0
+    }
 }
 
-pub(crate) fn place_of_spi(halves: &[Half], spi: u32) -> Option<usize>
-    ensures { result ≡ position (is_half_of_spi spi) halves.now }
+fn place_in(column: &[u64], key: u64) -> Option<usize>
+    ensures { result ≡ position (λ k. k == key) column.now }
 {
-    halves.iter().position(|x| is_of_spi(x, spi))
+    column.iter().position(|k| *k == key)
 }
 
-fn has_spi(halves: &[Half], spi: u32) -> bool
-    ensures { result ≡ list_any (is_half_of_spi spi) halves.now }
+// Where the inbound half with this SPI is, by the column of SPIs.
+pub(crate) fn place_of_spi(spis: &[u64], spi: u32) -> Option<usize>
+    ensures { result ≡ position (λ k. k == spi + 1) spis.now }
 {
-    halves.iter().any(|x| is_of_spi(x, spi))
+    place_in(spis, u64::from(spi) + 1)
 }
 
-pub(crate) fn meets_spi(halves: &[Half], e: &SadEntry) -> bool
-    ensures { result ≡ is_spi_taken e.now halves.now }
+pub(crate) fn has_key(column: &[u64], key: u64) -> bool
+    ensures { result ≡ list_any (λ k. k == key) column.now }
 {
-    comes_in(&e.name) && has_spi(halves, e.spi)
+    column.iter().any(|k| *k == key)
 }
 
 fn seals(entry: &SadEntry, reqid: u64, v: &View) -> bool
@@ -61,35 +67,53 @@ fn seals(entry: &SadEntry, reqid: u64, v: &View) -> bool
     !comes_in(&entry.name) && entry.reqid == reqid && holds(&entry.selector, Direction::Out, v)
 }
 
-pub(crate) fn newest_of(halves: &[Half], reqid: u64, v: &View) -> Option<usize>
-    ensures place { result ≡ newest_place reqid (seen v.now) halves.now }
-    ensures within { IfSome result (λ i. i < length halves.now) }
+fn seals_at(halves: &[Half], reqids: &[u64], i: usize, reqid: u64, v: &View) -> bool
+    requires column { reqids.now ≡ map reqid_key (entries_of halves.now) }
+    requires within { i < length halves.now }
+    requires in_column { i < length reqids.now }
+    ensures { option_map (λ x. may_seal reqid (seen v.now) x.entry) (slice_get halves.now i) ≡ Some result }
 {
-    match halves {
-        [] => None,
-        [x, rest @ ..] => match newest_of(rest, reqid, v) {
-            Some(i) => Some(i + 1),
-            None => {
-                if seals(&x.entry, reqid, v) {
-                    Some(0)
-                } else {
-                    None
-                }
-            }
-        },
+    if reqids[i] != reqid {
+        return false;
     }
+    seals(&halves[i].entry, reqid, v)
 }
 
-// Takes the half of this name out. False where there is none.
-pub(crate) fn take_out(halves: &mut Vec<Half>, name: &Name) -> bool
-    requires { IsKept halves.old.items }
-    ensures kept { IsKept halves.new.items }
+// Where the newest such half is, by the column of `reqid`s.
+pub(crate) fn newest_of(halves: &[Half], reqids: &[u64], reqid: u64, v: &View) -> Option<usize>
+    requires column { reqids.now ≡ map reqid_key (entries_of halves.now) }
+    requires length { length reqids.now ≡ length halves.now }
+    ensures { result ≡ newest_place reqid (seen v.now) halves.now }
+{
+    let mut i = halves.len();
+    while i > 0 {
+        i -= 1;
+        if seals_at(halves, reqids, i, reqid, v) {
+            return Some(i);
+        }
+    }
+    None
+}
+
+// Takes the half of this name out, and what the columns have of it. False where there is none.
+pub(crate) fn take_out(
+    halves: &mut Vec<Half>,
+    spis: &mut Vec<u64>,
+    reqids: &mut Vec<u64>,
+    name: &Name,
+) -> bool
+    requires kept { IsKept halves.old.items spis.old.items reqids.old.items }
+    requires spis { length spis.old.items ≡ length halves.old.items }
+    requires reqids { length reqids.old.items ≡ length halves.old.items }
+    ensures kept { IsKept halves.new.items spis.new.items reqids.new.items }
     ensures found { result ≡ has_half_named name.now halves.old.items }
     ensures halves { halves.new.items ≡ halves_without name.now halves.old.items }
 {
     match place_of(halves, name.as_slice()) {
         None => false,
         Some(i) => {
+            spis.remove(i);
+            reqids.remove(i);
             let _gone = halves.remove(i);
             true
         }

@@ -7,7 +7,7 @@ ghost use Rattle.sad_store.specs.Kept.{IsKept};
 
 use crate::change::{hush, mark_at, number, tell_overflow, tick_at, use_at};
 use crate::fault::InstallFault;
-use crate::find::{is_taken, meets_spi, newest_of, place_of_spi, take_out};
+use crate::find::{comes_in, has_key, is_taken, key_of, newest_of, place_of_spi, take_out};
 use crate::half::Half;
 use ikeless_tree::{Names, SadEntry};
 use ikl_base::{Duplicate, Name, NoMemory};
@@ -23,6 +23,8 @@ const MOST: usize = 4096;
 #[derive(Debug, Drop)]
 pub struct SadStore {
     halves: Vec<Half>,
+    spis: Vec<u64>,
+    reqids: Vec<u64>,
 }
 
 impl Model for SadStore {
@@ -34,7 +36,7 @@ impl Model for SadStore {
 
     ghost view = { λ s. s.halves.items };
 
-    ghost invariant = { λ s. IsKept s.halves.items };
+    ghost invariant = { λ s. IsKept s.halves.items s.spis.items s.reqids.items };
 }
 
 // A half that is installed now, or the entry back.
@@ -57,33 +59,60 @@ fn begin(alloc: Global, e: SadEntry, now: u32) -> Result<Half, SadEntry>
     })
 }
 
-// One more half, for which there is room.
-fn push(halves: &mut Vec<Half>, half: Half)
-    requires { vec_len halves.old < vec_capacity halves.old }
-    ensures { halves.new.items ≡ halves.old.items ++ half ∷ [] }
+// One more item, for which there is room.
+fn push<T: Drop>(items: &mut Vec<T>, item: T)
+    requires { vec_len items.old < vec_capacity items.old }
+    ensures { items.new.items ≡ items.old.items ++ item ∷ [] }
 {
-    match halves.push(half) {
+    match items.push(item) {
         Ok(()) => {}
         Err(_) => unreachable!(),
     }
 }
 
+// Room for one more in each list.
+fn make_room(
+    halves: &mut Vec<Half>,
+    spis: &mut Vec<u64>,
+    reqids: &mut Vec<u64>,
+) -> Result<(), NoMemory>
+    ensures halves { halves.new.items ≡ halves.old.items }
+    ensures spis { spis.new.items ≡ spis.old.items }
+    ensures reqids { reqids.new.items ≡ reqids.old.items }
+    ensures more_halves { OnOk result (vec_len halves.new < vec_capacity halves.new) }
+    ensures more_spis { OnOk result (vec_len spis.new < vec_capacity spis.new) }
+    ensures more_reqids { OnOk result (vec_len reqids.new < vec_capacity reqids.new) }
+{
+    halves.reserve(1)?;
+    spis.reserve(1)?;
+    reqids.reserve(1)?;
+    Ok(())
+}
+
 // One more half that is installed now, or the entry back.
-fn add(halves: &mut Vec<Half>, e: SadEntry, now: u32) -> Result<(), SadEntry>
+fn add(
+    halves: &mut Vec<Half>,
+    spis: &mut Vec<u64>,
+    reqids: &mut Vec<u64>,
+    e: SadEntry,
+    now: u32,
+) -> Result<(), SadEntry>
     requires sound { sad_fault e ≡ None }
-    requires kept { IsKept halves.old.items }
+    requires kept { IsKept halves.old.items spis.old.items reqids.old.items }
     requires free { has_half_named e.name halves.old.items ≡ false }
-    ensures kept { IsKept halves.new.items }
+    ensures kept { IsKept halves.new.items spis.new.items reqids.new.items }
     ensures ok { OnOk result (halves.new.items ≡ halves.old.items ++ fresh now e ∷ []) }
     ensures err { OnErr result (halves.new.items ≡ halves.old.items) }
     ensures given { IfErr result (λ given. given ≡ e) }
 {
-    if halves.reserve(1).is_err() {
+    if make_room(halves, spis, reqids).is_err() {
         return Err(e);
     }
     match begin(*halves.allocator(), e, now) {
         Err(e) => Err(e),
         Ok(half) => {
+            push(spis, key_of(&half.entry));
+            push(reqids, half.entry.reqid);
             push(halves, half);
             Ok(())
         }
@@ -104,7 +133,7 @@ impl SadStore {
     ghost use Rattle.replay_win.specs.Marks.{judged};
     ghost use Rattle.replay_win.specs.declared.verdict.Verdict.TheVariants.{Fresh};
     ghost use Rattle.life_count.specs.Lifetime.{counted, event_at};
-    ghost use Rattle.sad_store.specs.Halves.{changed, fresh, has_half_named, half_by_spi, halves_without, hushed, is_half_of_spi, look_at, mark_number, names_of, newest_half, newest_place, number_next, use_half, with_overflow};
+    ghost use Rattle.sad_store.specs.Halves.{changed, fresh, has_half_named, is_spi_taken, half_by_spi, halves_without, hushed, is_half_of_spi, look_at, mark_number, names_of, newest_half, newest_place, number_next, use_half, with_overflow};
     ghost use Rattle.sad_store.specs.Install.{install_fault, IsInstallFault};
 
     /// No halves.
@@ -113,7 +142,16 @@ impl SadStore {
     {
         SadStore {
             halves: Vec::new(alloc),
+            spis: Vec::new(alloc),
+            reqids: Vec::new(alloc),
         }
+    }
+
+    // An inbound half has the SPI of this entry, which is inbound.
+    fn has_spi_of(&self, e: &SadEntry) -> bool
+        ensures { result ≡ is_spi_taken e.now self.now }
+    {
+        comes_in(&e.name) && has_key(&self.spis, u64::from(e.spi) + 1)
     }
 
     /// Installs a half, as the last one, at this clock.
@@ -130,13 +168,13 @@ impl SadStore {
         if is_taken(&self.halves, e.name.as_slice()) {
             return Err(InstallFault::NameTaken(e));
         }
-        if meets_spi(&self.halves, &e) {
+        if self.has_spi_of(&e) {
             return Err(InstallFault::SpiTaken(e));
         }
         if self.halves.len() >= MOST {
             return Err(InstallFault::Full(e));
         }
-        match add(&mut self.halves, e, now) {
+        match add(&mut self.halves, &mut self.spis, &mut self.reqids, e, now) {
             Ok(()) => Ok(()),
             Err(e) => Err(InstallFault::NoMemory(e)),
         }
@@ -147,7 +185,7 @@ impl SadStore {
         ensures found { result ≡ has_half_named name.now self.old }
         ensures halves { self.new ≡ halves_without name.now self.old }
     {
-        take_out(&mut self.halves, name)
+        take_out(&mut self.halves, &mut self.spis, &mut self.reqids, name)
     }
 
     /// Where the newest outbound half with this `reqid` is whose selector holds the packet (RFC 4301 section 5.1).
@@ -155,7 +193,7 @@ impl SadStore {
         ensures place { result ≡ newest_place reqid (seen v.now) self.now }
         ensures half { option_and_then (slice_get self.now) result ≡ newest_half reqid (seen v.now) self.now }
     {
-        newest_of(&self.halves, reqid, v)
+        newest_of(&self.halves, &self.reqids, reqid, v)
     }
 
     /// Where the inbound half with this SPI is (RFC 4301 section 4.1).
@@ -163,7 +201,7 @@ impl SadStore {
         ensures place { result ≡ position (is_half_of_spi spi) self.now }
         ensures half { option_and_then (slice_get self.now) result ≡ half_by_spi spi self.now }
     {
-        place_of_spi(&self.halves, spi)
+        place_of_spi(&self.spis, spi)
     }
 
     pub fn half(&self, i: usize) -> &Half

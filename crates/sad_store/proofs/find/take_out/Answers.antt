@@ -20,9 +20,12 @@ returns-in-None-clause-halves c =
 pub returns-in-Some-clause-kept : goal.returns-in-Some-clause-kept
 returns-in-Some-clause-kept c =
     let name = c.args.name.now in
+    let xs = c.args.halves.now.items in
     let place : c.place_of.result ≡ position (is_half_named name) c.args.halves.now.items =
     c.place_of.ensures ∙ (ap (λ n. position (is_half_named n) c.deref.result.now) c.as_slice.ensures ∙ ap (position (is_half_named name)) c.deref.ensures.value) in
-    rw (c.remove-gone.ensures.items, removed-there name c.args.halves.now.items c.in-Some.i c.requires (sym place ∙ c.in-Some.is)) (kept-without name c.args.halves.now.items c.requires)
+    let gone = removed-there name xs c.in-Some.i c.requires.kept.apart (sym place ∙ c.in-Some.is) in
+    rw (c.remove-gone.ensures.items, c.remove.ensures.items, c.remove-in-Some.ensures.items, gone)
+    (kept-without name xs c.args.spis.now.items c.args.reqids.now.items c.in-Some.i c.requires.kept gone)
 
 pub returns-in-Some-clause-found : goal.returns-in-Some-clause-found
 returns-in-Some-clause-found c =
@@ -36,4 +39,4 @@ returns-in-Some-clause-halves c =
     let name = c.args.name.now in
     let place : c.place_of.result ≡ position (is_half_named name) c.args.halves.now.items =
     c.place_of.ensures ∙ (ap (λ n. position (is_half_named n) c.deref.result.now) c.as_slice.ensures ∙ ap (position (is_half_named name)) c.deref.ensures.value) in
-    c.remove-gone.ensures.items ∙ removed-there name c.args.halves.now.items c.in-Some.i c.requires (sym place ∙ c.in-Some.is)
+    c.remove-gone.ensures.items ∙ removed-there name c.args.halves.now.items c.in-Some.i c.requires.kept.apart (sym place ∙ c.in-Some.is)

@@ -1,5 +1,0 @@
-use Rattle.std.proofs.Common.{length}
-use Rattle.sad_store.proofs.find.+newest_of.Given as goal
-
-abbrev pub decreases-newest_of : goal.decreases-newest_of
-decreases-newest_of l = length l.halves.now
