@@ -204,6 +204,7 @@ impl SadStore {
         place_of_spi(&self.spis, spi)
     }
 
+    /// The half at this place in the order of installation.
     pub fn half(&self, i: usize) -> &Half
         requires { i < length self.now }
         ensures { slice_get self.now i ≡ Some result.now }
