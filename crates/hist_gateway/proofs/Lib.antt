@@ -11,3 +11,4 @@ pub mod DeliveryLemmas
 pub mod TreeLemmas
 pub mod SessionsLemmas
 pub mod OwnLemmas
+pub mod Expiries

@@ -12,3 +12,4 @@ pub mod May
 pub mod Machine
 pub mod Safe
 pub mod Answers
+pub mod Expiries

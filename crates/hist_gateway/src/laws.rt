@@ -1,9 +1,9 @@
 // Laws for the crates above: each is the contract of a function with an empty body, or one that only calls such functions.
-ghost use Rattle.std.specs.Prelude.{◌≡◌, ℕ, true, false, List, [], ◌∷◌, ◌++◌, Some, Ok, Result, ◌&&◌, nat_le};
+ghost use Rattle.std.specs.Prelude.{◌≡◌, ℕ, true, false, List, [], ◌∷◌, ◌++◌, Some, Ok, Result, ◌&&◌, nat_le, nat_lt, max};
 ghost use Rattle.std.specs.List.{list_any};
 ghost use Rattle.std.specs.Str.{bytes_eq};
 ghost use Rattle.hist_acts.specs.declared.act.Act.{Act};
-ghost use Rattle.hist_acts.specs.Past.{after};
+ghost use Rattle.hist_acts.specs.Past.{after, clock};
 ghost use Rattle.hist_halves.specs.Halves.{live, is_live, numbers_taken, sent};
 ghost use Rattle.hist_gateway.specs.Stands.{does_acquire_stand, was_soft_given, does_soft_stand, was_overflow_given, does_overflow_stand};
 ghost use Rattle.hist_gateway.specs.Uses.{was_number_sent, was_taken};
@@ -20,6 +20,8 @@ ghost use Rattle.hist_gateway.specs.State.{state_of, did, acquires, quiet};
 ghost use Rattle.hist_gateway.specs.Machine.{acts_of, empty, next, run};
 ghost use Rattle.hist_gateway.specs.May.{has_half, IsNewHalf, GatewayMayActAll, IsGatewayPast, AreInstalled, AreNumbered, AreHalves, is_boot, IsHalfFor, IsHalfOf, IsDelivery};
 ghost use Rattle.hist_gateway.specs.Let.{newest};
+ghost use Rattle.hist_gateway.specs.Expiries.{is_hard_end, is_hard_expiry, is_soft_expiry, reaches_hard, reaches_soft};
+ghost use Rattle.hist_gateway.specs.Look.{look};
 ghost use Rattle.hist_gateway.specs.Arrive.{use_acts};
 ghost use Rattle.hist_gateway.specs.Datagram.{datagram};
 ghost use Rattle.hist_halves.specs.Sealed.{by_spi, esp_of, number_of, next_header};
@@ -150,4 +152,15 @@ pub fn answers()
     ensures clock { (c : Gateway) (h : List Act) (t : ℕ) → list_any is_answer (gw_block c h (Clock t)) ≡ false }
     ensures request { (c : Gateway) (h : List Act) (request : Result Ask Fault) → list_any is_answer (gw_block c h (Handle request)) ≡ false }
     ensures session { (c : Gateway) (h : List Act) → list_any is_answer (gw_block c h Session_taken) ≡ false }
+{}
+
+/// A half is gone at a hard limit, and an expiry is told, exactly where the counts of a half that is looked at have reached a
+/// limit: at each look, which follows each use of a half, and at each reading that raises the clock, over all live halves.
+pub fn expires_where_reached()
+    ensures ends { (g x : List ℕ) (h : List Act) (es : List SadEntry) → list_any (is_hard_end x) (look g h es) ≡ list_any (reaches_hard g h x) es }
+    ensures hard { (g x : List ℕ) (h : List Act) (es : List SadEntry) → list_any (is_hard_expiry x) (look g h es) ≡ list_any (reaches_hard g h x) es }
+    ensures soft { (g x : List ℕ) (h : List Act) (es : List SadEntry) → list_any (is_soft_expiry x) (look g h es) ≡ list_any (reaches_soft g h x) es }
+    ensures clock_ends { (c : Gateway) (h : List Act) (t : ℕ) (x : List ℕ) → list_any (is_hard_end x) (gw_block c h (Clock t)) ≡ (nat_lt (clock h) t && list_any (reaches_hard c.name (acts.Now (max t (clock h)) ∷ h) x) (live c.name h)) }
+    ensures clock_hard { (c : Gateway) (h : List Act) (t : ℕ) (x : List ℕ) → list_any (is_hard_expiry x) (gw_block c h (Clock t)) ≡ (nat_lt (clock h) t && list_any (reaches_hard c.name (acts.Now (max t (clock h)) ∷ h) x) (live c.name h)) }
+    ensures clock_soft { (c : Gateway) (h : List Act) (t : ℕ) (x : List ℕ) → list_any (is_soft_expiry x) (gw_block c h (Clock t)) ≡ (nat_lt (clock h) t && list_any (reaches_soft c.name (acts.Now (max t (clock h)) ∷ h) x) (live c.name h)) }
 {}

@@ -4,6 +4,6 @@
 mod laws;
 
 pub use laws::{
-    answers, blocks_follow, counts_requests, delivers, goes_on, halves, is_every_history_safe,
-    keeps, readings, requests_change, sealed, stays_elsewhere, steps,
+    answers, blocks_follow, counts_requests, delivers, expires_where_reached, goes_on, halves,
+    is_every_history_safe, keeps, readings, requests_change, sealed, stays_elsewhere, steps,
 };
