@@ -12,3 +12,6 @@ pub mod TreeLemmas
 pub mod SessionsLemmas
 pub mod OwnLemmas
 pub mod Expiries
+pub mod PlacesLemmas
+pub mod BetweenLemmas
+pub mod LooksLemmas

@@ -13,3 +13,4 @@ pub mod Machine
 pub mod Safe
 pub mod Answers
 pub mod Expiries
+pub mod Places

@@ -1,5 +1,5 @@
 // Laws for the crates above: each is the contract of a function with an empty body, or one that only calls such functions.
-ghost use Rattle.std.specs.Prelude.{◌≡◌, ℕ, true, false, List, [], ◌∷◌, ◌++◌, Some, Ok, Result, ◌&&◌, nat_le, nat_lt, max};
+ghost use Rattle.std.specs.Prelude.{◌≡◌, ℕ, true, false, List, [], ◌∷◌, ◌++◌, Some, Ok, Result, ◌&&◌, map, max, nat_le, nat_lt, slice_get, take};
 ghost use Rattle.std.specs.List.{list_any};
 ghost use Rattle.std.specs.Str.{bytes_eq};
 ghost use Rattle.hist_acts.specs.declared.act.Act.{Act};
@@ -16,8 +16,17 @@ ghost use Rattle.hist_acts.specs.Sessions as sessions;
 ghost use Rattle.reply_table.specs.declared.ask.Ask.{Ask};
 ghost use Rattle.reply_table.specs.Reply.{reply};
 ghost use Rattle.hist_gateway.specs.Rows.{tree_of};
-ghost use Rattle.hist_gateway.specs.State.{state_of, did, acquires, quiet};
-ghost use Rattle.hist_gateway.specs.Machine.{acts_of, empty, next, run};
+ghost use Rattle.hist_gateway.specs.State.{GatewayState, state_of, did, did_all, acquires, quiet, with_halves, note, sent_under, given_under, opened_under};
+ghost use Rattle.hist_gateway.specs.Places.{names_reached, softly_told, without_all};
+ghost use Rattle.hist_gateway.specs.Uses.{octets_in, number_in};
+ghost use Rattle.sad_store.specs.declared.half.Half.{Half};
+ghost use Rattle.sad_store.specs.Halves.{changed, entries_of, look_at, names_of, send, take_number, with_overflow};
+ghost use Rattle.sad_store.specs.Kept.{are_names_apart};
+ghost use Rattle.esp_frame.specs.Esp.{spi_of};
+ghost use Rattle.ikeless_tree.specs.declared.sad.Limits.{Limits};
+ghost use Rattle.ikeless_tree.specs.declared.entry.Selector.{Selector};
+ghost use Rattle.ikeless_tree.specs.declared.order.Notice.TheVariants as notices;
+ghost use Rattle.hist_gateway.specs.Machine.{acts_of, empty, look_of, next, run};
 ghost use Rattle.hist_gateway.specs.May.{has_half, IsNewHalf, GatewayMayActAll, IsGatewayPast, AreInstalled, AreNumbered, AreHalves, is_boot, IsHalfFor, IsHalfOf, IsDelivery};
 ghost use Rattle.hist_gateway.specs.Let.{newest};
 ghost use Rattle.hist_gateway.specs.Expiries.{is_hard_end, is_hard_expiry, is_soft_expiry, reaches_hard, reaches_soft};
@@ -163,4 +172,41 @@ pub fn expires_where_reached()
     ensures clock_ends { (c : Gateway) (h : List Act) (t : ℕ) (x : List ℕ) → list_any (is_hard_end x) (gw_block c h (Clock t)) ≡ (nat_lt (clock h) t && list_any (reaches_hard c.name (acts.Now (max t (clock h)) ∷ h) x) (live c.name h)) }
     ensures clock_hard { (c : Gateway) (h : List Act) (t : ℕ) (x : List ℕ) → list_any (is_hard_expiry x) (gw_block c h (Clock t)) ≡ (nat_lt (clock h) t && list_any (reaches_hard c.name (acts.Now (max t (clock h)) ∷ h) x) (live c.name h)) }
     ensures clock_soft { (c : Gateway) (h : List Act) (t : ℕ) (x : List ℕ) → list_any (is_soft_expiry x) (gw_block c h (Clock t)) ≡ (nat_lt (clock h) t && list_any (reaches_soft c.name (acts.Now (max t (clock h)) ∷ h) x) (live c.name h)) }
+{}
+
+/// What acts make of the halves, by the place of the half: no two have one name, and the half that an act names stands at that place.
+///
+/// A notice of a hard limit, of a flow without a half, or of an SPI leaves every half as it is.
+pub fn places()
+    ensures sent { (now size i : ℕ) (x : Half) (xs : List Half) → are_names_apart (names_of xs) ≡ true → slice_get xs i ≡ Some x →
+        map (sent_under x.entry.name now size) xs ≡ changed (send now size) i xs }
+    ensures given { (now size n i : ℕ) (x : Half) (xs : List Half) → are_names_apart (names_of xs) ≡ true → slice_get xs i ≡ Some x →
+        map (given_under x.entry.name now size n) xs ≡ changed (take_number now size n) i xs }
+    ensures opened { (o : List ℕ) (now i : ℕ) (x : Half) (xs : List Half) → are_names_apart (names_of xs) ≡ true → slice_get xs i ≡ Some x →
+        by_spi (spi_of (esp_of o)) (entries_of xs) ≡ Some x.entry →
+        map (opened_under (entries_of xs) (Some o) now) xs ≡ changed (take_number now (octets_in (Some o)) (number_in (Some o))) i xs }
+    ensures overflow { (i : ℕ) (x : Half) (xs : List Half) → are_names_apart (names_of xs) ≡ true → slice_get xs i ≡ Some x →
+        map (note (notices.SeqOverflow x.entry.name)) xs ≡ changed (with_overflow true) i xs }
+    ensures soft { (counts : Limits) (i : ℕ) (x : Half) (xs : List Half) → are_names_apart (names_of xs) ≡ true → slice_get xs i ≡ Some x →
+        map (note (notices.Expire x.entry.name true counts)) xs ≡ changed softly_told i xs }
+    ensures hard { (name : List ℕ) (counts : Limits) (xs : List Half) → map (note (notices.Expire name false counts)) xs ≡ xs }
+    ensures acquire { (name : List ℕ) (flow : Selector) (xs : List Half) → map (note (notices.Acquire name flow)) xs ≡ xs }
+    ensures bad_spi { (spi : ℕ) (xs : List Half) → map (note (notices.BadSpi spi)) xs ≡ xs }
+{}
+
+/// Between events nothing that arrived waits: the acts of an event, and what is kept after it, are the same whatever datagram had no
+/// answer before it.
+pub fn between()
+    ensures acts { (c : Gateway) (s : GatewayState) (e : GatewayEvent) → acts_of c (quiet s) e ≡ acts_of c s e }
+    ensures keeps { (c : Gateway) (s : GatewayState) (e : GatewayEvent) → next c (quiet s) e ≡ next c s e }
+{}
+
+/// What a look makes of the halves: those that reached a hard limit are gone, and of the others what was told is kept. It is one look
+/// at all halves, or one at the half of a place, and at most 64 SPIs are kept.
+pub fn looks_at_places()
+    ensures all { (g : List ℕ) (t : ℕ) (s : GatewayState) → are_names_apart (names_of s.halves) ≡ true → take 64 s.bad_spis ≡ s.bad_spis →
+        did_all g (quiet s) (look_of g t s.clock s.halves) ≡ with_halves (without_all (names_reached s.clock s.halves) (map (look_at s.clock) s.halves)) s }
+    ensures one { (g : List ℕ) (t i : ℕ) (x : Half) (s : GatewayState) → are_names_apart (names_of s.halves) ≡ true → take 64 s.bad_spis ≡ s.bad_spis →
+        slice_get s.halves i ≡ Some x →
+        did_all g (quiet s) (look_of g t s.clock (x ∷ [])) ≡ with_halves (without_all (names_reached s.clock (x ∷ [])) (changed (look_at s.clock) i s.halves)) s }
 {}

@@ -4,6 +4,7 @@
 mod laws;
 
 pub use laws::{
-    answers, blocks_follow, counts_requests, delivers, expires_where_reached, goes_on, halves,
-    is_every_history_safe, keeps, readings, requests_change, sealed, stays_elsewhere, steps,
+    answers, between, blocks_follow, counts_requests, delivers, expires_where_reached, goes_on,
+    halves, is_every_history_safe, keeps, looks_at_places, places, readings, requests_change,
+    sealed, stays_elsewhere, steps,
 };
