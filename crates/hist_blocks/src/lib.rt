@@ -1,0 +1,6 @@
+//! The blocks of a history of the whole: one for each event, and where a forged arrival ends it.
+#![tactic(auto)]
+
+mod laws;
+
+pub use laws::{ends_with_a_forgery, goes_on_event_by_event, is_made_of_blocks};
