@@ -172,12 +172,15 @@ serial-is front name = by-length (nat_lt (length name) (length front)) refl
     by-size : (m : ℕ) (b : Bool) → nat_le m 4294967295 ≡ b → length front ≤ length name → bytes_eq (take (length front) name) front ≡ true → u64_of (drop (length front) name) ≡ Ok m → IsSerialAfter front name (if b then Some m else None)
     by-size m true s l e u = λ k low. one-number front name (take (length front) name) (drop (length front) name) m refl refl e u again k low
     by-size m false s l e u = λ k low. large-number front name (take (length front) name) (drop (length front) name) m refl refl e u again (grind (arith, common_steps)) k low
+
     by-number : (r : Result ℕ BadValue) → length front ≤ length name → bytes_eq (take (length front) name) front ≡ true → u64_of (drop (length front) name) ≡ r → IsSerialAfter front name (number_or_none r)
     by-number (Ok m) l e u = by-size m (nat_le m 4294967295) refl l e u
     by-number (Err bad) l e u = λ k low. no-number front name (take (length front) name) (drop (length front) name) bad refl refl e u again k low
+
     by-front : (b : Bool) → length front ≤ length name → bytes_eq (take (length front) name) front ≡ b → IsSerialAfter front name (if b then number_or_none (u64_of (drop (length front) name)) else None)
     by-front true l e = by-number (u64_of (drop (length front) name)) l e refl
     by-front false l e = λ k low. differs front name (take (length front) name) (drop (length front) name) refl refl (grind (arith, common_steps)) e k
+
     by-length : (b : Bool) → nat_lt (length name) (length front) ≡ b → IsSerialAfter front name (if b then None else if bytes_eq (take (length front) name) front then number_or_none (u64_of (drop (length front) name)) else None)
     by-length true e = λ k low. short-name front name (decimal k) (grind arith)
     by-length false e = by-front (bytes_eq (take (length front) name) front) (grind arith) refl
@@ -188,6 +191,7 @@ low-serial front name m = by-length (nat_lt (length name) (length front)) (bytes
     by-size : (n : ℕ) (b : Bool) → nat_le n 4294967295 ≡ b → (if b then Some n else None) ≡ Some m → m < 2 ^ 32
     by-size n true s e = let q : n ≡ m = cc in grind arith
     by-size n false s e = cc
+
     by-length : (a b : Bool) (r : Result ℕ BadValue) → (if a then None else if b then number_or_none r else None) ≡ Some m → m < 2 ^ 32
     by-length true b r e = cc
     by-length false false r e = cc

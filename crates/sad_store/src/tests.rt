@@ -153,18 +153,41 @@ fn counts_of_each_half(rt: HostRuntime) -> Result<(), Fail> {
     Ok(())
 }
 
+fn used(store: &mut SadStore, i: usize, bytes: u64, now: u32) -> Option<LifeEvent> {
+    if i < store.len() {
+        Some(store.used(i, bytes, now))
+    } else {
+        None
+    }
+}
+
+fn tick(store: &mut SadStore, i: usize, now: u32) -> Option<LifeEvent> {
+    if i < store.len() {
+        Some(store.tick(i, now))
+    } else {
+        None
+    }
+}
+
+fn overflow(store: &mut SadStore, i: usize) -> Option<bool> {
+    if i < store.len() {
+        Some(store.overflow(i))
+    } else {
+        None
+    }
+}
+
 #[test]
 fn tells_once_in_a_session(rt: HostRuntime) -> Result<(), Fail> {
     let alloc = rt.alloc();
     let mut store = SadStore::new(alloc);
     assert_eq!(rt; put(&mut store, entry(alloc, "out/1", 300)?), "installed");
-    assert_eq!(rt; store.len(), 1);
-    assert_eq!(rt; store.used(0, 88, 3), LifeEvent::Soft);
-    assert_eq!(rt; store.tick(0, 4), LifeEvent::Nothing);
-    assert!(rt; store.overflow(0));
-    assert!(rt; !store.overflow(0));
+    assert_eq!(rt; used(&mut store, 0, 88, 3), Some(LifeEvent::Soft));
+    assert_eq!(rt; tick(&mut store, 0, 4), Some(LifeEvent::Nothing));
+    assert_eq!(rt; overflow(&mut store, 0), Some(true));
+    assert_eq!(rt; overflow(&mut store, 0), Some(false));
     store.session();
-    assert!(rt; store.overflow(0));
-    assert_eq!(rt; store.tick(0, 4), LifeEvent::Soft);
+    assert_eq!(rt; overflow(&mut store, 0), Some(true));
+    assert_eq!(rt; tick(&mut store, 0, 4), Some(LifeEvent::Soft));
     Ok(())
 }
