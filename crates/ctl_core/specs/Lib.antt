@@ -1,0 +1,6 @@
+pub mod Core
+pub mod Drafts
+pub mod Changes
+pub mod Pass
+pub mod Step
+pub mod Room
