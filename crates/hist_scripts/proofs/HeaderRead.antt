@@ -136,8 +136,8 @@ words-read (world ∷ last ∷ number ∷ gateways) h is =
     (λ _ more. after P (seq_last_of number) _ h more
     (λ n low more2. after P (gateways_of gateways) _ h more2
     (λ ps read same.
-        let k = gateways-read gateways ps read in
-        subst IsHeader (inside _ h same) (record { numbers = last-read number n low; named = named ps (names-apart ps k.together); family = families ps k.whole k.together }))))
+    let k = gateways-read gateways ps read in
+    subst IsHeader (inside _ h same) (record { numbers = last-read number n low; named = named ps (names-apart ps k.together); family = families ps k.whole k.together }))))
 
 pub header-read : (line : List ℕ) (h : Header) → header_of line ≡ Ok h → IsHeader h
 unfolding header_of
