@@ -14,7 +14,7 @@ use Rattle.yang_values.proofs.NumberLemmas.{decimal_model, AreDigits}
 use Rattle.yang_values.specs.Numbers.{is_number, number_of, u64_of}
 use Rattle.yang_values.specs.declared.value.BadValue.{BadValue}
 use Rattle.yang_values.specs.declared.value.BadValue.TheVariants.{Form, Range}
-use Rattle.hist_controller.specs.Acts.{in_name, out_name}
+use Rattle.ikeless_tree.specs.Half.{in_name, out_name}
 use Rattle.ctl_tunnels.specs.declared.half.Side.TheVariants as sides
 use Rattle.ctl_tunnels.specs.Halves.{IsSerialAfter, IsHalfName, serial_after, number_or_none, half_by, half_named}
 use Rattle.yang_values.proofs.ValueText.{number_of-decimal}

@@ -8,7 +8,8 @@ use Rattle.std.specs.Map.{lookup}
 use Rattle.std.specs.Str.{bytes_eq}
 use Rattle.ikeless_tree.specs.Check.{is_key_length}
 use Rattle.ikeless_tree.specs.declared.command.Refusal.TheVariants as refusals
-use Rattle.hist_controller.specs.Law.{aes_part, is_seen}
+use Rattle.ikeless_tree.specs.Half.{aes_part}
+use Rattle.hist_controller.specs.Law.{is_seen}
 use Rattle.ctl_tunnels.specs.Rings.{key_refusal}
 
 flip : (xs ys : List ℕ) → bytes_eq xs ys ≡ bytes_eq ys xs

@@ -11,7 +11,7 @@ use Rattle.ikeless_tree.specs.declared.sad.Df.TheVariants as df
 use Rattle.ikeless_tree.specs.declared.sad.SadEntry.{SadEntry}
 use Rattle.ikeless_tree.specs.declared.order as orders
 use Rattle.ikeless_tree.specs.declared.order.Order.TheVariants as tree
-use Rattle.hist_controller.specs.Acts.{in_name, out_name}
+use Rattle.ikeless_tree.specs.Half.{in_name, out_name}
 use Rattle.hist_controller.specs.Told.{between}
 use Rattle.ctl_tunnels.specs.declared.half.HalfName.{HalfName}
 use Rattle.ctl_tunnels.specs.declared.half.Side.{Side}

@@ -2,7 +2,7 @@
 ghost use Rattle.std.specs.Prelude.{◌≡◌, ℕ, ◌^◌, ◌<◌, ◌++◌, IfOk};
 ghost use Rattle.std.specs.Fmt.{decimal};
 ghost use Rattle.std.specs.Str.{bytes_eq};
-ghost use Rattle.hist_controller.specs.Acts.{in_name, out_name};
+ghost use Rattle.ikeless_tree.specs.Half.{in_name, out_name};
 ghost use Rattle.ctl_tunnels.specs.Halves as halves;
 
 use ikl_base::{Name, NoMemory};
@@ -32,7 +32,7 @@ fn write_after(alloc: Global, front: &[u8], serial: u32) -> Result<Name, NoMemor
 }
 
 /// The name of an inbound half.
-#[tactic(auto, unfolding(hist_controller::specs::Acts::in_name))]
+#[tactic(auto, unfolding(ikeless_tree::specs::Half::in_name))]
 pub fn write_in_name(alloc: Global, serial: u32) -> Result<Name, NoMemory>
     ensures { IfOk result (λ name. name ≡ in_name serial) }
 {
@@ -40,7 +40,7 @@ pub fn write_in_name(alloc: Global, serial: u32) -> Result<Name, NoMemory>
 }
 
 /// The name of an outbound half.
-#[tactic(auto, unfolding(hist_controller::specs::Acts::out_name))]
+#[tactic(auto, unfolding(ikeless_tree::specs::Half::out_name))]
 pub fn write_out_name(alloc: Global, serial: u32) -> Result<Name, NoMemory>
     ensures { IfOk result (λ name. name ≡ out_name serial) }
 {

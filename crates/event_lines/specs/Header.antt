@@ -4,11 +4,10 @@ use Rattle.std.specs.List.{list_all, list_any, slice_split}
 use Rattle.std.specs.Str.{bytes_eq}
 use Rattle.ikl_base.specs.declared.status.LineFault.{LineFault}
 use Rattle.ikl_base.specs.declared.status.LineFault.TheVariants as faults
-use Rattle.ikl_base.specs.Address.{is_one_family}
+use Rattle.ikl_base.specs.Address.{is_one_family, is_same_address}
 use Rattle.ikeless_tree.specs.Check.{is_gateway}
 use Rattle.ikeless_tree.specs.declared.command.Peer.{Peer}
 use Rattle.hist_acts.specs.declared.event.Header.{Header}
-use Rattle.hist_acts.specs.Gateways.{is_same_address}
 use Rattle.yang_values.specs.Numbers.{number_of}
 use Rattle.yang_values.specs.Addresses.{address_of}
 use Rattle.line_words.specs.Words.{◌>>=◌, or_fault, each, words, is_printable}

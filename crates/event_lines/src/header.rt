@@ -2,8 +2,8 @@
 ghost use Rattle.std.specs.Prelude.{◌≡◌, ◌-◌, ◌^◌, List, ℕ};
 ghost use Rattle.std.specs.List.{list_all};
 ghost use Rattle.ikl_base.specs.Answers.{Gives};
+ghost use Rattle.ikl_base.specs.Address.{is_same_address};
 ghost use Rattle.line_words.specs.Parts.{texts};
-ghost use Rattle.hist_acts.specs.Gateways.{is_same_address};
 ghost use Rattle.event_lines.specs.Header.{seq_last_of, gateway_in, peer_of, peers_of, go_together, all_go_together, gateways_of, header_in, header_of};
 
 use hist_acts::Header;

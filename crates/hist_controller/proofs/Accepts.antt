@@ -1,14 +1,16 @@
 -- What an accepted command has passed: keys that differ and are few, and gateways that are known and differ.
 use Rattle.std.proofs.Common.{◌≡◌, ℕ, ◌+◌, ◌-◌, ◌<◌, ◌≤◌, Bool, true, false, ◌==◌, not, ◌&&◌, nat_le, nat_lt, List, [], ◌∷◌, ◌++◌, Some, None, ◌⊎◌, inl, inr, length, refl, sym, subst, ◌∙◌, ap, arith, if◌then◌else◌, append-nil}
+use Rattle.std.proofs.lemmas.Bool.{ltb-true}
 use Rattle.std.proofs.lemmas.Grind.{common_steps}
 use Rattle.std.proofs.lemmas.Slice.Eq.{bytes_eq-Decides}
 use Rattle.std.specs.List.{list_all}
 use Rattle.std.specs.Str.{bytes_eq}
 use Rattle.ikeless_tree.specs.Check.{is_key_length}
 use Rattle.ikeless_tree.specs.declared.command.Refusal.TheVariants as refusals
+use Rattle.ikeless_tree.specs.Half.{aes_part}
 use Rattle.hist_controller.specs.Acts.{Way, PlacedCommand, SetPolicy, Tunnel, End, Rekey, Keys, ControllerAct, Opened, Cut, Answered, Heard, Ordered, Accepted, Refused}
 use Rattle.hist_controller.specs.Past.{keys, spare, serials, directions, new_ways}
-use Rattle.hist_controller.specs.Law.{aes_part, is_seen, has_tunnel, tunnels, refusal}
+use Rattle.hist_controller.specs.Law.{is_seen, has_tunnel, tunnels, refusal}
 use Rattle.hist_controller.specs.Machine.{place}
 use Rattle.hist_controller.specs.Clauses.{Has, IsControllerPast}
 use Rattle.hist_controller.proofs.Lists.{length-more, place-old, length-both}
@@ -138,9 +140,6 @@ tunnel-passes true true true d e q = cc
 tunnel-passes true false c d e q = cc
 tunnel-passes false b c d e q = cc
 
-below : (n p : ℕ) → nat_lt n p ≡ true → n < p
-below n p e = grind (arith, common_steps)
-
 turned : (n m : ℕ) → (n == m) ≡ false → (m == n) ≡ false
 turned n m e = grind arith
 
@@ -148,10 +147,10 @@ placed-new : (p n : ℕ) (h : List ControllerAct) (c : PlacedCommand) (d : Way) 
 placed-new p n h (SetPolicy g l) d e i = absurd i
 placed-new p n h (Tunnel t) d e (inl i) =
     let q = tunnel-passes (nat_lt t.first p) (nat_lt t.second p) (t.first == t.second) (has_tunnel t.spec.reqid h) (nat_le 1024 (tunnels h (directions h))) e in
-    rw i (record { sender = below t.first p q.0; receiver = below t.second p q.1; apart = q.2 })
+    rw i (record { sender = ltb-true t.first p q.0; receiver = ltb-true t.second p q.1; apart = q.2 })
 placed-new p n h (Tunnel t) d e (inr (inl i)) =
     let q = tunnel-passes (nat_lt t.first p) (nat_lt t.second p) (t.first == t.second) (has_tunnel t.spec.reqid h) (nat_le 1024 (tunnels h (directions h))) e in
-    rw i (record { sender = below t.second p q.1; receiver = below t.first p q.0; apart = turned t.first t.second q.2 })
+    rw i (record { sender = ltb-true t.second p q.1; receiver = ltb-true t.first p q.0; apart = turned t.first t.second q.2 })
 placed-new p n h (Tunnel t) d e (inr (inr i)) = absurd i
 placed-new p n h (End r) d e i = absurd i
 placed-new p n h (Rekey r) d e i = absurd i

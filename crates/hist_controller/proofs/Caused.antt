@@ -3,9 +3,9 @@ use Rattle.std.proofs.Common.{◌≡◌, ℕ, ◌+◌, ◌≤◌, Bool, true, fa
 use Rattle.std.proofs.lemmas.Grind.{common_steps}
 use Rattle.std.specs.List.{list_any}
 use Rattle.hist_controller.specs.Acts.{Way, Association, ControllerOrder, Read, Policy, PutIn, PutOut, RemoveIn, RemoveOut, PlacedCommand, SetPolicy, Tunnel, End, Rekey, Keys, ControllerAct, Opened, Cut, Answered, Heard, Ordered, Accepted, Refused}
-use Rattle.hist_controller.specs.Past.{oldest, queue, is_read, serials, directions, new_ways, is_made_by, is_over, is_owed, is_end_of, is_start, is_renewal, PuttingIn, is_out_ordered, has_answer, is_in_progress, inbound_put, left, RemovingIn, is_answer_to, is_cause, is_wanted}
+use Rattle.hist_controller.specs.Past.{oldest, queue, is_read, serials, directions, new_ways, is_made_by, is_over, is_owed, is_end_of, is_start, is_renewal, PuttingIn, is_out_ordered, has_answer, is_in_progress, inbound_put, left, RemovingIn, is_answer_to, is_inbound_put_of, is_cause, is_wanted}
 use Rattle.hist_controller.specs.Clauses.{Has, MayOrder, IsControllerPast}
-use Rattle.hist_controller.specs.Counts.{is_in_put_of, in_puts, out_puts, cause_count}
+use Rattle.hist_controller.specs.Counts.{in_puts, out_puts, cause_count}
 use Rattle.hist_controller.proofs.Lists.{has-left, length-both}
 use Rattle.hist_controller.proofs.Serials.{has-more, has-filter, has-if, put-one, of-way, low, one-way, upto}
 use Rattle.hist_controller.proofs.KeptState.{rising, eq-own}
@@ -40,7 +40,7 @@ few-told false s r w true o n m f e = let a = few-or r w o n m e in never (r || 
 few-told false s r w false o n m f e = few-or r w o n m e
 
 -- before its own command a direction has no put
-no-put-yet : (h : List ControllerAct) (g : ℕ) (d : Way) (o : ControllerOrder) → MayOrder h g o → length (directions h) ≤ d.id → in_puts d h ≡ 0 → (if is_in_put_of d o then in_puts d h + 1 else in_puts d h) ≡ 0
+no-put-yet : (h : List ControllerAct) (g : ℕ) (d : Way) (o : ControllerOrder) → MayOrder h g o → length (directions h) ≤ d.id → in_puts d h ≡ 0 → (if is_inbound_put_of d o then in_puts d h + 1 else in_puts d h) ≡ 0
 no-put-yet h g d Read m e q = q
 no-put-yet h g d (Policy l) m e q = q
 no-put-yet h g d (PutIn x) m e q =

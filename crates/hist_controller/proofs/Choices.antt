@@ -1,5 +1,6 @@
 -- The clauses leave no choice: the block of an event is the one list of acts that meets them.
 use Rattle.std.proofs.Common.{◌≡◌, ℕ, ◌+◌, ◌<◌, Bool, true, false, ◌==◌, not, ◌&&◌, ◌||◌, nat_lt, List, [], ◌∷◌, ◌++◌, Option, Some, None, length, ◌⊎◌, inl, inr, refl, sym, subst, ◌∙◌, ap, arith, if◌then◌else◌}
+use Rattle.std.proofs.Math.Bool.{and-false}
 use Rattle.std.proofs.lemmas.Grind.{common_steps}
 use Rattle.std.specs.List.{list_any}
 use Rattle.ikeless_tree.specs.declared.command.Command.{Command}
@@ -259,10 +260,6 @@ one-turn p h e _ more l i t (out_was_put x f j m n1 n2 n3) r =
     ((may-given p h e _ i (out_was_put x f j m n1 n2 n3)).0, (λ d k w. turn-of h d e t (own-put h d e x j w)), r)
 one-turn p h e _ more l i t (in_was_put k ks f s m n1 n2 n3) r =
     ((may-given p h e _ i (in_was_put k ks f s m n1 n2 n3)).0, (λ d c w. turn-of h d e t (grind arith)), r)
-
-and-false : (a : Bool) → (a && false) ≡ false
-and-false true = refl
-and-false false = refl
 
 -- after an order nothing is due, but a list after the reading of an opening
 no-due : (h : List ControllerAct) (z : ControllerOrder) (f : ℕ) → ((g : ℕ) → is_policy_due g (order h f z ∷ h) ≡ false) → NoneDue (order h f z ∷ h)

@@ -1,7 +1,7 @@
 -- Halves of different serials, and the two of one serial, have different names.
 use Rattle.std.proofs.Common.{◌≡◌, ℕ, ◌^◌, ◌<◌, List, [], ◌∷◌, drop, ap, arith}
 use Rattle.std.proofs.lemmas.Fmt.{decimal_injective}
-use Rattle.hist_controller.specs.Acts.{in_name, out_name}
+use Rattle.ikeless_tree.specs.Half.{in_name, out_name}
 
 pub in-names : (m n : ℕ) → m < 2 ^ 64 → n < 2 ^ 64 → in_name m ≡ in_name n → m ≡ n
 unfolding in_name

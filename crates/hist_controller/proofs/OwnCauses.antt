@@ -1,5 +1,6 @@
 -- Each inbound put of a direction has a cause of its own since the last one.
 use Rattle.std.proofs.Common.{◌≡◌, ℕ, ◌+◌, Bool, true, false, ◌==◌, not, ◌&&◌, ◌||◌, List, [], ◌∷◌, ◌++◌, length, ◌⊎◌, inl, inr, refl, sym, subst, ◌∙◌, ap, arith, if◌then◌else◌}
+use Rattle.std.proofs.lemmas.Bool.{or_right}
 use Rattle.hist_controller.specs.Acts.{Way, Association, ControllerOrder, PutIn, PlacedCommand, SetPolicy, Tunnel, End, Rekey, Keys, ControllerAct, Opened, Cut, Answered, Heard, Ordered, Accepted, Refused}
 use Rattle.hist_controller.specs.Past.{is_read, directions, new_ways, is_made_by, is_end_of, is_over, is_start, is_renewal, is_inbound_put_of, is_cause, is_wanted}
 use Rattle.hist_controller.specs.Clauses.{Has, IsControllerPast, MayOrderInPut}
@@ -94,19 +95,15 @@ wanted-stands d (Ordered g s n o ∷ h) e = ordered-stands _ _ d g s n o h refl 
 wanted-stands d (Accepted c ∷ h) e = told-stands _ _ _ _ d c h refl refl refl (wanted-stands d h) e
 wanted-stands d (Refused w ∷ h) e = one-more d (Refused w) h refl (wanted-stands d h e)
 
-or-true : (a b : Bool) → b ≡ true → (a || b) ≡ true
-or-true true b e = refl
-or-true false b e = e
-
 -- with acts that don't begin it anew what is wanted stays wanted
 stays-wanted : (d : Way) (recent old : List ControllerAct) → NoneAnew d recent old → is_wanted d old ≡ true → is_wanted d (recent ++ old) ≡ true
 stays-wanted d [] old n e = e
 stays-wanted d (Opened g s ∷ recent) old n e = stays-wanted d recent old n.1 e
-stays-wanted d (Cut g s ∷ recent) old n e = or-true _ _ (stays-wanted d recent old n.1 e)
-stays-wanted d (Answered g s i a ∷ recent) old n e = or-true _ _ (stays-wanted d recent old n.1 e)
-stays-wanted d (Heard g s t ∷ recent) old n e = or-true _ _ (stays-wanted d recent old n.1 e)
+stays-wanted d (Cut g s ∷ recent) old n e = or_right _ _ (stays-wanted d recent old n.1 e)
+stays-wanted d (Answered g s i a ∷ recent) old n e = or_right _ _ (stays-wanted d recent old n.1 e)
+stays-wanted d (Heard g s t ∷ recent) old n e = or_right _ _ (stays-wanted d recent old n.1 e)
 stays-wanted d (Ordered g s i o ∷ recent) old n e = let a = n.0 in let b = stays-wanted d recent old n.1 e in rw (a, b) refl
-stays-wanted d (Accepted c ∷ recent) old n e = let a = n.0 in let b = stays-wanted d recent old n.1 e in rw a (or-true _ _ b)
+stays-wanted d (Accepted c ∷ recent) old n e = let a = n.0 in let b = stays-wanted d recent old n.1 e in rw a (or_right _ _ b)
 stays-wanted d (Refused w ∷ recent) old n e = stays-wanted d recent old n.1 e
 
 cause-wanted : (d : Way) (a : ControllerAct) (h : List ControllerAct) → is_cause d a h ≡ true → is_wanted d (a ∷ h) ≡ true
@@ -193,7 +190,7 @@ stays-over d (Accepted c ∷ recent) old i e =
     let k = stays-over d recent old i e in
     let q = known-not-made c (recent ++ old) d k.0 in
     let w = k.1 in
-    (still-made d (Accepted c) (recent ++ old) k.0, rw q (or-true _ _ w))
+    (still-made d (Accepted c) (recent ++ old) k.0, rw q (or_right _ _ w))
 stays-over d (Refused w ∷ recent) old i e = stays-over d recent old i e
 
 pub ended-over : (d : Way) (h : List ControllerAct) → WasEnded d h → is_over d h ≡ true

@@ -1,6 +1,6 @@
 -- An association that is not ended waits for an answer to its next put, or its outbound put was answered.
 use Rattle.std.proofs.Common.{◌≡◌, ℕ, ◌<◌, Bool, true, false, ◌==◌, not, ◌&&◌, ◌||◌, nat_le, nat_lt, List, [], ◌∷◌, ◌++◌, Option, Some, None, ◌⊎◌, inl, inr, refl, sym, subst, ◌∙◌, ap, arith, if◌then◌else◌}
-use Rattle.std.proofs.lemmas.Grind.{common_steps}
+use Rattle.std.proofs.lemmas.Bool.{or_cases, lt-ltb}
 use Rattle.std.specs.List.{filter, list_any}
 use Rattle.ikeless_tree.specs.declared.order.Answer.{Answer}
 use Rattle.hist_controller.specs.Acts.{Way, Association, ControllerOrder, Read, Policy, PutIn, PutOut, RemoveIn, RemoveOut, ControllerAct, Opened, Cut, Answered, Heard, Ordered, Accepted, Refused}
@@ -122,19 +122,12 @@ awaited-cut h g s k =
           cut-keeps h x.way.sender g (PutOut x) (λ o. is_kind PuttingIn x.serial o || is_kind PuttingOut x.serial o) (x.way.sender == g) refl (eq-own x.serial) n.0 (k.outbound d x i n.1 t v);
     }
 
-plain-put : (a b : Bool) → (a || b) ≡ true → (a ≡ true) ⊎ (b ≡ true)
-plain-put true b e = inl refl
-plain-put false b e = inr e
-
 later-put : (a b c d e f : Bool) → a ≡ true → b ≡ true → c ≡ true → (d || (a && b && c)) ≡ true
 later-put a b c d e f p q r = rw (p, q, r) (all d)
   where
     all : (d : Bool) → (d || true) ≡ true
     all true = refl
     all false = refl
-
-lower : (n m : ℕ) → n < m → nat_lt n m ≡ true
-lower n m e = grind (arith, common_steps)
 
 refused-put : (y z : Association) (s : ℕ) (b : Bool) → y.serial ≡ z.serial → nat_le 400 s ≡ true → (((y.serial == z.serial) && nat_le 400 s) || b) ≡ true
 refused-put y z s b e r = let q : (y.serial == z.serial) ≡ true = grind arith in rw (q, r) refl
@@ -147,7 +140,7 @@ replaced-now h g a d x y (Some (Policy q)) i j f l m t e = cc
 replaced-now h g a d x y (Some (PutIn z)) i j f l m t e = cc
 replaced-now h g a d x y (Some (RemoveIn n)) i j f l m t e = cc
 replaced-now h g a d x y (Some (RemoveOut n)) i j f l m t e = cc
-replaced-now h g a d x y (Some (PutOut z)) i j f l m t e = elim (plain-put (a.status == 201) (nat_le 400 a.status) m) as (λ q. is_spoiled x g (Some (PutOut z)) a (has_answer PuttingIn x.serial h) (is_out_ordered x.serial h) ≡ true) [
+replaced-now h g a d x y (Some (PutOut z)) i j f l m t e = elim (or_cases (a.status == 201) (nat_le 400 a.status) m) as (λ q. is_spoiled x g (Some (PutOut z)) a (has_answer PuttingIn x.serial h) (is_out_ordered x.serial h) ≡ true) [
   | inl q ↦
       let s : y.serial ≡ z.serial = grind arith in
       let w : y ≡ z = f z refl s in
@@ -155,7 +148,7 @@ replaced-now h g a d x y (Some (PutOut z)) i j f l m t e = elim (plain-put (a.st
       let v = of-way h d y j in
       let c : (x.way.id == y.way.id) ≡ true = grind arith in
       let c' : (x.way.id == z.way.id) ≡ true = ap (λ (t : Association). x.way.id == t.way.id) (sym w) ∙ c in
-      let b : nat_lt x.serial z.serial ≡ true = lower x.serial z.serial (omega arith) in
+      let b : nat_lt x.serial z.serial ≡ true = lt-ltb x.serial z.serial (omega arith) in
       later-put (x.way.id == z.way.id) (nat_lt x.serial z.serial) (a.status == 201) ((x.serial == z.serial) && nat_le 400 a.status) true true c' b q
   | inr q ↦
       let s : y.serial ≡ z.serial = grind arith in

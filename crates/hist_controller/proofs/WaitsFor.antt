@@ -1,5 +1,6 @@
 -- What a direction waits for where it idles, and what the words of its associations and orders say plainly.
 use Rattle.std.proofs.Common.{◌≡◌, ℕ, ◌+◌, ◌-◌, ◌<◌, ◌≤◌, Bool, true, false, ◌==◌, not, ◌&&◌, ◌||◌, List, [], ◌∷◌, ◌++◌, Option, Some, None, length, ◌⊎◌, inl, inr, refl, sym, subst, ◌∙◌, ap, arith, if◌then◌else◌}
+use Rattle.std.proofs.lemmas.Bool.{and_cases}
 use Rattle.hist_controller.specs.Acts.{Way, Association, ControllerOrder, PutIn, PutOut, ControllerAct, Opened, Cut, Answered, Heard, Ordered, Accepted, Refused}
 use Rattle.hist_controller.specs.Past.{is_open, openings, orders, answered, queue, is_first_answered, is_read, spare, directions, PuttingIn, PuttingOut, RemovingIn, RemovingOut, is_out_ordered, has_answer, is_ended, is_in_progress, inbound_put, left, is_own, is_busy, is_owed}
 use Rattle.hist_controller.specs.Law.{may_in_put}
@@ -26,12 +27,8 @@ not-read g h true r e f t = inr (f ∙ t)
 gateway-waits : (g : ℕ) (h : List ControllerAct) → is_read g h ≡ false → WaitsForGateway g h
 gateway-waits g h e = not-read g h _ _ refl refl e
 
-either-no : (a b : Bool) → (a && b) ≡ false → (a ≡ false) ⊎ (b ≡ false)
-either-no true b e = inr e
-either-no false b e = inl refl
-
 both-wait : (h : List ControllerAct) (d : Way) → (is_read d.sender h && is_read d.receiver h) ≡ false → WaitsForGateway d.sender h ⊎ WaitsForGateway d.receiver h
-both-wait h d e = elim (either-no (is_read d.sender h) (is_read d.receiver h) e) as (λ z. WaitsForGateway d.sender h ⊎ WaitsForGateway d.receiver h) [
+both-wait h d e = elim (and_cases (is_read d.sender h) (is_read d.receiver h) e) as (λ z. WaitsForGateway d.sender h ⊎ WaitsForGateway d.receiver h) [
   | inl a ↦ inl (gateway-waits d.sender h a)
   | inr b ↦ inr (gateway-waits d.receiver h b)
 ]

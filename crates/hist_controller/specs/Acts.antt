@@ -1,6 +1,6 @@
 -- What a controller is told, what it hears and what it orders. A gateway stands as its number among the peers. These are
 -- the controller's own acts; `told` in Told says which acts of a transcript they are.
-use Rattle.std.specs.Prelude.{ℕ, List, ◌++◌, codes, decimal}
+use Rattle.std.specs.Prelude.{ℕ, List}
 use Rattle.ikl_base.specs.declared.address.Prefix.{Prefix}
 use Rattle.ikeless_tree.specs.declared.entry.SpdEntry.{SpdEntry}
 use Rattle.ikeless_tree.specs.declared.order.Answer.{Answer}
@@ -23,13 +23,6 @@ pub record Association : Type 0 where
   pub serial : ℕ
   pub key : List ℕ
   pub way : Way
-
--- the names of the halves of a serial, of this project
-unfoldable pub in_name : ℕ → List ℕ
-in_name n = codes "in/" ++ decimal n
-
-unfoldable pub out_name : ℕ → List ℕ
-out_name n = codes "out/" ++ decimal n
 
 -- an order at a gateway; a half is put whole and removed by its serial
 pub data ControllerOrder : Type 0 where

@@ -2,7 +2,7 @@
 use Rattle.std.specs.Prelude.{◌≡◌, ℕ, ◌+◌, ◌-◌, ◌<◌, Bool, false, ◌==◌, ◌&&◌, not, List, [], ◌∷◌, ◌++◌, Some, length, if◌then◌else◌}
 use Rattle.ikeless_tree.specs.declared.entry.SpdEntry.{SpdEntry}
 use Rattle.hist_controller.specs.Acts.{Way, ControllerOrder, Policy, PutIn, PutOut, PlacedCommand, SetPolicy, ControllerAct, Opened, Ordered, Accepted}
-use Rattle.hist_controller.specs.Past.{keys, directions, is_made_by, is_over, Kind, is_kind, is_start, is_renewal, is_cause}
+use Rattle.hist_controller.specs.Past.{keys, directions, is_made_by, is_over, Kind, is_kind, is_start, is_renewal, is_inbound_put_of, is_cause}
 use Rattle.hist_controller.specs.Machine.{place}
 
 -- how often such an order of serial n was given
@@ -24,10 +24,6 @@ times_now k n g (Opened f s ∷ h) = if g == f then 0 else times_now k n g h
 times_now k n g (Ordered f s i o ∷ h) = if (g == f) && is_kind k n o then times_now k n g h + 1 else times_now k n g h
 times_now k n g (_ ∷ h) = times_now k n g h
 
-abbrev pub is_in_put_of : Way → ControllerOrder → Bool
-is_in_put_of d (PutIn x) = d.id == x.way.id
-is_in_put_of d (_) = false
-
 abbrev pub is_out_put_of : Way → ControllerOrder → Bool
 is_out_put_of d (PutOut x) = d.id == x.way.id
 is_out_put_of d (_) = false
@@ -35,7 +31,7 @@ is_out_put_of d (_) = false
 -- how many inbound, and outbound, puts were ordered in the direction
 abbrev pub in_puts : Way → List ControllerAct → ℕ
 in_puts d [] = 0
-in_puts d (Ordered g s n o ∷ h) = if is_in_put_of d o then in_puts d h + 1 else in_puts d h
+in_puts d (Ordered g s n o ∷ h) = if is_inbound_put_of d o then in_puts d h + 1 else in_puts d h
 in_puts d (_ ∷ h) = in_puts d h
 
 abbrev pub out_puts : Way → List ControllerAct → ℕ

@@ -1,9 +1,10 @@
 -- What a controller must do: which orders may be given, why a command is refused, and the one block of acts that an event
 -- has. The order of a rekey and of a recovery is that of RFC 9061, made exact by this project.
-use Rattle.std.specs.Prelude.{ℕ, ◌+◌, ◌-◌, Bool, true, false, ◌==◌, not, ◌&&◌, ◌||◌, nat_le, nat_lt, List, [], ◌∷◌, ◌++◌, Option, Some, None, length, take, if◌then◌else◌}
+use Rattle.std.specs.Prelude.{ℕ, ◌+◌, Bool, true, false, ◌==◌, not, ◌&&◌, ◌||◌, nat_le, nat_lt, List, [], ◌∷◌, ◌++◌, Option, Some, None, length, if◌then◌else◌}
 use Rattle.std.specs.List.{list_any}
 use Rattle.std.specs.Str.{bytes_eq}
 use Rattle.ikeless_tree.specs.Check.{is_key_length}
+use Rattle.ikeless_tree.specs.Half.{aes_part}
 use Rattle.ikeless_tree.specs.declared.command.Command.{Command}
 use Rattle.ikeless_tree.specs.declared.command.Command.TheVariants as commands
 use Rattle.ikeless_tree.specs.declared.command.Peer.{Peer}
@@ -126,10 +127,6 @@ abbrev pub tunnels : List ControllerAct → List Way → ℕ
 tunnels h [] = 0
 tunnels h (d ∷ []) = 0
 tunnels h (d ∷ e ∷ ds) = if is_counted h d || is_counted h e then tunnels h ds + 1 else tunnels h ds
-
--- the AES key of keying material: all but the salt of four octets (RFC 4106 section 8.1)
-abbrev pub aes_part : List ℕ → List ℕ
-aes_part k = take (length k - 4) k
 
 -- one of these keys has its AES key
 abbrev pub is_seen : List ℕ → List (List ℕ) → Bool

@@ -2,7 +2,8 @@
 use Rattle.std.specs.Prelude.{◌≡◌, ℕ, Bool, true, false, ◌==◌, not, ◌&&◌, ◌||◌, List, [], ◌∷◌, Option, Some, None, ◌⊎◌}
 use Rattle.std.specs.List.{list_any}
 use Rattle.ikeless_tree.specs.declared.order.Answer.{Answer}
-use Rattle.hist_controller.specs.Acts.{Association, in_name, ControllerOrder, Read, Policy, PutIn, PutOut, RemoveIn, RemoveOut, ControllerAct, Answered, Ordered}
+use Rattle.ikeless_tree.specs.Half.{in_name}
+use Rattle.hist_controller.specs.Acts.{Association, ControllerOrder, Read, Policy, PutIn, PutOut, RemoveIn, RemoveOut, ControllerAct, Answered, Ordered}
 use Rattle.hist_controller.specs.Past.{oldest, queue, is_shown, Kind, PuttingIn, PuttingOut, RemovingIn, RemovingOut, is_kind, has_answer}
 
 -- such an order was ever given

@@ -5,7 +5,8 @@ use Rattle.ikeless_tree.specs.declared.entry.SpdEntry.{SpdEntry}
 use Rattle.ikeless_tree.specs.declared.order.Answer.{Answer}
 use Rattle.ikeless_tree.specs.declared.order.Notice.{Notice}
 use Rattle.ikeless_tree.specs.declared.order.Notice.TheVariants as notices
-use Rattle.hist_controller.specs.Acts.{Way, Association, in_name, out_name, ControllerOrder, Read, PlacedCommand, ControllerAct, Opened, Cut, Answered, Heard, Ordered, Accepted, Refused}
+use Rattle.ikeless_tree.specs.Half.{in_name, out_name}
+use Rattle.hist_controller.specs.Acts.{Way, Association, ControllerOrder, Read, PlacedCommand, ControllerAct, Opened, Cut, Answered, Heard, Ordered, Accepted, Refused}
 use Rattle.hist_controller.specs.Past.{is_open, openings, orders, answered, rest, oldest, queue, is_first_answered, list_if, newest_list, key_of, keys, is_inbound_put, serials, keys_after, spare, new_ways, directions, is_end_of, is_over, PuttingIn, PuttingOut, RemovingIn, RemovingOut, is_kind, is_answer_to, is_out_ordered, has_answer, is_shown, is_spoiled, is_ended, inbound_put, left, last_if, newest_serial, is_start, is_renewal, has_entry, is_half_at, is_put_of, is_inbound_put_of, is_wanted}
 
 -- a gateway as the controller sees it

@@ -10,10 +10,11 @@ use Rattle.ikeless_tree.specs.declared.sad.SadEntry.{SadEntry}
 use Rattle.ikeless_tree.specs.declared.command.Peer.{Peer}
 use Rattle.ikeless_tree.specs.declared.entry.Selector.{Selector}
 use Rattle.ikeless_tree.specs.declared.order.Order.TheVariants as tree
+use Rattle.ikeless_tree.specs.Half.{in_name, out_name}
 use Rattle.hist_acts.specs.declared.act.Act.TheVariants as acts
 use Rattle.ikeless_tree.specs.declared.order as orders
 use Rattle.hist_acts.specs.declared.act as happened
-use Rattle.hist_controller.specs.Acts.{Association, in_name, out_name, ControllerOrder, Read, Policy, PutIn, PutOut, RemoveIn, RemoveOut, ControllerAct, Opened, Cut, Answered, Heard, Ordered, Accepted, Refused}
+use Rattle.hist_controller.specs.Acts.{Association, ControllerOrder, Read, Policy, PutIn, PutOut, RemoveIn, RemoveOut, ControllerAct, Opened, Cut, Answered, Heard, Ordered, Accepted, Refused}
 
 -- the name and the address of the peer with this number; an unknown one has none
 abbrev pub peer_name : List Peer → ℕ → List ℕ

@@ -1,5 +1,6 @@
 -- Each packet and each datagram has exactly one answer, and no other event has one.
-use Rattle.std.proofs.Common.{◌≡◌, ℕ, ◌+◌, ◌==◌, max, Bool, true, false, not, ◌||◌, nat_le, nat_lt, List, [], ◌∷◌, ◌++◌, length, Option, Some, None, Result, Ok, Err, refl, if◌then◌else◌}
+use Rattle.std.proofs.Common.{◌≡◌, ℕ, ◌+◌, ◌==◌, max, Bool, true, false, not, nat_le, nat_lt, List, [], ◌∷◌, ◌++◌, length, Option, Some, None, Result, Ok, Err, refl, if◌then◌else◌}
+use Rattle.std.proofs.lemmas.Bool.{or_parts}
 use Rattle.std.specs.List.{list_any}
 use Rattle.ikl_base.specs.declared.address.Addr.{Addr}
 use Rattle.ip_packet.specs.declared.packet.NotPacket.{NotPacket}
@@ -44,13 +45,9 @@ use Rattle.hist_gateway.specs.Answers.{is_let_answer, is_arrival_answer, is_answ
 abbrev some : List Act → Bool
 some xs = list_any is_answer xs
 
-or-parts : (a b : Bool) → (a || b) ≡ false → (a ≡ false) × (b ≡ false)
-or-parts true b e = cc
-or-parts false b e = (refl, e)
-
 some-append : (xs ys : List Act) → some xs ≡ false → some ys ≡ false → some (xs ++ ys) ≡ false
 some-append [] ys p q = q
-some-append (a ∷ xs) ys p q = let r = or-parts (is_answer a) (some xs) p in rw r.0 (some-append xs ys r.1 q)
+some-append (a ∷ xs) ys p q = let r = or_parts (is_answer a) (some xs) p in rw r.0 (some-append xs ys r.1 q)
 
 some-if : (b : Bool) (xs ys : List Act) → some xs ≡ false → some ys ≡ false → some (if b then xs else ys) ≡ false
 some-if true xs ys p q = p

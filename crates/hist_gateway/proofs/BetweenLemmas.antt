@@ -15,13 +15,14 @@ use Rattle.reply_table.specs.Reply.{Outcome, reply}
 use Rattle.replay_win.specs.declared.verdict.Verdict.{Verdict}
 use Rattle.replay_win.specs.declared.verdict.Verdict.TheVariants as verdicts
 use Rattle.replay_win.specs.Marks.{judged}
-use Rattle.esp_frame.specs.Esp.{keying, seq_of, spi_of}
+use Rattle.esp_frame.specs.Esp.{keying, spi_of}
 use Rattle.esp_frame.specs.Open as esp
 use Rattle.spd_match.specs.Match.{first_entry}
 use Rattle.sad_store.specs.declared.half.Half.{Half}
 use Rattle.sad_store.specs.Halves.{half_by_spi, newest_half}
 use Rattle.hist_acts.specs.declared.act.Act.{Act}
 use Rattle.hist_acts.specs.declared.act.Act.TheVariants as acts
+use Rattle.hist_halves.specs.Sealed.{number_from}
 use Rattle.hist_gateway.specs.Arrive as arrive
 use Rattle.hist_gateway.specs.Handle.{answer_of, change_acts}
 use Rattle.hist_gateway.specs.Block.{Gateway, GatewayEvent, Let, Arrive, Clock, Handle, Session_taken}
@@ -57,7 +58,7 @@ in-verdict g o b s x n verdicts.Fresh = in-text g o s x n (esp.opened (keying x.
 
 in-half : (g o b : List ℕ) (s : GatewayState) (found : Option Half) → in_by_half g (quiet s) o b found ≡ in_by_half g s o b found
 in-half g o b s None = refl
-in-half g o b s (Some x) = in-verdict g o b s x (seq_of b) (judged x.window (seq_of b))
+in-half g o b s (Some x) = let n : ℕ = number_from x.entry x.window.top b in in-verdict g o b s x n (judged x.window n)
 
 in-octets : (g o b : List ℕ) (s : GatewayState) → in_esp g (quiet s) o b ≡ in_esp g s o b
 in-octets g o b s = ap (λ t. if nat_lt (length b) 34 then arrive.drops g why.Short else t) (in-half g o b s (half_by_spi (spi_of b) s.halves))

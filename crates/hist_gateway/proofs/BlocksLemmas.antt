@@ -15,12 +15,13 @@ use Rattle.ikeless_tree.specs.declared.order.Notice.TheVariants as notices
 use Rattle.ikeless_tree.specs.declared.reply.DropWhy.{DropWhy}
 use Rattle.ikeless_tree.specs.declared.reply.DropWhy.TheVariants as why
 use Rattle.ikeless_tree.specs.declared.reply.GoneWhy.TheVariants as gone
+use Rattle.ikeless_tree.specs.Half.{is_inbound}
 use Rattle.reply_table.specs.declared.ask.Ask.{Ask}
 use Rattle.reply_table.specs.Reply.{reply}
 use Rattle.replay_win.specs.declared.verdict.Verdict.{Verdict}
 use Rattle.replay_win.specs.declared.verdict.Verdict.TheVariants as verdicts
-use Rattle.replay_win.specs.Marks.{Marks, judged, marked, no_marks, verdict_over, greatest}
-use Rattle.esp_frame.specs.Esp.{keying, spi_of, seq_of}
+use Rattle.replay_win.specs.Marks.{judged, marked, no_marks, verdict_over}
+use Rattle.esp_frame.specs.Esp.{keying, spi_of}
 use Rattle.esp_frame.specs.Open as esp
 use Rattle.spd_match.specs.Match.{first_entry, holds_packet}
 use Rattle.life_count.specs.Lifetime.{is_reached, expiry}
@@ -30,7 +31,7 @@ use Rattle.hist_acts.specs.declared.act.Act.{Act}
 use Rattle.hist_acts.specs.declared.act.Act.TheVariants as acts
 use Rattle.hist_acts.specs.Past.{force, clock}
 use Rattle.hist_acts.specs.Sessions as sessions
-use Rattle.hist_halves.specs.Sealed.{by_spi, esp_of, payload_of, is_inbound, is_opened}
+use Rattle.hist_halves.specs.Sealed.{by_spi, esp_of, number_from, number_of, payload_of, is_opened}
 use Rattle.hist_halves.specs.Halves.{live, sent, numbers_taken}
 use Rattle.hist_gateway.specs.Uses.{arrival, octets_in, counts, is_for}
 use Rattle.hist_gateway.specs.Stands.{was_overflow_given}
@@ -42,9 +43,8 @@ use Rattle.hist_gateway.specs.Arrive as arrive
 use Rattle.hist_gateway.specs.Handle.{Fault, handle_acts, reply_acts, requests}
 use Rattle.hist_gateway.specs.Block.{Gateway, GatewayEvent, Let, Arrive, Clock, Handle, Session_taken, gw_block, clock_acts}
 use Rattle.hist_gateway.specs.State.{half_of, state_of, sent_under, given_under, opened_under}
-use Rattle.hist_gateway.specs.Uses.{number_in}
-use Rattle.hist_gateway.specs.Machine.{goings_of, expiries_of, look_of, sends_of, out_by_half, out_by_action, out_by_entry, out_by_view, uses_of, in_by_text, in_by_verdict, in_by_half, in_esp, in_by_view, row_from, tree_from, handles, ticks, acts_of}
-use Rattle.hist_gateway.proofs.KeepsLemmas.{same-refl, sent-split, gave-split, opened-split}
+use Rattle.hist_gateway.specs.Machine.{goings_of, expiries_of, look_of, sends_of, out_by_half, out_by_action, out_by_entry, out_by_view, uses_of, in_by_text, in_by_verdict, in_by_number, in_by_half, in_esp, in_by_view, row_from, tree_from, handles, ticks, acts_of}
+use Rattle.hist_gateway.proofs.KeepsLemmas.{same-refl, sent-split, gave-split, opened-split, window-top, NumberFor, number-either}
 use Rattle.hist_gateway.proofs.ReadingsLemmas.{acquires-is}
 
 -- ---- looks
@@ -135,11 +135,14 @@ gave-look g o p h e n came =
 
 drop-look : (g o : List ℕ) (h : List Act) (e : SadEntry) (n : ℕ) (w : DropWhy) → arrival g h ≡ Some o → is_for e.name (live g h) (Some o) ≡ true → is_opened w ≡ true →
     uses_of g (state_of g h) o (half_of g h e) n (acts.Drop g w) ≡ arrive.use_acts g h e (acts.Drop g w)
-drop-look g o h e n w came mine op =
-    let mine-now : is_for e.name (live g h) (arrival g h) ≡ true = rw came mine in
-    let own = opened-split g g w h e true (same-refl g) op mine-now in
-    let under : opened_under (live g h) (arrival g h) (clock h) (half_of g h e) ≡ take_number (clock h) (octets_in (Some o)) (number_in (Some o)) (half_of g h e) = rw (came, mine) refl in
-    look-after g o h e n (acts.Drop g w) refl refl (ap (λ x. look_of g (sessions.session_taken g h) (clock h) (x ∷ [])) (own ∙ under))
+drop-look g o h e n w came mine op = by-number (number-either e.name (half_of g h e).window.top (live g h) o)
+  where
+    by-number : NumberFor e.name (half_of g h e).window.top (live g h) o → uses_of g (state_of g h) o (half_of g h e) n (acts.Drop g w) ≡ arrive.use_acts g h e (acts.Drop g w)
+    by-number (inl p) = let no : true ≡ false = sym mine ∙ p.0 in cc
+    by-number (inr (m, p, r)) =
+        let own = opened-split g g w h e (same-refl g) op in
+        let under : opened_under (live g h) (arrival g h) (clock h) (half_of g h e) ≡ take_number (clock h) (octets_in (Some o)) m (half_of g h e) = rw (came, r) refl in
+        look-after g o h e n (acts.Drop g w) refl refl (ap (λ x. look_of g (sessions.session_taken g h) (clock h) (x ∷ [])) (own ∙ under))
 
 use-look : (g o : List ℕ) (h : List Act) (e : SadEntry) (n : ℕ) (a : Act) → arrival g h ≡ Some o → is_for e.name (live g h) (Some o) ≡ true → UseAct g e n a →
     uses_of g (state_of g h) o (half_of g h e) n a ≡ arrive.use_acts g h e a
@@ -190,8 +193,10 @@ in-found : (g o b : List ℕ) (h : List Act) (found : Option SadEntry) → Judge
 in-found g o b h None judges came same found = refl
 in-found g o b h (Some e) judges came same found =
     let mine : is_for e.name (live g h) (Some o) ≡ true = rw (same, found) (same-refl e.name) in
-    ap (λ w. in_by_verdict g (state_of g h) o b (half_of g h e) (seq_of b) w) (judges e.window (numbers_taken g e.name h) (seq_of b))
-    ∙ in-verdict g o b h e (seq_of b) (verdict_over e.window (numbers_taken g e.name h) (seq_of b)) came mine
+    let n : ℕ = number_of e (numbers_taken g e.name h) b in
+    ap (λ top. in_by_number g (state_of g h) o b (half_of g h e) (number_from e top b)) (window-top e.window (numbers_taken g e.name h))
+    ∙ (ap (λ w. in_by_verdict g (state_of g h) o b (half_of g h e) n w) (judges e.window (numbers_taken g e.name h) n)
+    ∙ in-verdict g o b h e n (verdict_over e.window (numbers_taken g e.name h) n) came mine)
 
 spi-step : (g : List ℕ) (h : List Act) (e : SadEntry) (found : Option SadEntry) (rest : Option Half) (b : Bool) → rest ≡ option_map (half_of g h) found →
     (if b then Some (half_of g h e) else rest) ≡ option_map (half_of g h) (if b then Some e else found)
@@ -234,20 +239,12 @@ clock-is g t h = ap (λ x. if nat_lt (clock h) t then x else []) (clock-look g t
 
 -- ---- a request
 
-top-is : (w : Marks) (ns : List ℕ) → (fold marked w ns).top ≡ max w.top (greatest ns)
-top-is w [] = omega arith
-top-is w (n ∷ ns) = let ih = top-is (marked w n) ns in omega (arith, ih)
-
-max-zero : (n : ℕ) → max 0 n ≡ n
-max-zero n = omega arith
-
 abbrev row-with : SadEntry → Limits → ℕ → SadRow
 row-with e c top = record { entry = e; state = record { current = c; top = top } }
 
 pub row-is : (g : List ℕ) (h : List Act) (e : SadEntry) → row_from (clock h) (half_of g h e) ≡ row_of g h e
 row-is g h e =
-    let t = top-is (no_marks e.window) (numbers_taken g e.name h) in
-    ap (λ top. row-with e (counts g e.name h) (if is_inbound e.name then top else sent g e.name h)) (t ∙ max-zero (greatest (numbers_taken g e.name h)))
+    ap (λ top. row-with e (counts g e.name h) (if is_inbound e.name then top else sent g e.name h)) (window-top e.window (numbers_taken g e.name h))
 
 rows-are : (g : List ℕ) (h : List Act) (es : List SadEntry) → map (row_from (clock h)) (map (half_of g h) es) ≡ map (row_of g h) es
 rows-are g h [] = refl

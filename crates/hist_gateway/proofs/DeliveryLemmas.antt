@@ -1,14 +1,16 @@
 -- What is sent has the ESP octets of its packet, and what must be given is given.
 use Rattle.std.proofs.Common.{◌≡◌, ℕ, ◌==◌, true, false, List, ◌∷◌, ◌++◌, length, Some, Ok, refl, ◌∙◌, ap, arith}
+use Rattle.ikl_base.specs.Address.{AreOneFamily}
 use Rattle.ip_packet.specs.declared.outer.Outer.{Outer}
 use Rattle.ip_packet.specs.View.{Packet, view_of}
-use Rattle.ip_packet.specs.Outer.{AreOneFamily, outer_header, outer_view}
+use Rattle.ip_packet.specs.Outer.{outer_header, outer_view}
+use Rattle.ip_packet.specs.Field.{next_header}
 use Rattle.ikeless_tree.specs.declared.sad.SadEntry.{SadEntry}
 use Rattle.esp_frame.specs.Esp.{esp, keying, spi_of}
 use Rattle.esp_frame.specs.Open as open_esp
 use Rattle.hist_acts.specs.declared.act.Act.{Act}
 use Rattle.hist_acts.specs.declared.act.Act.TheVariants as acts
-use Rattle.hist_halves.specs.Sealed.{by_spi, esp_of, number_of, payload_of, next_header}
+use Rattle.hist_halves.specs.Sealed.{by_spi, esp_of, number_of, payload_of}
 use Rattle.hist_halves.specs.Halves.{live, numbers_taken}
 use Rattle.hist_gateway.specs.Datagram.{datagram, outer_of}
 use Rattle.hist_gateway.specs.Arrive as arrive

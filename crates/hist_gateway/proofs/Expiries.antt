@@ -1,5 +1,6 @@
 -- A half ends, and an expiry is told, exactly where a limit is reached.
 use Rattle.std.proofs.Common.{◌≡◌, ℕ, Bool, true, false, not, ◌&&◌, ◌||◌, nat_lt, max, List, [], ◌∷◌, ◌++◌, refl, sym, ◌∙◌, ap, if◌then◌else◌}
+use Rattle.std.proofs.Math.Bool.{or-false, and-true, and-false}
 use Rattle.std.proofs.lemmas.List.Folds.{list_any-append}
 use Rattle.std.specs.List.{list_any}
 use Rattle.std.specs.Str.{bytes_eq}
@@ -19,19 +20,7 @@ use Rattle.hist_gateway.specs.Look.{expiries, given_by, goings, look}
 use Rattle.hist_gateway.specs.Block.{Gateway, Clock, clock_acts, gw_block}
 use Rattle.hist_gateway.specs.Expiries.{is_hard_end, is_hard_expiry, is_soft_expiry, reaches_hard, reaches_soft}
 
-or-none : (a : Bool) → (a || false) ≡ a
-or-none true = refl
-or-none false = refl
-
 -- ---- what goes
-
-and-true : (n : Bool) → (n && true) ≡ n
-and-true true = refl
-and-true false = refl
-
-and-false : (n : Bool) → (n && false) ≡ false
-and-false true = refl
-and-false false = refl
 
 goes-if : (g x : List ℕ) (e : SadEntry) (rest : List Act) (b : Bool) → list_any (is_hard_end x) (if b then acts.Gone g e.name gone.Hard ∷ rest else rest) ≡ ((bytes_eq e.name x && b) || list_any (is_hard_end x) rest)
 goes-if g x e rest true = ap (λ z. z || list_any (is_hard_end x) rest) (sym (and-true (bytes_eq e.name x)))
@@ -92,7 +81,7 @@ expiries-soft g x h (e ∷ es) =
 -- ---- at a look, and at a reading of the clock
 
 pub look-end : (g x : List ℕ) (h : List Act) (es : List SadEntry) → list_any (is_hard_end x) (look g h es) ≡ list_any (reaches_hard g h x) es
-look-end g x h es = list_any-append (is_hard_end x) (goings g h es) (expiries g h es) ∙ (ap (λ z. list_any (is_hard_end x) (goings g h es) || z) (expiries-end g x h es) ∙ (or-none (list_any (is_hard_end x) (goings g h es)) ∙ goings-end g x h es))
+look-end g x h es = list_any-append (is_hard_end x) (goings g h es) (expiries g h es) ∙ (ap (λ z. list_any (is_hard_end x) (goings g h es) || z) (expiries-end g x h es) ∙ (or-false (list_any (is_hard_end x) (goings g h es)) ∙ goings-end g x h es))
 
 pub look-hard : (g x : List ℕ) (h : List Act) (es : List SadEntry) → list_any (is_hard_expiry x) (look g h es) ≡ list_any (reaches_hard g h x) es
 look-hard g x h es = list_any-append (is_hard_expiry x) (goings g h es) (expiries g h es) ∙ (ap (λ z. z || list_any (is_hard_expiry x) (expiries g h es)) (goings-quiet (is_hard_expiry x) g h (λ e. refl) es) ∙ expiries-hard g x h es)

@@ -1,48 +1,24 @@
 -- What the live halves of a lawful past are.
 use Rattle.std.proofs.Common.{◌≡◌, ◌≤◌, ℕ, ◌+◌, ◌==◌, nat_le, Bool, true, false, not, ◌&&◌, ◌||◌, List, [], ◌∷◌, ◌++◌, length, find, Option, Some, None, refl, sym, ◌∙◌, ap, subst, arith, if◌then◌else◌}
+use Rattle.std.proofs.lemmas.Bool.{and_parts, and_right, or_parts, not-true, or_right, le-leb, leb-true}
 use Rattle.std.specs.Str.{bytes_eq}
 use Rattle.ip_packet.specs.View.{Packet}
 use Rattle.ikeless_tree.specs.declared.sad.SadEntry.{SadEntry}
 use Rattle.ikeless_tree.specs.declared.entry.Direction.TheVariants.{Out}
 use Rattle.ikeless_tree.specs.declared.reply.GoneWhy.{GoneWhy}
+use Rattle.ikeless_tree.specs.Half.{is_inbound}
 use Rattle.spd_match.specs.Match.{holds_packet}
 use Rattle.sad_store.specs.Halves.{may_seal}
 use Rattle.hist_acts.specs.declared.act.Act.{Act}
 use Rattle.hist_acts.specs.declared.act.Act.TheVariants as acts
 use Rattle.hist_acts.specs.Past.{after}
-use Rattle.hist_halves.specs.Sealed.{is_inbound, by_spi}
+use Rattle.hist_halves.specs.Sealed.{by_spi}
 use Rattle.hist_halves.specs.Halves.{is_half, live, put_of, without}
 use Rattle.hist_gateway.specs.Let.{newer, newest}
 use Rattle.hist_gateway.specs.Block.{Gateway}
 use Rattle.hist_gateway.specs.May.{has_half, GatewayMayActAll, IsGatewayPast, IsInstallable, AreInstalled, are_apart, has_inbound_spi, are_spis_apart, ArePut, AreHalves, IsHalfFor, IsHalfOf}
 use Rattle.hist_gateway.proofs.KeepsLemmas.{same-refl, same-sym}
 use Rattle.hist_gateway.proofs.ReadingsLemmas.{any-end, live-is, without-half}
-
--- ---- Booleans
-
-and-both : (a b : Bool) → (a && b) ≡ true → (a ≡ true) × (b ≡ true)
-and-both true b e = (refl, e)
-and-both false b e = cc
-
-and-false : (a b : Bool) → b ≡ false → (a && b) ≡ false
-and-false true b e = e
-and-false false b e = refl
-
-or-parts : (a b : Bool) → (a || b) ≡ false → (a ≡ false) × (b ≡ false)
-or-parts true b e = cc
-or-parts false b e = (refl, e)
-
-not-true : (b : Bool) → not b ≡ true → b ≡ false
-not-true true e = cc
-not-true false e = refl
-
-not-false : (b : Bool) → not b ≡ false → b ≡ true
-not-false true e = refl
-not-false false e = cc
-
-or-right : (a b : Bool) → b ≡ true → (a || b) ≡ true
-or-right true b p = refl
-or-right false b p = p
 
 -- ---- halves but one
 
@@ -56,7 +32,7 @@ put-without g h x [] p = tt
 put-without g h x (e ∷ es) p = put-kept g h x e es (bytes_eq e.name x) refl p (put-without g h x es p.1)
 
 none-without : (y x : List ℕ) (es : List SadEntry) → has_half y es ≡ false → has_half y (without x es) ≡ false
-none-without y x es p = without-half y x es ∙ rw p (and-false (not (bytes_eq x y)) false refl)
+none-without y x es p = without-half y x es ∙ rw p (and_right (not (bytes_eq x y)) false refl)
 
 apart-kept : (x : List ℕ) (e : SadEntry) (es : List SadEntry) (b : Bool) → bytes_eq e.name x ≡ b → has_half e.name es ≡ false →
     are_apart (without x es) ≡ true → are_apart (without x (e ∷ es)) ≡ true
@@ -65,7 +41,7 @@ apart-kept x e es false own new ih = rw (own, none-without e.name x es new) ih
 
 pub apart-without : (x : List ℕ) (es : List SadEntry) → are_apart es ≡ true → are_apart (without x es) ≡ true
 apart-without x [] p = refl
-apart-without x (e ∷ es) p = let q = and-both (not (has_half e.name es)) (are_apart es) p in apart-kept x e es (bytes_eq e.name x) refl (not-true (has_half e.name es) q.0) (apart-without x es q.1)
+apart-without x (e ∷ es) p = let q = and_parts (not (has_half e.name es)) (are_apart es) p in apart-kept x e es (bytes_eq e.name x) refl (not-true (has_half e.name es) q.0) (apart-without x es q.1)
 
 spi-kept : (x : List ℕ) (spi : ℕ) (e : SadEntry) (es : List SadEntry) (b : Bool) → bytes_eq e.name x ≡ b → (is_inbound e.name && (e.spi == spi)) ≡ false →
     has_inbound_spi spi (without x es) ≡ false → has_inbound_spi spi (without x (e ∷ es)) ≡ false
@@ -75,7 +51,7 @@ spi-kept x spi e es false own new ih = rw (own, new) ih
 spi-without : (x : List ℕ) (spi : ℕ) (es : List SadEntry) → has_inbound_spi spi es ≡ false → has_inbound_spi spi (without x es) ≡ false
 spi-without x spi [] p = refl
 spi-without x spi (e ∷ es) p =
-    let q = or-parts (is_inbound e.name && (e.spi == spi)) (has_inbound_spi spi es) p in spi-kept x spi e es (bytes_eq e.name x) refl q.0 (spi-without x spi es q.1)
+    let q = or_parts (is_inbound e.name && (e.spi == spi)) (has_inbound_spi spi es) p in spi-kept x spi e es (bytes_eq e.name x) refl q.0 (spi-without x spi es q.1)
 
 own-kept : (x : List ℕ) (e : SadEntry) (es : List SadEntry) (b i : Bool) → bytes_eq e.name x ≡ b → is_inbound e.name ≡ i →
     (is_inbound e.name && has_inbound_spi e.spi es) ≡ false → are_spis_apart (without x es) ≡ true → are_spis_apart (without x (e ∷ es)) ≡ true
@@ -88,7 +64,7 @@ own-kept x e es false false own inb new ih = rw (own, inb) ih
 own-without : (x : List ℕ) (es : List SadEntry) → are_spis_apart es ≡ true → are_spis_apart (without x es) ≡ true
 own-without x [] p = refl
 own-without x (e ∷ es) p =
-    let q = and-both (not (is_inbound e.name && has_inbound_spi e.spi es)) (are_spis_apart es) p in
+    let q = and_parts (not (is_inbound e.name && has_inbound_spi e.spi es)) (are_spis_apart es) p in
     own-kept x e es (bytes_eq e.name x) (is_inbound e.name) refl refl (not-true (is_inbound e.name && has_inbound_spi e.spi es) q.0) (own-without x es q.1)
 
 fewer-kept : (x : List ℕ) (n : ℕ) (e : SadEntry) (es : List SadEntry) (b : Bool) → bytes_eq e.name x ≡ b → length (e ∷ es) ≤ n →
@@ -108,16 +84,16 @@ fewer-without x n es p = let f = fewer x es in omega (arith, f, p)
 put-more : (g f : List ℕ) (x : SadEntry) (h : List Act) (es : List SadEntry) → bytes_eq f g ≡ true → has_half x.name es ≡ false → ArePut g h es → ArePut g (acts.Put f x ∷ h) (es ++ x ∷ [])
 put-more g f x h [] at new p = (rw (at, same-refl x.name) refl, tt)
 put-more g f x h (e ∷ es) at new p =
-    let q = or-parts (bytes_eq e.name x.name) (has_half x.name es) new in
+    let q = or_parts (bytes_eq e.name x.name) (has_half x.name es) new in
     let s = same-sym x.name e.name in
-    let away : is_half f x.name g e.name ≡ false = and-false (bytes_eq f g) (bytes_eq x.name e.name) (s ∙ q.0) in
+    let away : is_half f x.name g e.name ≡ false = and_right (bytes_eq f g) (bytes_eq x.name e.name) (s ∙ q.0) in
     (rw away p.0, put-more g f x h es at q.1 p.1)
 
 pub apart-more : (x : SadEntry) (es : List SadEntry) → has_half x.name es ≡ false → are_apart es ≡ true → are_apart (es ++ x ∷ []) ≡ true
 apart-more x [] new p = refl
 apart-more x (e ∷ es) new p =
-    let q = or-parts (bytes_eq e.name x.name) (has_half x.name es) new in
-    let r = and-both (not (has_half e.name es)) (are_apart es) p in
+    let q = or_parts (bytes_eq e.name x.name) (has_half x.name es) new in
+    let r = and_parts (not (has_half e.name es)) (are_apart es) p in
     let m = any-end (λ (z : SadEntry). bytes_eq z.name e.name) es x in
     let s = same-sym x.name e.name in
     let away : has_half e.name (es ++ x ∷ []) ≡ false = m ∙ rw (s ∙ q.0, not-true (has_half e.name es) r.0) refl in
@@ -137,7 +113,7 @@ own-step : (x e : SadEntry) (es : List SadEntry) (i j : Bool) → is_inbound e.n
 own-step x e es true true inb inx m old new rest =
     let old' : has_inbound_spi e.spi es ≡ false = subst (λ b. (b && has_inbound_spi e.spi es) ≡ false) inb old in
     let new' : ((is_inbound e.name && (e.spi == x.spi)) || has_inbound_spi x.spi es) ≡ false = subst (λ b. (b && has_inbound_spi x.spi (e ∷ es)) ≡ false) inx new in
-    let q = or-parts (is_inbound e.name && (e.spi == x.spi)) (has_inbound_spi x.spi es) new' in
+    let q = or_parts (is_inbound e.name && (e.spi == x.spi)) (has_inbound_spi x.spi es) new' in
     let differ : (e.spi == x.spi) ≡ false = subst (λ b. (b && (e.spi == x.spi)) ≡ false) inb q.0 in
     let away : (x.spi == e.spi) ≡ false = flip-eq e.spi x.spi differ in
     let free : has_inbound_spi e.spi (es ++ x ∷ []) ≡ false = m ∙ rw (inx, away, old') refl in
@@ -148,14 +124,14 @@ own-step x e es true false inb inx m old new rest =
     rw (inb, free) (rest (rw inx refl))
 own-step x e es false true inb inx m old new rest =
     let new' : ((is_inbound e.name && (e.spi == x.spi)) || has_inbound_spi x.spi es) ≡ false = subst (λ b. (b && has_inbound_spi x.spi (e ∷ es)) ≡ false) inx new in
-    let q = or-parts (is_inbound e.name && (e.spi == x.spi)) (has_inbound_spi x.spi es) new' in
+    let q = or_parts (is_inbound e.name && (e.spi == x.spi)) (has_inbound_spi x.spi es) new' in
     rw inb (rest (rw (inx, q.1) refl))
 own-step x e es false false inb inx m old new rest = rw inb (rest (rw inx refl))
 
 own-more : (x : SadEntry) (es : List SadEntry) → (is_inbound x.name && has_inbound_spi x.spi es) ≡ false → are_spis_apart es ≡ true → are_spis_apart (es ++ x ∷ []) ≡ true
 own-more x [] new p = own-one (is_inbound x.name)
 own-more x (e ∷ es) new p =
-    let r = and-both (not (is_inbound e.name && has_inbound_spi e.spi es)) (are_spis_apart es) p in
+    let r = and_parts (not (is_inbound e.name && has_inbound_spi e.spi es)) (are_spis_apart es) p in
     let m = any-end (λ (z : SadEntry). is_inbound z.name && (z.spi == e.spi)) es x in
     own-step x e es (is_inbound e.name) (is_inbound x.name) refl refl m (not-true (is_inbound e.name && has_inbound_spi e.spi es) r.0) new (λ q. own-more x es q r.1)
 
@@ -178,12 +154,6 @@ quiet-act g h later same puts k = record {
   few = rw same k.few;
 }
 
-le-true : (m n : ℕ) → m ≤ n → nat_le m n ≡ true
-le-true m n p = grind arith
-
-true-le : (m n : ℕ) → nat_le m n ≡ true → m ≤ n
-true-le m n p = grind arith
-
 room-le : (n : ℕ) → nat_le 4096 n ≡ false → n + 1 ≤ 4096
 room-le n p = grind arith
 
@@ -197,19 +167,19 @@ halves-put g f x h true at may k =
       put = rw there (put-more g f x h (live g h) at here.name k.put);
       apart = rw there (apart-more x (live g h) here.name k.apart);
       own_spis = rw there (own-more x (live g h) here.spi k.own_spis);
-      few = rw there (le-true (length (live g h ++ x ∷ [])) 4096 (omega (arith, e, room)));
+      few = rw there (le-leb (length (live g h ++ x ∷ [])) 4096 (omega (arith, e, room)));
     }
 halves-put g f x h false at may k = quiet-act g h (acts.Put f x ∷ h) (rw at refl) (λ e. rw at refl) k
 
 halves-gone : (g f y : List ℕ) (w : GoneWhy) (h : List Act) (b : Bool) → bytes_eq f g ≡ b → AreHalves g h → AreHalves g (acts.Gone f y w ∷ h)
 halves-gone g f y w h true at k =
     let there : live g (acts.Gone f y w ∷ h) ≡ without y (live g h) = rw at refl in
-    let few = true-le (length (live g h)) 4096 k.few in
+    let few = leb-true (length (live g h)) 4096 k.few in
     record {
       put = rw there (put-same g h (acts.Gone f y w ∷ h) (without y (live g h)) (λ e. refl) (put-without g h y (live g h) k.put));
       apart = rw there (apart-without y (live g h) k.apart);
       own_spis = rw there (own-without y (live g h) k.own_spis);
-      few = rw there (le-true (length (without y (live g h))) 4096 (fewer-without y 4096 (live g h) few));
+      few = rw there (le-leb (length (without y (live g h))) 4096 (fewer-without y 4096 (live g h) few));
     }
 halves-gone g f y w h false at k = quiet-act g h (acts.Gone f y w ∷ h) (rw at refl) (λ e. refl) k
 
@@ -238,7 +208,7 @@ found-step p x es e true own f rest =
 found-step p x es e false own f rest =
     let is : find p es ≡ Some e = subst (λ b. (if b then Some x else find p es) ≡ Some e) own f in
     let r = rest is in
-    (r.0, or-right (bytes_eq x.name e.name) (has_half e.name es) r.1)
+    (r.0, or_right (bytes_eq x.name e.name) (has_half e.name es) r.1)
 
 found-has : (p : SadEntry → Bool) (es : List SadEntry) (e : SadEntry) → find p es ≡ Some e → (p e ≡ true) × (has_half e.name es ≡ true)
 found-has p [] e f = cc
@@ -263,7 +233,7 @@ newest-step : (g : List ℕ) (h : List Act) (r : ℕ) (v : Packet) (x : SadEntry
     (may_seal r v e ≡ true) × (has_half e.name (x ∷ es) ≡ true) × (put_of g e.name h ≡ Some e)
 newest-step g h r v x es e (Some y) new b own are f rest =
     let n = rest (new ∙ f) in
-    (n.0, or-right (bytes_eq x.name e.name) (has_half e.name es) n.1, n.2)
+    (n.0, or_right (bytes_eq x.name e.name) (has_half e.name es) n.1, n.2)
 newest-step g h r v x es e None new true own are f rest =
     let is : Some x ≡ Some e = subst (λ b. (if b then Some x else None) ≡ Some e) own f in
     let same : x ≡ e = cc in
@@ -281,8 +251,8 @@ pub half-for : (g : List ℕ) (h : List Act) (r : ℕ) (v : Packet) (e : SadEntr
 half-for g h r v e l f =
     let are = halves-are g h l in
     let n = newest-has g h r v (live g h) e are.put f in
-    let s = and-both (not (is_inbound e.name)) ((e.reqid == r) && holds_packet e.selector Out v) n.0 in
-    let t = and-both (e.reqid == r) (holds_packet e.selector Out v) s.1 in
+    let s = and_parts (not (is_inbound e.name)) ((e.reqid == r) && holds_packet e.selector Out v) n.0 in
+    let t = and_parts (e.reqid == r) (holds_packet e.selector Out v) s.1 in
     record { live = sym (live-is g e.name h) ∙ n.1; put = n.2; outbound = not-true (is_inbound e.name) s.0; own_reqid = t.0; holds = t.1 }
 
 pub half-of-spi : (g : List ℕ) (h : List Act) (spi : ℕ) (e : SadEntry) → AreInstalled g h → by_spi spi (live g h) ≡ Some e → IsHalfOf g h spi e
@@ -290,7 +260,7 @@ half-of-spi g h spi e l f =
     let are = halves-are g h l in
     let p : SadEntry → Bool = λ x. is_inbound x.name && (x.spi == spi) in
     let n = found-has p (live g h) e f in
-    let s = and-both (is_inbound e.name) (e.spi == spi) n.0 in
+    let s = and_parts (is_inbound e.name) (e.spi == spi) n.0 in
     record { live = sym (live-is g e.name h) ∙ n.1; put = found-put g h p (live g h) e are.put f; inbound = s.0; own_spi = s.1 }
 
 -- ---- histories

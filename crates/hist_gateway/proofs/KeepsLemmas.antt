@@ -1,10 +1,11 @@
 -- What is kept of a past, one act later, is what the act makes of what was kept.
-use Rattle.std.proofs.Common.{◌≡◌, ℕ, ◌+◌, zero, suc, ◌≤◌, Bool, true, false, ◌&&◌, ◌||◌, List, [], ◌∷◌, ◌++◌, Option, Some, None, map, take, length, refl, sym, ◌∙◌, ap, arith, if◌then◌else◌}
+use Rattle.std.proofs.Common.{◌≡◌, ℕ, ◌+◌, zero, suc, ◌≤◌, Bool, true, false, ◌&&◌, List, [], ◌∷◌, ◌++◌, Option, Some, None, ◌⊎◌, inl, inr, max, fold, map, take, length, refl, sym, ◌∙◌, ap, arith, if◌then◌else◌}
+use Rattle.std.proofs.lemmas.Bool.{or_parts, and_right, and_left}
 use Rattle.std.specs.Str.{bytes_eq}
 use Rattle.ikeless_tree.specs.declared.entry.SpdEntry.{SpdEntry}
 use Rattle.ikeless_tree.specs.declared.sad.SadEntry.{SadEntry}
 use Rattle.ikeless_tree.specs.declared.order.Notice.{Notice}
-use Rattle.replay_win.specs.Marks.{Marks, marked, no_marks}
+use Rattle.replay_win.specs.Marks.{Marks, greatest, marked, no_marks}
 use Rattle.life_count.specs.Lifetime.{Lifetime, counted}
 use Rattle.life_count.proofs.CountLemmas.{life-with, counted-life}
 use Rattle.sad_store.specs.declared.half.Half.{Half}
@@ -15,21 +16,20 @@ use Rattle.hist_acts.specs.Past.{clock}
 use Rattle.hist_halves.specs.Sealed.{esp_of, is_opened}
 use Rattle.hist_halves.specs.Halves.{is_half, live, sent, numbers_taken, without}
 use Rattle.hist_gateway.specs.Uses.{arrival, is_for, octets_in, octets_used, times_used, installed_at, last_used}
-use Rattle.hist_gateway.specs.State.{GatewayState, life_of, half_of, state_of, quiet, with_halves, did, did_at, is_at, sent_under, given_under, opened_under, note, window_of}
+use Rattle.hist_gateway.specs.State.{GatewayState, life_of, half_of, state_of, quiet, with_halves, did, did_at, is_at, sent_under, given_under, opened_under, take_if, note, window_of}
 use Rattle.hist_gateway.specs.May.{has_half, IsNewHalf}
 use Rattle.std.proofs.lemmas.Slice.Eq.{bytes_eq-Decides}
 use Rattle.std.proofs.lemmas.List.Sums.{fold-append}
 use Rattle.ikeless_tree.specs.declared.reply.DropWhy.{DropWhy}
 use Rattle.ikeless_tree.specs.declared.reply.GoneWhy.{GoneWhy}
-use Rattle.esp_frame.specs.Esp.{seq_of, spi_of}
-use Rattle.hist_halves.specs.Sealed.{by_spi}
-use Rattle.hist_halves.specs.Halves.{number_if, arrival_number}
+use Rattle.esp_frame.specs.Esp.{spi_of}
+use Rattle.hist_halves.specs.Sealed.{by_spi, number_from}
+use Rattle.hist_halves.specs.Halves.{number_if, number_for, arrival_number}
 use Rattle.hist_gateway.specs.Uses.{is_named_half}
 use Rattle.ikeless_tree.specs.declared.order.Answer.{Answer}
 use Rattle.ikeless_tree.specs.declared.order.Notice.TheVariants as notices
 use Rattle.hist_gateway.specs.Stands.{with_spi, bad_spis, was_soft_given, was_overflow_given}
 use Rattle.hist_gateway.specs.State.{with_put, with_session, with_notice, wanted_after, with_acquire, acquires}
-use Rattle.hist_gateway.specs.Uses.{number_in}
 
 -- ---- lists
 
@@ -82,6 +82,14 @@ same-sym x y = same-back x y (bytes_eq x y) (bytes_eq y x) refl refl
 window-end : (size n : ℕ) (ns : List ℕ) → window_of size (ns ++ n ∷ []) ≡ marked (window_of size ns) n
 window-end size n ns = fold-append marked (no_marks size) ns (n ∷ [])
 
+top-is : (w : Marks) (ns : List ℕ) → (fold marked w ns).top ≡ max w.top (greatest ns)
+top-is w [] = omega arith
+top-is w (n ∷ ns) = let ih = top-is (marked w n) ns in omega (arith, ih)
+
+-- the window's top is the greatest number taken
+pub window-top : (size : ℕ) (ns : List ℕ) → (window_of size ns).top ≡ greatest ns
+window-top size ns = let t = top-is (no_marks size) ns in omega (arith, t)
+
 abbrev half-with : SadEntry → ℕ → Marks → Lifetime → Bool → Half
 half-with e n w l o = record { entry = e; sent = n; window = w; life = l; overflow = o }
 
@@ -120,31 +128,59 @@ gave-split g f y o n h e false at own = rw (at, own) refl
 gave-away : (g f y o : List ℕ) (n : ℕ) (h : List Act) (e : SadEntry) → bytes_eq f g ≡ false → half_of g (acts.Gave f y n o ∷ h) e ≡ half_of g h e
 gave-away g f y o n h e at = rw at refl
 
--- the number of the arrival for a half is the field
-abbrev pub number_for : List ℕ → List SadEntry → Option (List ℕ) → Option ℕ
-number_for x es o = if is_for x es o then Some (number_in o) else None
+-- the datagram is for the half, and has a number for it, or neither
+abbrev pub NumberFor : List ℕ → ℕ → List SadEntry → List ℕ → Type 0
+NumberFor x top es o =
+    ((is_for x es (Some o) ≡ false) × (number_for x top es (esp_of o) ≡ None))
+    ⊎ ((n : ℕ) × (is_for x es (Some o) ≡ true) × (number_for x top es (esp_of o) ≡ Some n))
 
-found-number : (x numbers o : List ℕ) (found : Option SadEntry) →
-    number_if x numbers (esp_of o) found ≡ (if is_named_half x found then Some (seq_of (esp_of o)) else None)
-found-number x numbers o None = refl
-found-number x numbers o (Some e) = refl
+pub number-either : (x : List ℕ) (top : ℕ) (es : List SadEntry) (o : List ℕ) → NumberFor x top es o
+number-either x top es o = by-found (by_spi (spi_of (esp_of o)) es)
+  where
+    by-name : (e : SadEntry) (b : Bool) → bytes_eq e.name x ≡ b →
+        ((is_named_half x (Some e) ≡ false) × (number_if x top (esp_of o) (Some e) ≡ None))
+        ⊎ ((n : ℕ) × (is_named_half x (Some e) ≡ true) × (number_if x top (esp_of o) (Some e) ≡ Some n))
+    by-name e true p = inr (number_from e top (esp_of o), p, rw p refl)
+    by-name e false p = inl (p, rw p refl)
+
+    by-found : (found : Option SadEntry) →
+        ((is_named_half x found ≡ false) × (number_if x top (esp_of o) found ≡ None))
+        ⊎ ((n : ℕ) × (is_named_half x found ≡ true) × (number_if x top (esp_of o) found ≡ Some n))
+    by-found None = inl (refl, refl)
+    by-found (Some e) = by-name e (bytes_eq e.name x) refl
+
+-- the number of the arrival for a half, where there is an arrival
+abbrev pub arrived_for : List ℕ → ℕ → List SadEntry → Option (List ℕ) → Option ℕ
+arrived_for x top es None = None
+arrived_for x top es (Some o) = number_for x top es (esp_of o)
 
 number-at : (g x numbers f o : List ℕ) (h : List Act) (b : Bool) → bytes_eq f g ≡ b →
-    arrival_number g x numbers (acts.Arrived f o ∷ h) ≡ number_for x (live g h) (arrival g (acts.Arrived f o ∷ h))
-number-at g x numbers f o h true at = rw at (found-number x numbers o (by_spi (spi_of (esp_of o)) (live g h)))
+    arrival_number g x numbers (acts.Arrived f o ∷ h) ≡ arrived_for x (greatest numbers) (live g h) (arrival g (acts.Arrived f o ∷ h))
+number-at g x numbers f o h true at = rw at refl
 number-at g x numbers f o h false at = rw at refl
 
-pub number-is : (g x numbers : List ℕ) (h : List Act) → arrival_number g x numbers h ≡ number_for x (live g h) (arrival g h)
+number-is : (g x numbers : List ℕ) (h : List Act) → arrival_number g x numbers h ≡ arrived_for x (greatest numbers) (live g h) (arrival g h)
 number-is g x numbers [] = refl
 number-is g x numbers (acts.Arrived f o ∷ h) = number-at g x numbers f o h (bytes_eq f g) refl
 number-is g x numbers (a ∷ h) = refl
 
-pub opened-split : (g f : List ℕ) (w : DropWhy) (h : List Act) (e : SadEntry) (b : Bool) → bytes_eq f g ≡ true → is_opened w ≡ true →
-    is_for e.name (live g h) (arrival g h) ≡ b →
+pub opened-split : (g f : List ℕ) (w : DropWhy) (h : List Act) (e : SadEntry) → bytes_eq f g ≡ true → is_opened w ≡ true →
     half_of g (acts.Drop f w ∷ h) e ≡ opened_under (live g h) (arrival g h) (clock h) (half_of g h e)
-opened-split g f w h e true at op own =
-    rw (number-is g e.name (numbers_taken g e.name h) h, at, op, own) (used-half g h e (number_in (arrival g h)) (octets_in (arrival g h)))
-opened-split g f w h e false at op own = rw (number-is g e.name (numbers_taken g e.name h) h, at, op, own) refl
+opened-split g f w h e at op = by-arrival (arrival g h) refl
+  where
+    taken : ℕ
+    taken = greatest (numbers_taken g e.name h)
+
+    by-number : (o : List ℕ) → arrival g h ≡ Some o → NumberFor e.name taken (live g h) o →
+        half_of g (acts.Drop f w ∷ h) e ≡ take_if (clock h) (octets_in (Some o)) (number_for e.name taken (live g h) (esp_of o)) (half_of g h e)
+    by-number o q (inl p) = rw (number-is g e.name (numbers_taken g e.name h) h, at, op, q, p.0, p.1) refl
+    by-number o q (inr (n, p, r)) = rw (number-is g e.name (numbers_taken g e.name h) h, at, op, q, p, r) (used-half g h e n (octets_in (Some o)))
+
+    by-arrival : (a : Option (List ℕ)) → arrival g h ≡ a → half_of g (acts.Drop f w ∷ h) e ≡ opened_under (live g h) a (clock h) (half_of g h e)
+    by-arrival None q = rw (number-is g e.name (numbers_taken g e.name h) h, at, op, q) refl
+    by-arrival (Some o) q =
+        by-number o q (number-either e.name taken (live g h) o)
+        ∙ ap (λ top. take_if (clock h) (octets_in (Some o)) (number_for e.name top (live g h) (esp_of o)) (half_of g h e)) (sym (window-top e.window (numbers_taken g e.name h)))
 
 dropped-half : (g f : List ℕ) (w : DropWhy) (h : List Act) (e : SadEntry) → (bytes_eq f g && is_opened w) ≡ false →
     half_of g (acts.Drop f w ∷ h) e ≡ half_of g h e
@@ -178,26 +214,14 @@ put-fresh g f x h at = rw (at, same-refl x.name) refl
 
 -- ---- lists of halves
 
-pub or-parts : (a b : Bool) → (a || b) ≡ false → (a ≡ false) × (b ≡ false)
-or-parts true b e = cc
-or-parts false b e = (refl, e)
-
-both-false : (a b : Bool) → b ≡ false → (a && b) ≡ false
-both-false true b e = e
-both-false false b e = refl
-
-and-false : (a b : Bool) → a ≡ false → (a && b) ≡ false
-and-false true b e = cc
-and-false false b e = refl
-
 pub no-half : (g f : List ℕ) (x e : SadEntry) → bytes_eq e.name x.name ≡ false → is_half f x.name g e.name ≡ false
-no-half g f x e away = let s = same-sym x.name e.name in both-false (bytes_eq f g) (bytes_eq x.name e.name) (s ∙ away)
+no-half g f x e away = let s = same-sym x.name e.name in and_right (bytes_eq f g) (bytes_eq x.name e.name) (s ∙ away)
 
 put-halves : (g f : List ℕ) (x : SadEntry) (h : List Act) (es : List SadEntry) → bytes_eq f g ≡ true → has_half x.name es ≡ false →
     map (half_of g (acts.Put f x ∷ h)) (es ++ x ∷ []) ≡ map (half_of g h) es ++ fresh (clock h) x ∷ []
 put-halves g f x h [] at away = let p = put-fresh g f x h at in cc
 put-halves g f x h (e ∷ es) at away =
-    let parts = or-parts (bytes_eq e.name x.name) (has_half x.name es) away in
+    let parts = or_parts (bytes_eq e.name x.name) (has_half x.name es) away in
     let p = put-half g f x h e (no-half g f x e parts.0) in
     let ih = put-halves g f x h es at parts.1 in
     cc
@@ -240,7 +264,7 @@ keeps-put g f x h true at new =
     let m = put-halves g f x h (live g h) at (new at) in
     rw at (ap (λ hs. with_put hs (wanted_after x (state_of g h)) (state_of g h)) m)
 keeps-put g f x h false at new =
-    let m = map-same (half_of g h) (half_of g (acts.Put f x ∷ h)) (λ e. put-half g f x h e (and-false (bytes_eq f g) (bytes_eq x.name e.name) at)) (live g h) in
+    let m = map-same (half_of g h) (half_of g (acts.Put f x ∷ h)) (λ e. put-half g f x h e (and_left (bytes_eq f g) (bytes_eq x.name e.name) at)) (live g h) in
     rw at (ap (λ hs. with_halves hs (state_of g h)) m)
 
 keeps-gone : (g f x : List ℕ) (w : GoneWhy) (h : List Act) (b : Bool) → bytes_eq f g ≡ b →
@@ -269,7 +293,7 @@ keeps-gave g f y o n h false at =
 keeps-opened : (g f : List ℕ) (w : DropWhy) (h : List Act) → bytes_eq f g ≡ true → is_opened w ≡ true →
     state_of g (acts.Drop f w ∷ h) ≡ did g (state_of g h) (acts.Drop f w)
 keeps-opened g f w h at op =
-    let m = map-step (half_of g h) (half_of g (acts.Drop f w ∷ h)) (opened_under (live g h) (arrival g h) (clock h)) (λ e. opened-split g f w h e (is_for e.name (live g h) (arrival g h)) at op refl) (live g h) in
+    let m = map-step (half_of g h) (half_of g (acts.Drop f w ∷ h)) (opened_under (live g h) (arrival g h) (clock h)) (λ e. opened-split g f w h e at op) (live g h) in
     let k = entries-kept g h (live g h) in
     rw (at, op, k) (ap (λ hs. with_halves hs (state_of g h)) m)
 
@@ -281,8 +305,8 @@ keeps-dropped g f w h away =
 keeps-drop : (g f : List ℕ) (w : DropWhy) (h : List Act) (b c : Bool) → bytes_eq f g ≡ b → is_opened w ≡ c →
     state_of g (acts.Drop f w ∷ h) ≡ did g (state_of g h) (acts.Drop f w)
 keeps-drop g f w h true true at op = keeps-opened g f w h at op
-keeps-drop g f w h true false at op = rw (at, op) (keeps-dropped g f w h (both-false (bytes_eq f g) (is_opened w) op))
-keeps-drop g f w h false c at op = rw at (keeps-dropped g f w h (and-false (bytes_eq f g) (is_opened w) at))
+keeps-drop g f w h true false at op = rw (at, op) (keeps-dropped g f w h (and_right (bytes_eq f g) (is_opened w) op))
+keeps-drop g f w h false c at op = rw at (keeps-dropped g f w h (and_left (bytes_eq f g) (is_opened w) at))
 
 keeps-arrived : (g f o : List ℕ) (h : List Act) (b : Bool) → bytes_eq f g ≡ b → state_of g (acts.Arrived f o ∷ h) ≡ did g (state_of g h) (acts.Arrived f o)
 keeps-arrived g f o h true at = rw at refl

@@ -1,5 +1,6 @@
 -- What a look makes of the halves: those that reached a hard limit are gone, and what was told of the others is kept.
-use Rattle.std.proofs.Common.{◌≡◌, ℕ, zero, suc, Bool, true, false, not, ◌&&◌, ◌||◌, List, [], ◌∷◌, ◌++◌, Option, Some, None, map, take, refl, sym, ap, ◌∙◌, subst, if◌then◌else◌}
+use Rattle.std.proofs.Common.{◌≡◌, ℕ, zero, suc, Bool, true, false, ◌||◌, List, [], ◌∷◌, ◌++◌, Some, map, take, refl, sym, ap, ◌∙◌, subst, if◌then◌else◌}
+use Rattle.std.proofs.lemmas.Bool.{or_parts}
 use Rattle.std.specs.Prelude.{slice_get}
 use Rattle.std.specs.List.{list_any}
 use Rattle.std.specs.Str.{bytes_eq}
@@ -8,7 +9,7 @@ use Rattle.ikeless_tree.specs.declared.order.Notice.TheVariants as notices
 use Rattle.ikeless_tree.specs.declared.reply.GoneWhy.TheVariants as gone
 use Rattle.life_count.specs.declared.event.LifeEvent.{LifeEvent}
 use Rattle.life_count.specs.declared.event.LifeEvent.TheVariants as events
-use Rattle.life_count.specs.Lifetime.{counts_of, event_at, expiry, is_reached, is_soft, looked, with_told}
+use Rattle.life_count.specs.Lifetime.{counts_of, event_at, expiry, is_reached, is_soft, with_told}
 use Rattle.sad_store.specs.declared.half.Half.{Half}
 use Rattle.sad_store.specs.Halves.{changed, halves_without, look_at, names_of, with_life}
 use Rattle.sad_store.specs.Kept.{are_names_apart}
@@ -18,8 +19,8 @@ use Rattle.hist_gateway.specs.Look.{given_by}
 use Rattle.hist_gateway.specs.State.{GatewayState, did, did_all, note, quiet, with_halves, with_notice}
 use Rattle.hist_gateway.specs.Machine.{expiries_of, goings_of, look_of}
 use Rattle.hist_gateway.specs.Places.{names_reached, softly_told, under, without_all}
-use Rattle.hist_gateway.proofs.KeepsLemmas.{same-refl, same-sym, or-parts}
-use Rattle.hist_gateway.proofs.PlacesLemmas.{apart-parts, away, hard-at, map-as, map-own, placed, soft-as}
+use Rattle.hist_gateway.proofs.KeepsLemmas.{same-refl}
+use Rattle.hist_gateway.proofs.PlacesLemmas.{apart-parts, away, changed-as, hard-at, map-as, map-own, placed, soft-as}
 
 pub done-more : (g : List ℕ) (s : GatewayState) (xs ys : List Act) → did_all g s (xs ++ ys) ≡ did_all g (did_all g s xs) ys
 done-more g s [] ys = refl
@@ -108,7 +109,7 @@ same-if false z = refl
 told-away : (now : ℕ) (ys : List Half) (z : Half) → list_any (λ n. bytes_eq n z.entry.name) (names_of ys) ≡ false → told_by now ys z ≡ z
 told-away now [] z p = refl
 told-away now (y ∷ ys) z p =
-    let r = or-parts (bytes_eq y.entry.name z.entry.name) (list_any (λ n. bytes_eq n z.entry.name) (names_of ys)) p in
+    let r = or_parts (bytes_eq y.entry.name z.entry.name) (list_any (λ n. bytes_eq n z.entry.name) (names_of ys)) p in
     let ih = told-away now ys z r.1 in
     rw (r.0, same-if (is_soft (event_at now y.life)) z) ih
 
@@ -168,15 +169,6 @@ look-at-all g t s a p =
     ∙ ap (λ zs. with_halves (without_all (names_reached s.clock s.halves) zs) s) (looked-all s.clock s.halves a)
 
 -- ---- one half
-
-changed-as : (f h : Half → Half) (xs : List Half) (i : ℕ) (x : Half) → slice_get xs i ≡ Some x → f x ≡ h x → changed f i xs ≡ changed h i xs
-changed-as f h [] i x q e = refl
-changed-as f h (y ∷ ys) zero x q e =
-    let s : Some y ≡ Some x = q in
-    let o : y ≡ x = cc in
-    let r : f y ≡ h y = ap f o ∙ (e ∙ ap h (sym o)) in
-    ap (λ z. z ∷ ys) r
-changed-as f h (y ∷ ys) (suc i) x q e = ap (λ zs. y ∷ zs) (changed-as f h ys i x q e)
 
 changed-own : (xs : List Half) (i : ℕ) → xs ≡ changed (λ z. z) i xs
 changed-own [] i = refl

@@ -1,5 +1,6 @@
 -- Every act of a block may follow those before it.
 use Rattle.std.proofs.Common.{◌≡◌, ℕ, suc, ◌+◌, ◌==◌, max, Bool, true, false, not, ◌&&◌, ◌||◌, nat_le, nat_lt, List, [], ◌∷◌, ◌++◌, length, map, Option, Some, None, Result, Ok, Err, refl, sym, ◌∙◌, ap, subst, if◌then◌else◌}
+use Rattle.std.proofs.lemmas.Bool.{or_parts, not-false}
 use Rattle.std.specs.List.{list_any}
 use Rattle.ip_packet.specs.declared.packet.NotPacket.{NotPacket}
 use Rattle.ip_packet.specs.declared.packet.NotPacket.TheVariants as faults
@@ -15,6 +16,7 @@ use Rattle.ikeless_tree.specs.declared.order.Notice.TheVariants as notices
 use Rattle.ikeless_tree.specs.declared.reply.DropWhy.TheVariants as why
 use Rattle.ikeless_tree.specs.declared.reply.GoneWhy.{GoneWhy}
 use Rattle.ikeless_tree.specs.declared.reply.GoneWhy.TheVariants as gone
+use Rattle.ikeless_tree.specs.Half.{is_inbound}
 use Rattle.hist_halves.specs.Halves.{is_hard}
 use Rattle.reply_table.specs.declared.ask.Ask.{Ask}
 use Rattle.reply_table.specs.declared.ask.Change.{Change}
@@ -31,7 +33,7 @@ use Rattle.hist_acts.specs.declared.act.Act.{Act}
 use Rattle.hist_acts.specs.declared.act.Act.TheVariants as acts
 use Rattle.hist_acts.specs.Past.{after, force, clock}
 use Rattle.hist_acts.specs.Sessions as sessions
-use Rattle.hist_halves.specs.Sealed.{is_inbound, is_opened, by_spi, number_of}
+use Rattle.hist_halves.specs.Sealed.{is_opened, by_spi, number_of}
 use Rattle.hist_halves.specs.Halves.{live, sent, numbers_taken}
 use Rattle.hist_gateway.specs.Uses.{counts}
 use Rattle.hist_gateway.specs.Stands.{does_acquire_stand, was_overflow_given, does_bad_spi_stand}
@@ -83,18 +85,14 @@ plain q h a e = tt
 abbrev some-says : List Act → Bool
 some-says xs = list_any says xs
 
-or-parts : (a b : Bool) → (a || b) ≡ false → (a ≡ false) × (b ≡ false)
-or-parts true b e = cc
-or-parts false b e = (refl, e)
-
 all-plain : (q : Gateway) (h xs : List Act) → some-says xs ≡ false → GatewayMayActAll q h xs
 all-plain q h [] e = tt
-all-plain q h (a ∷ xs) e = let p = or-parts (says a) (some-says xs) e in (plain q h a p.0, all-plain q (a ∷ h) xs p.1)
+all-plain q h (a ∷ xs) e = let p = or_parts (says a) (some-says xs) e in (plain q h a p.0, all-plain q (a ∷ h) xs p.1)
 
 says-append : (xs ys : List Act) → some-says xs ≡ false → some-says ys ≡ false → some-says (xs ++ ys) ≡ false
 says-append [] ys p q = q
 says-append (a ∷ xs) ys p q =
-    let r = or-parts (says a) (some-says xs) p in
+    let r = or_parts (says a) (some-says xs) p in
     rw r.0 (says-append xs ys r.1 q)
 
 says-if : (b : Bool) (xs ys : List Act) → some-says xs ≡ false → some-says ys ≡ false → some-says (if b then xs else ys) ≡ false
@@ -179,10 +177,6 @@ may-let q g o h = may-view q g o (acts.Let g o ∷ h) h (view_of o) refl refl
 follow-if : (q : Gateway) (h : List Act) (b : Bool) (x y : Act) → (b ≡ true → GatewayMayAct q h x) → (b ≡ false → GatewayMayAct q h y) → GatewayMayAct q h (if b then x else y)
 follow-if q h true x y p r = p refl
 follow-if q h false x y p r = r refl
-
-not-false : (b : Bool) → not b ≡ false → b ≡ true
-not-false true e = refl
-not-false false e = cc
 
 may-inner : (q : Gateway) (h : List Act) (g : List ℕ) (came : OpensArrival q h g) (n : ℕ) (p : List ℕ) (next : ℕ) (r : Result Packet NotPacket) →
     n ≡ number_of came.half (numbers_taken g came.half.name h) came.outer.payload → esp.inner_packet came.text ≡ Some (record { next = next; octets = p }) → view_of p ≡ r →
@@ -347,4 +341,4 @@ may-number q g h a may away = tt
 
 pub lawful-numbered : (q : Gateway) (g : List ℕ) (h : List Act) → IsGatewayPast q h → list_any is_boot h ≡ false → AreNumbered g h
 lawful-numbered q g [] l away = tt
-lawful-numbered q g (a ∷ h) l away = let p = or-parts (is_boot a) (list_any is_boot h) away in (may-number q g h a l.0 p.0, lawful-numbered q g h l.1 p.1)
+lawful-numbered q g (a ∷ h) l away = let p = or_parts (is_boot a) (list_any is_boot h) away in (may-number q g h a l.0 p.0, lawful-numbered q g h l.1 p.1)

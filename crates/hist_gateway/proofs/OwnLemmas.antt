@@ -1,5 +1,6 @@
 -- The acts of a gateway are its own, so what other gateways keep stays.
 use Rattle.std.proofs.Common.{◌≡◌, ℕ, ◌+◌, ◌==◌, Bool, true, false, not, nat_le, nat_lt, List, [], ◌∷◌, ◌++◌, length, Option, Some, None, Result, Ok, Err, refl, sym, ◌∙◌, ap, if◌then◌else◌}
+use Rattle.std.proofs.lemmas.Bool.{or_parts, not-false, true≢false}
 use Rattle.ikl_base.specs.declared.address.Addr.{Addr}
 use Rattle.ip_packet.specs.declared.packet.NotPacket.{NotPacket}
 use Rattle.ip_packet.specs.View.{Packet, view_of}
@@ -43,7 +44,7 @@ use Rattle.std.specs.Str.{bytes_eq}
 use Rattle.ikeless_tree.specs.declared.reply.DropWhy.{DropWhy}
 use Rattle.hist_gateway.specs.State.{state_of, quiet, is_at}
 use Rattle.hist_gateway.specs.May.{IsNewHalf}
-use Rattle.hist_gateway.proofs.KeepsLemmas.{keeps, did-away, same-refl, same-is, or-parts}
+use Rattle.hist_gateway.proofs.KeepsLemmas.{keeps, did-away, same-refl, same-is}
 
 abbrev own : List ℕ → List Act → Type 0
 own g xs = are_strange g xs ≡ false
@@ -53,7 +54,7 @@ own-first g a xs p q = rw p q
 
 own-append : (g : List ℕ) (xs ys : List Act) → own g xs → own g ys → own g (xs ++ ys)
 own-append g [] ys p q = q
-own-append g (a ∷ xs) ys p q = let r = or-parts (is_strange g a) (are_strange g xs) p in own-first g a (xs ++ ys) r.0 (own-append g xs ys r.1 q)
+own-append g (a ∷ xs) ys p q = let r = or_parts (is_strange g a) (are_strange g xs) p in own-first g a (xs ++ ys) r.0 (own-append g xs ys r.1 q)
 
 own-if : (g : List ℕ) (b : Bool) (xs ys : List Act) → own g xs → own g ys → own g (if b then xs else ys)
 own-if g true xs ys p q = p
@@ -205,13 +206,9 @@ own-block c h (Clock t) away = cc
 own-block c h (Handle request) away = own-handle c.name (sessions.session_taken c.name h) (requests c.name h + 1) h request
 own-block c h Session_taken away = own-first c.name (acts.Opened c.name (sessions.openings c.name h + 1)) [] (mine c.name) refl
 
-not-true : (b : Bool) → not b ≡ false → b ≡ true
-not-true true e = refl
-not-true false e = cc
-
 -- a name of one gateway isn't that of another
 apart : (f g x : List ℕ) → not (bytes_eq f g) ≡ false → bytes_eq g x ≡ false → bytes_eq f x ≡ false
-apart f g x mine other = ap (λ n. bytes_eq n x) (same-is f g (not-true (bytes_eq f g) mine)) ∙ other
+apart f g x mine other = ap (λ n. bytes_eq n x) (same-is f g (not-false (bytes_eq f g) mine)) ∙ other
 
 elsewhere : (g x : List ℕ) (a : Act) → is_strange g a ≡ false → bytes_eq g x ≡ false → is_at x a ≡ false
 elsewhere g x (acts.Now t) m o = cc
@@ -228,17 +225,14 @@ elsewhere g x (acts.Handled f s k r) m o = apart f g x m o
 elsewhere g x (acts.Notice f s n) m o = apart f g x m o
 elsewhere g x a m o = refl
 
-clash : true ≡ false → ⊥
-clash e = cc
-
 new-elsewhere : (x : List ℕ) (h : List Act) (a : Act) → is_at x a ≡ false → IsNewHalf x h a
-new-elsewhere x h (acts.Put f e) away = λ at. absurd (clash (sym at ∙ away))
+new-elsewhere x h (acts.Put f e) away = λ at. absurd (true≢false (sym at ∙ away))
 new-elsewhere x h a away = tt
 
 stays : (g x : List ℕ) (h xs : List Act) → bytes_eq g x ≡ false → own g xs → quiet (state_of x (after h xs)) ≡ quiet (state_of x h)
 stays g x h [] other m = refl
 stays g x h (a ∷ xs) other m =
-    let parts = or-parts (is_strange g a) (are_strange g xs) m in
+    let parts = or_parts (is_strange g a) (are_strange g xs) m in
     let away = elsewhere g x a parts.0 other in
     let k = keeps x h a (new-elsewhere x h a away) in
     let d = did-away x (state_of x h) a away in

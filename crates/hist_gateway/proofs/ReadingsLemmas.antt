@@ -1,5 +1,5 @@
 -- Words that gather a list say what their plain readings say.
-use Rattle.std.proofs.Common.{◌≡◌, ℕ, Bool, true, false, not, ◌&&◌, ◌||◌, nat_le, ◌+◌, List, [], ◌∷◌, ◌++◌, refl, sym, ◌∙◌, ap, arith, if◌then◌else◌, ◌==◌, Some, None}
+use Rattle.std.proofs.Common.{◌≡◌, ℕ, Bool, true, false, not, ◌&&◌, ◌||◌, nat_le, ◌+◌, List, [], ◌∷◌, ◌++◌, refl, sym, ◌∙◌, ap, arith, if◌then◌else◌, ◌==◌, Option, Some, None}
 use Rattle.std.proofs.lemmas.Grind.{common_steps}
 use Rattle.std.specs.List.{list_any}
 use Rattle.std.specs.Str.{bytes_eq}
@@ -7,18 +7,19 @@ use Rattle.ikeless_tree.specs.declared.entry.SpdEntry.{SpdEntry}
 use Rattle.ikeless_tree.specs.declared.sad.SadEntry.{SadEntry}
 use Rattle.ikeless_tree.specs.declared.order.Notice.{Notice}
 use Rattle.ikeless_tree.specs.declared.order.Notice.TheVariants as notices
+use Rattle.ikeless_tree.specs.Half.{is_inbound}
 use Rattle.hist_acts.specs.declared.act.Act.{Act}
 use Rattle.hist_acts.specs.declared.act.Act.TheVariants as acts
 use Rattle.hist_acts.specs.Past.{force}
-use Rattle.hist_halves.specs.Sealed.{is_inbound, is_opened}
+use Rattle.hist_halves.specs.Sealed.{is_opened}
 use Rattle.replay_win.specs.Marks.{is_among}
-use Rattle.hist_gateway.specs.Uses.{arrival, is_for, number_in, was_number_sent, was_taken}
-use Rattle.hist_halves.specs.Halves.{is_half, live, is_live, numbers_taken, sent, with_number, without}
+use Rattle.hist_gateway.specs.Uses.{is_number, was_number_sent, was_taken}
+use Rattle.hist_halves.specs.Halves.{is_half, live, is_live, arrival_number, numbers_taken, sent, with_number, without}
 use Rattle.hist_gateway.specs.Stands.{has_reqid, is_acquire_of, does_acquire_stand, was_soft_given, does_soft_stand, was_overflow_given, does_overflow_stand}
 use Rattle.hist_gateway.specs.State.{acquires, unwanted, with_acquire}
 use Rattle.hist_gateway.specs.May.{GatewayMayAct, IsGatewayPast, has_half}
 use Rattle.hist_gateway.specs.Block.{Gateway}
-use Rattle.hist_gateway.proofs.KeepsLemmas.{number-is, same-is}
+use Rattle.hist_gateway.proofs.KeepsLemmas.{same-is}
 
 pub any-end : {A : Type 0} (p : A → Bool) (xs : List A) (x : A) → list_any p (xs ++ x ∷ []) ≡ (p x || list_any p xs)
 any-end p [] x = grind arith
@@ -147,18 +148,17 @@ taken-gave : (b : Bool) (s n : ℕ) (ns : List ℕ) → is_among s (if b then ns
 taken-gave true s n ns = among-end s n ns
 taken-gave false s n ns = refl
 
-taken-drop : (b i : Bool) (s n : ℕ) (ns : List ℕ) → is_among s (if b then with_number ns (if i then Some n else None) else ns) ≡ (((b && i) && (s == n)) || is_among s ns)
-taken-drop true true s n ns = among-end s n ns
-taken-drop true false s n ns = refl
-taken-drop false i s n ns = refl
+taken-drop : (b : Bool) (s : ℕ) (n : Option ℕ) (ns : List ℕ) → is_among s (if b then with_number ns n else ns) ≡ ((b && is_number s n) || is_among s ns)
+taken-drop true s (Some n) ns = among-end s n ns
+taken-drop true s None ns = refl
+taken-drop false s n ns = refl
 
 pub taken-is : (g x : List ℕ) (s : ℕ) (h : List Act) → is_among s (numbers_taken g x h) ≡ was_taken g x s h
 taken-is g x s [] = refl
 taken-is g x s (acts.Put f e ∷ h) = rw (sym (taken-is g x s h)) (taken-put (is_half f e.name g x) s (numbers_taken g x h))
 taken-is g x s (acts.Gave f y n o ∷ h) = rw (sym (taken-is g x s h)) (taken-gave (is_half f y g x) s n (numbers_taken g x h))
 taken-is g x s (acts.Drop f w ∷ h) =
-    rw (sym (taken-is g x s h), number-is g x (numbers_taken g x h) h)
-    (taken-drop (bytes_eq f g && is_opened w) (is_for x (live g h) (arrival g h)) s (number_in (arrival g h)) (numbers_taken g x h))
+    rw (sym (taken-is g x s h)) (taken-drop (bytes_eq f g && is_opened w) s (arrival_number g x (numbers_taken g x h) h) (numbers_taken g x h))
 taken-is g x s (a ∷ h) = taken-is g x s h
 
 -- ---- notices of a live half

@@ -1,5 +1,6 @@
 -- A past in which each act may follow those before it is safe.
-use Rattle.std.proofs.Common.{◌≡◌, ◌≤◌, ℕ, ◌+◌, ◌==◌, Bool, true, false, ◌&&◌, List, [], ◌∷◌, refl, sym, ◌∙◌, ap, subst, arith, if◌then◌else◌}
+use Rattle.std.proofs.Common.{◌≡◌, ◌≤◌, ℕ, ◌+◌, ◌==◌, Bool, true, false, List, [], ◌∷◌, refl, sym, ◌∙◌, ap, subst, arith, if◌then◌else◌}
+use Rattle.std.proofs.lemmas.Bool.{and_parts}
 use Rattle.std.specs.Str.{bytes_eq}
 use Rattle.replay_win.specs.declared.verdict.Verdict.TheVariants as verdicts
 use Rattle.replay_win.specs.Marks.{is_among, is_below, greatest, verdict_by, verdict_over}
@@ -39,13 +40,9 @@ few-sent : (b : Bool) (m k : ℕ) (xs : List ℕ) → AllUpTo m xs → (b ≡ tr
 few-sent true m k xs p q = (q refl, more m xs p)
 few-sent false m k xs p q = p
 
-and-both : (a b : Bool) → (a && b) ≡ true → (a ≡ true) × (b ≡ true)
-and-both true b e = (refl, e)
-and-both false b e = cc
-
 same-sent : (h : List Act) (f y g x : List ℕ) (n : ℕ) → n ≡ sent f y h + 1 → is_half f y g x ≡ true → n ≤ sent g x h + 1
 same-sent h f y g x n e own =
-    let both = and-both (bytes_eq f g) (bytes_eq y x) own in
+    let both = and_parts (bytes_eq f g) (bytes_eq y x) own in
     let same : sent f y h ≡ sent g x h = ap (λ t. sent t y h) (same-is f g both.0) ∙ ap (λ t. sent g t h) (same-is y x both.1) in
     omega (arith, e, same)
 

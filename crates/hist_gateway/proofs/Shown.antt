@@ -32,6 +32,7 @@ use Rattle.esp_frame.specs.Open as esp
 use Rattle.spd_match.specs.Match.{holds_packet}
 use Rattle.hist_acts.specs.declared.act.Act.{Act}
 use Rattle.hist_acts.specs.declared.act.Act.TheVariants as acts
+use Rattle.hist_halves.specs.Sealed.{number_from}
 use Rattle.hist_gateway.specs.Datagram.{datagram, flow_of, has_outer_df}
 use Rattle.hist_gateway.specs.Let.{let_acts, let_by_view}
 use Rattle.hist_gateway.specs.Stands.{does_bad_spi_stand}
@@ -157,7 +158,7 @@ shown_in : gw_history gateway_a [] (Arrive packet_back ∷ replaced_by actions.B
     ∷ acts.Policy a (inward actions.Protect) ∷ acts.Handled a 0 2 (done 204) ∷ acts.Arrived a packet_back ∷ acts.Drop a why.ClearRefused
     ∷ acts.Policy a (inward actions.Discard) ∷ acts.Handled a 0 3 (done 204) ∷ acts.Arrived a packet_back ∷ acts.Drop a why.Discard
     ∷ acts.Arrived a (69 ∷ []) ∷ acts.Drop a why.Malformed ∷ []
-unfolding arrive.arrive_acts view_of holds_packet reply
+unfolding arrive.arrive_acts number_from view_of holds_packet reply
 shown_in = refl
 
 -- ---- an SPI without a half: one notice in a session
@@ -173,7 +174,7 @@ shown_bad_spi : gw_history gateway_b [] (Arrive datagram_1 ∷ Arrive datagram_1
     ≡ acts.Arrived b datagram_1 ∷ acts.Drop b why.BadSpi ∷ acts.Notice b 0 (notices.BadSpi 257) ∷ acts.Arrived b datagram_1 ∷ acts.Drop b why.BadSpi
     ∷ acts.Opened b 1 ∷ acts.Arrived b datagram_1 ∷ acts.Drop b why.BadSpi ∷ acts.Notice b 1 (notices.BadSpi 257)
     ∷ acts.Arrived b datagram_1 ∷ acts.Drop b why.BadSpi ∷ []
-unfolding arrive.arrive_acts view_of
+unfolding arrive.arrive_acts number_from view_of
 shown_bad_spi = refl
 
 -- ---- the last number of a half
@@ -257,14 +258,14 @@ unfolding reply
 shown_put = refl
 
 shown_gave : Opens in_1 → gw_block gateway_b put_1 (Arrive datagram_1) ≡ acts.Arrived b datagram_1 ∷ acts.Gave b (codes "in/1") 1 packet_6 ∷ []
-unfolding arrive.arrive_acts view_of upper_of holds_packet esp.inner_packet
+unfolding arrive.arrive_acts number_from view_of upper_of holds_packet esp.inner_packet
 shown_gave opens = ap (λ text. acts.Arrived b datagram_1 ∷ arrive.by_text b (acts.Arrived b datagram_1 ∷ put_1) in_1 1 text) opens
 
 abbrev gave_1 : List Act
 gave_1 = acts.Gave b (codes "in/1") 1 packet_6 ∷ acts.Arrived b datagram_1 ∷ put_1
 
 shown_seen : gw_block gateway_b gave_1 (Arrive datagram_1) ≡ acts.Arrived b datagram_1 ∷ acts.Drop b why.Seen ∷ []
-unfolding arrive.arrive_acts view_of
+unfolding arrive.arrive_acts number_from view_of
 shown_seen = refl
 
 -- a half that one packet ends
@@ -276,12 +277,12 @@ put_once = acts.Handled b 1 1 (done 201) ∷ acts.Put b in_once ∷ acts.Opened 
 
 shown_ended : Opens in_once → gw_block gateway_b put_once (Arrive datagram_1)
     ≡ acts.Arrived b datagram_1 ∷ acts.Gave b (codes "in/1") 1 packet_6 ∷ acts.Gone b (codes "in/1") gone.Hard ∷ acts.Notice b 1 (notices.Expire (codes "in/1") false (limits 0 88 1 0)) ∷ []
-unfolding arrive.arrive_acts view_of upper_of holds_packet esp.inner_packet
+unfolding arrive.arrive_acts number_from view_of upper_of holds_packet esp.inner_packet
 shown_ended opens = ap (λ text. acts.Arrived b datagram_1 ∷ arrive.by_text b (acts.Arrived b datagram_1 ∷ put_once) in_once 1 text) opens
 
 shown_after : gw_block gateway_b (acts.Gone b (codes "in/1") gone.Hard ∷ acts.Gave b (codes "in/1") 1 packet_6 ∷ acts.Arrived b datagram_1 ∷ put_once) (Arrive datagram_1)
     ≡ acts.Arrived b datagram_1 ∷ acts.Drop b why.BadSpi ∷ acts.Notice b 1 (notices.BadSpi 257) ∷ []
-unfolding arrive.arrive_acts view_of
+unfolding arrive.arrive_acts number_from view_of
 shown_after = refl
 
 -- the selector doesn't hold what it opens to: it is dropped, its number is taken all the same, and the half is used
@@ -293,21 +294,21 @@ put_other = acts.Put b in_other ∷ []
 
 shown_selector : Opens in_other → gw_block gateway_b put_other (Arrive datagram_1)
     ≡ acts.Arrived b datagram_1 ∷ acts.Drop b why.Selector ∷ acts.Notice b 0 (notices.Expire (codes "in/1") true (limits 0 88 1 0)) ∷ []
-unfolding arrive.arrive_acts view_of upper_of holds_packet esp.inner_packet
+unfolding arrive.arrive_acts number_from view_of upper_of holds_packet esp.inner_packet
 shown_selector opens = ap (λ text. acts.Arrived b datagram_1 ∷ arrive.by_text b (acts.Arrived b datagram_1 ∷ put_other) in_other 1 text) opens
 
 shown_taken : gw_block gateway_b (acts.Drop b why.Selector ∷ acts.Arrived b datagram_1 ∷ put_other) (Arrive datagram_1) ≡ acts.Arrived b datagram_1 ∷ acts.Drop b why.Seen ∷ []
-unfolding arrive.arrive_acts view_of
+unfolding arrive.arrive_acts number_from view_of
 shown_taken = refl
 
 -- a tag that isn't right takes no number
 shown_auth : esp.opened (keying 257 in_1.key) sealed_1 ≡ None → gw_block gateway_b put_1 (Arrive datagram_1) ≡ acts.Arrived b datagram_1 ∷ acts.Drop b why.Auth ∷ []
-unfolding arrive.arrive_acts view_of
+unfolding arrive.arrive_acts number_from view_of
 shown_auth fails = ap (λ text. acts.Arrived b datagram_1 ∷ arrive.by_text b (acts.Arrived b datagram_1 ∷ put_1) in_1 1 text) fails
 
 shown_again : Opens in_1 → gw_block gateway_b (acts.Drop b why.Auth ∷ acts.Arrived b datagram_1 ∷ put_1) (Arrive datagram_1)
     ≡ acts.Arrived b datagram_1 ∷ acts.Gave b (codes "in/1") 1 packet_6 ∷ []
-unfolding arrive.arrive_acts view_of upper_of holds_packet esp.inner_packet
+unfolding arrive.arrive_acts number_from view_of upper_of holds_packet esp.inner_packet
 shown_again opens = ap (λ text. acts.Arrived b datagram_1 ∷ arrive.by_text b (acts.Arrived b datagram_1 ∷ acts.Drop b why.Auth ∷ acts.Arrived b datagram_1 ∷ put_1) in_1 1 text) opens
 
 -- ---- numbers that aren't fresh, and octets that are too few
@@ -330,17 +331,17 @@ datagram_33_octets = 69 ∷ 0 ∷ 0 ∷ 53 ∷ 0 ∷ 1 ∷ 64 ∷ 0 ∷ 64 ∷ 5
 shown_not_fresh : gw_history gateway_b gave_100 (Arrive datagram_0 ∷ Arrive datagram_36 ∷ Arrive datagram_33_octets ∷ [])
     ≡ acts.Arrived b datagram_0 ∷ acts.Drop b why.Zero ∷ acts.Arrived b datagram_36 ∷ acts.Drop b why.Old
     ∷ acts.Arrived b datagram_33_octets ∷ acts.Drop b why.Short ∷ []
-unfolding arrive.arrive_acts view_of
+unfolding arrive.arrive_acts number_from view_of
 shown_not_fresh = refl
 
 -- the least number inside the window is looked at
 shown_inside : esp.opened (keying 257 in_1.key) (0 ∷ 0 ∷ 1 ∷ 1 ∷ 0 ∷ 0 ∷ 0 ∷ 37 ∷ 0 ∷ 0 ∷ 0 ∷ 0 ∷ 0 ∷ 0 ∷ 0 ∷ 37 ∷ 0 ∷ 0 ∷ 0 ∷ 0 ∷ 0 ∷ 0 ∷ 0 ∷ 0 ∷ 0 ∷ 0 ∷ 0 ∷ 0 ∷ 0 ∷ 0 ∷ 0 ∷ 0 ∷ 0 ∷ 0 ∷ 0 ∷ 0 ∷ 0 ∷ 0 ∷ 0 ∷ 0 ∷ []) ≡ None → gw_block gateway_b gave_100 (Arrive datagram_37) ≡ acts.Arrived b datagram_37 ∷ acts.Drop b why.Auth ∷ []
-unfolding arrive.arrive_acts view_of
+unfolding arrive.arrive_acts number_from view_of
 shown_inside fails = ap (λ text. acts.Arrived b datagram_37 ∷ arrive.by_text b (acts.Arrived b datagram_37 ∷ gave_100) in_1 37 text) fails
 
 -- ESP for another address is looked at as what comes in clear
 shown_elsewhere : gw_block gateway_a [] (Arrive datagram_1) ≡ acts.Arrived a datagram_1 ∷ acts.Drop a why.NoPolicy ∷ []
-unfolding arrive.arrive_acts view_of
+unfolding arrive.arrive_acts number_from view_of
 shown_elsewhere = refl
 
 -- ---- requests
@@ -386,7 +387,7 @@ fragment = 69 ∷ 0 ∷ 0 ∷ 32 ∷ 0 ∷ 0 ∷ 32 ∷ 0 ∷ 64 ∷ 17 ∷ 70 �
 
 shown_fragment : gw_history gateway_a [] (replaced_by actions.Bypass ∷ Arrive fragment ∷ [])
     ≡ acts.Policy a (inward actions.Bypass) ∷ acts.Handled a 0 1 (done 204) ∷ acts.Arrived a fragment ∷ acts.Drop a why.Fragment ∷ []
-unfolding arrive.arrive_acts view_of holds_packet reply
+unfolding arrive.arrive_acts number_from view_of holds_packet reply
 shown_fragment = refl
 
 -- ---- a limit on idle time, without a use and after one
@@ -412,19 +413,19 @@ abbrev dropped_for : DropWhy → List Act
 dropped_for w = acts.Arrived b datagram_1 ∷ acts.Drop b w ∷ []
 
 shown_padding : opened_to (packet_6 ++ 1 ∷ 3 ∷ 2 ∷ 41 ∷ []) → gw_block gateway_b put_1 (Arrive datagram_1) ≡ dropped_for why.Padding
-unfolding arrive.arrive_acts view_of upper_of holds_packet esp.inner_packet
+unfolding arrive.arrive_acts number_from view_of upper_of holds_packet esp.inner_packet
 shown_padding opens = ap (λ text. acts.Arrived b datagram_1 ∷ arrive.by_text b (acts.Arrived b datagram_1 ∷ put_1) in_1 1 text) opens
 
 shown_dummy : opened_to (packet_6 ++ 1 ∷ 2 ∷ 2 ∷ 59 ∷ []) → gw_block gateway_b put_1 (Arrive datagram_1) ≡ dropped_for why.Dummy
-unfolding arrive.arrive_acts view_of upper_of holds_packet esp.inner_packet
+unfolding arrive.arrive_acts number_from view_of upper_of holds_packet esp.inner_packet
 shown_dummy opens = ap (λ text. acts.Arrived b datagram_1 ∷ arrive.by_text b (acts.Arrived b datagram_1 ∷ put_1) in_1 1 text) opens
 
 shown_inner : opened_to (80 ∷ 0 ∷ 0 ∷ 41 ∷ []) → gw_block gateway_b put_1 (Arrive datagram_1) ≡ dropped_for why.Inner
-unfolding arrive.arrive_acts view_of upper_of holds_packet esp.inner_packet
+unfolding arrive.arrive_acts number_from view_of upper_of holds_packet esp.inner_packet
 shown_inner opens = ap (λ text. acts.Arrived b datagram_1 ∷ arrive.by_text b (acts.Arrived b datagram_1 ∷ put_1) in_1 1 text) opens
 
 shown_version : opened_to (packet_6 ++ 1 ∷ 2 ∷ 2 ∷ 4 ∷ []) → gw_block gateway_b put_1 (Arrive datagram_1) ≡ dropped_for why.Inner
-unfolding arrive.arrive_acts view_of upper_of holds_packet esp.inner_packet
+unfolding arrive.arrive_acts number_from view_of upper_of holds_packet esp.inner_packet
 shown_version opens = ap (λ text. acts.Arrived b datagram_1 ∷ arrive.by_text b (acts.Arrived b datagram_1 ∷ put_1) in_1 1 text) opens
 
 -- ---- the DF bit of the outer header: clear, set, or that of the packet

@@ -1,10 +1,12 @@
 -- The databases after a request are those of its reply.
 use Rattle.std.proofs.Common.{◌≡◌, ℕ, ◌+◌, ◌-◌, Bool, true, false, List, [], ◌∷◌, ◌++◌, map, Ok, refl, sym, ◌∙◌, ap, arith, if◌then◌else◌}
+use Rattle.std.proofs.lemmas.Bool.{or_parts}
 use Rattle.std.specs.Str.{bytes_eq}
 use Rattle.ikeless_tree.specs.declared.sad.SadEntry.{SadEntry}
 use Rattle.ikeless_tree.specs.declared.sad.SadRow.{SadRow}
 use Rattle.ikeless_tree.specs.declared.sad.Tree.{Tree}
 use Rattle.ikeless_tree.specs.declared.reply.GoneWhy.TheVariants as gone
+use Rattle.ikeless_tree.specs.Half.{is_inbound}
 use Rattle.reply_table.specs.declared.ask.Ask.{Ask}
 use Rattle.reply_table.specs.declared.ask.Change.{Change}
 use Rattle.reply_table.specs.declared.ask.Change.TheVariants as changes
@@ -15,14 +17,13 @@ use Rattle.hist_acts.specs.declared.act.Act.{Act}
 use Rattle.hist_acts.specs.declared.act.Act.TheVariants as acts
 use Rattle.hist_acts.specs.Past.{after, clock}
 use Rattle.hist_acts.specs.Sessions as sessions
-use Rattle.hist_halves.specs.Sealed.{is_inbound}
 use Rattle.hist_halves.specs.Halves.{live, without}
 use Rattle.hist_gateway.specs.Rows.{row_of, tree_of}
 use Rattle.hist_gateway.specs.Handle.{answer_of, change_acts, requests}
 use Rattle.hist_gateway.specs.Block.{Gateway, Handle, gw_block}
 use Rattle.hist_gateway.specs.May.{has_half}
 use Rattle.hist_gateway.specs.Machine.{row_from}
-use Rattle.hist_gateway.proofs.KeepsLemmas.{same-refl, put-half, put-fresh, no-half, or-parts}
+use Rattle.hist_gateway.proofs.KeepsLemmas.{same-refl, put-half, put-fresh, no-half}
 use Rattle.hist_gateway.proofs.BlocksLemmas.{row-is}
 use Rattle.hist_gateway.proofs.MayLemmas.{AllFit, any-map}
 use Rattle.hist_gateway.proofs.StepsLemmas.{after-append}
@@ -52,7 +53,7 @@ rows-put g x h [] new =
     let f = put-fresh g g x h (same-refl g) in
     ap (λ z. z ∷ []) (sym r ∙ (ap (λ z. row_from (clock h) z) f ∙ row-fresh (clock h) x))
 rows-put g x h (e ∷ es) new =
-    let parts = or-parts (bytes_eq e.name x.name) (has_half x.name es) new in
+    let parts = or_parts (bytes_eq e.name x.name) (has_half x.name es) new in
     let p = put-half g g x h e (no-half g g x e parts.0) in
     let same : row_of g (acts.Put g x ∷ h) e ≡ row_of g h e = sym (row-is g (acts.Put g x ∷ h) e) ∙ (ap (λ z. row_from (clock h) z) p ∙ row-is g h e) in
     ap (λ z. z ∷ map (row_of g (acts.Put g x ∷ h)) (es ++ x ∷ [])) same ∙ ap (λ z. row_of g h e ∷ z) (rows-put g x h es parts.1)

@@ -2,6 +2,7 @@
 -- the Arrived as its newest act.
 use Rattle.std.specs.Prelude.{ℕ, ◌==◌, ◌&&◌, ◌||◌, nat_lt, not, Bool, List, [], ◌∷◌, length, Option, Some, None, Result, Ok, Err, if◌then◌else◌}
 use Rattle.ikl_base.specs.declared.address.Addr.{Addr}
+use Rattle.ikl_base.specs.Address.{is_same_address}
 use Rattle.ip_packet.specs.declared.packet.NotPacket.{NotPacket}
 use Rattle.ip_packet.specs.Field.{version}
 use Rattle.ip_packet.specs.View.{Packet, view_of}
@@ -21,7 +22,6 @@ use Rattle.replay_win.specs.Marks.{verdict_over}
 use Rattle.spd_match.specs.Match.{first_entry, holds_packet}
 use Rattle.hist_acts.specs.declared.act.Act.{Act}
 use Rattle.hist_acts.specs.declared.act.Act.TheVariants as acts
-use Rattle.hist_acts.specs.Gateways.{is_same_address}
 use Rattle.hist_acts.specs.Past.{force}
 use Rattle.hist_halves.specs.Sealed.{by_spi, number_of}
 use Rattle.hist_halves.specs.Halves.{live, numbers_taken}

@@ -12,6 +12,7 @@ use Rattle.ip_packet.specs.declared.packet.NotPacket.TheVariants as faults
 use Rattle.ip_packet.specs.declared.outer.Outer.{Outer}
 use Rattle.ip_packet.specs.View.{Packet}
 use Rattle.ip_packet.specs.Outer.{outer_header}
+use Rattle.ip_packet.specs.Field.{next_header}
 use Rattle.ikeless_tree.specs.declared.sad.Df.{Df}
 use Rattle.ikeless_tree.specs.declared.sad.Df.TheVariants as dfs
 use Rattle.ikeless_tree.specs.declared.sad.SadEntry.{SadEntry}
@@ -21,7 +22,6 @@ use Rattle.ikeless_tree.specs.declared.entry.Selector.{Selector}
 use Rattle.ikeless_tree.specs.declared.reply.DropWhy.{DropWhy}
 use Rattle.ikeless_tree.specs.declared.reply.DropWhy.TheVariants as why
 use Rattle.esp_frame.specs.Esp.{esp, keying}
-use Rattle.hist_halves.specs.Sealed.{next_header}
 use Rattle.spd_match.specs.Match.{local_port, remote_port}
 
 -- why octets that are no packet are dropped

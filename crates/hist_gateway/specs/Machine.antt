@@ -15,12 +15,13 @@ use Rattle.ikeless_tree.specs.declared.order.Notice.{Notice}
 use Rattle.ikeless_tree.specs.declared.order.Notice.TheVariants as notices
 use Rattle.ikeless_tree.specs.declared.reply.DropWhy.TheVariants as why
 use Rattle.ikeless_tree.specs.declared.reply.GoneWhy.TheVariants as gone
+use Rattle.ikeless_tree.specs.Half.{is_inbound}
 use Rattle.reply_table.specs.declared.ask.Ask.{Ask}
 use Rattle.reply_table.specs.Reply.{reply}
 use Rattle.replay_win.specs.declared.verdict.Verdict.{Verdict}
 use Rattle.replay_win.specs.declared.verdict.Verdict.TheVariants as verdicts
 use Rattle.replay_win.specs.Marks.{judged}
-use Rattle.esp_frame.specs.Esp.{keying, spi_of, seq_of}
+use Rattle.esp_frame.specs.Esp.{keying, spi_of}
 use Rattle.esp_frame.specs.Open as esp
 use Rattle.spd_match.specs.Match.{first_entry}
 use Rattle.life_count.specs.Lifetime.{is_reached, expiry, counts_of, event_at}
@@ -28,7 +29,7 @@ use Rattle.sad_store.specs.declared.half.Half.{Half}
 use Rattle.sad_store.specs.Halves.{send, take_number, newest_half, half_by_spi}
 use Rattle.hist_acts.specs.declared.act.Act.{Act}
 use Rattle.hist_acts.specs.declared.act.Act.TheVariants as acts
-use Rattle.hist_halves.specs.Sealed.{is_inbound}
+use Rattle.hist_halves.specs.Sealed.{number_from}
 use Rattle.hist_gateway.specs.Uses.{octets_in}
 use Rattle.hist_gateway.specs.Datagram.{fault_why, datagram, flow_of}
 use Rattle.hist_gateway.specs.Look.{given_by}
@@ -95,9 +96,12 @@ in_by_verdict g s o b x n verdicts.Old = arrive.drops g why.Old
 in_by_verdict g s o b x n verdicts.Seen = arrive.drops g why.Seen
 in_by_verdict g s o b x n verdicts.Fresh = in_by_text g s o x n (esp.opened (keying x.entry.spi x.entry.key) b)
 
+abbrev pub in_by_number : List ℕ → GatewayState → List ℕ → List ℕ → Half → ℕ → List Act
+in_by_number g s o b x n = in_by_verdict g s o b x n (judged x.window n)
+
 abbrev pub in_by_half : List ℕ → GatewayState → List ℕ → List ℕ → Option Half → List Act
 in_by_half g s o b None = acts.Drop g why.BadSpi ∷ unless (list_any (λ k. k == spi_of b) s.bad_spis) (tells_of g s (notices.BadSpi (spi_of b)))
-in_by_half g s o b (Some x) = in_by_verdict g s o b x (seq_of b) (judged x.window (seq_of b))
+in_by_half g s o b (Some x) = in_by_number g s o b x (number_from x.entry x.window.top b)
 
 abbrev pub in_esp : List ℕ → GatewayState → List ℕ → List ℕ → List Act
 in_esp g s o b = if nat_lt (length b) 34 then arrive.drops g why.Short else in_by_half g s o b (half_by_spi (spi_of b) s.halves)

@@ -14,12 +14,13 @@ use Rattle.replay_win.specs.declared.verdict.Verdict.TheVariants as verdicts
 use Rattle.replay_win.specs.Marks.{verdict_over}
 use Rattle.esp_frame.specs.Esp.{keying, spi_of}
 use Rattle.esp_frame.specs.Open as esp
+use Rattle.ikeless_tree.specs.Half.{is_inbound}
 use Rattle.spd_match.specs.Match.{first_entry, holds_packet}
 use Rattle.hist_acts.specs.declared.act.Act.{Act}
 use Rattle.hist_acts.specs.declared.act.Act.TheVariants as acts
 use Rattle.hist_acts.specs.Past.{force}
 use Rattle.hist_acts.specs.Sessions as sessions
-use Rattle.hist_halves.specs.Sealed.{is_inbound, is_opened, by_spi, number_of}
+use Rattle.hist_halves.specs.Sealed.{is_opened, by_spi, number_of}
 use Rattle.hist_halves.specs.Halves.{live, is_live, put_of, sent, numbers_taken}
 use Rattle.hist_gateway.specs.Datagram.{datagram}
 use Rattle.hist_gateway.specs.Block.{Gateway}

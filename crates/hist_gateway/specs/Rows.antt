@@ -3,10 +3,10 @@ use Rattle.std.specs.Prelude.{ℕ, List, map, if◌then◌else◌}
 use Rattle.ikeless_tree.specs.declared.sad.SadEntry.{SadEntry}
 use Rattle.ikeless_tree.specs.declared.sad.SadRow.{SadRow}
 use Rattle.ikeless_tree.specs.declared.sad.Tree.{Tree}
+use Rattle.ikeless_tree.specs.Half.{is_inbound}
 use Rattle.hist_acts.specs.declared.act.Act.{Act}
 use Rattle.hist_acts.specs.Past.{force}
 use Rattle.replay_win.specs.Marks.{greatest}
-use Rattle.hist_halves.specs.Sealed.{is_inbound}
 use Rattle.hist_halves.specs.Halves.{live, sent, numbers_taken}
 use Rattle.hist_gateway.specs.Uses.{counts}
 

@@ -6,6 +6,7 @@ use Rattle.ikeless_tree.specs.declared.sad.SadEntry.{SadEntry}
 use Rattle.ikeless_tree.specs.declared.order.Notice.{Notice}
 use Rattle.ikeless_tree.specs.declared.order.Notice.TheVariants as notices
 use Rattle.replay_win.specs.Marks.{Marks, marked, no_marks}
+use Rattle.ikeless_tree.specs.Half.{is_inbound}
 use Rattle.life_count.specs.Lifetime.{Lifetime, cut_32, cut_64, with_told}
 use Rattle.sad_store.specs.declared.half.Half.{Half}
 use Rattle.sad_store.specs.Halves.{fresh, send, take_number, hushed, with_life, with_overflow, entries_of, halves_without}
@@ -13,9 +14,9 @@ use Rattle.hist_acts.specs.declared.act.Act.{Act}
 use Rattle.hist_acts.specs.declared.act.Act.TheVariants as acts
 use Rattle.hist_acts.specs.Past.{force, clock}
 use Rattle.hist_acts.specs.Sessions as sessions
-use Rattle.hist_halves.specs.Sealed.{is_inbound, is_opened}
-use Rattle.hist_halves.specs.Halves.{live, sent, numbers_taken}
-use Rattle.hist_gateway.specs.Uses.{arrival, is_for, number_in, octets_in, installed_at, last_used, octets_used, times_used}
+use Rattle.hist_halves.specs.Sealed.{esp_of, is_opened}
+use Rattle.hist_halves.specs.Halves.{live, sent, number_for, numbers_taken}
+use Rattle.hist_gateway.specs.Uses.{arrival, octets_in, installed_at, last_used, octets_used, times_used}
 use Rattle.hist_gateway.specs.Stands.{has_reqid, is_soft_of, is_overflow_of, was_soft_given, was_overflow_given, with_spi, bad_spis}
 use Rattle.hist_gateway.specs.Handle.{requests}
 
@@ -166,9 +167,14 @@ sent_under y now size x = if bytes_eq y x.entry.name then send now size x else x
 abbrev pub given_under : List ℕ → ℕ → ℕ → ℕ → Half → Half
 given_under y now size n x = if bytes_eq y x.entry.name then take_number now size n x else x
 
+abbrev pub take_if : ℕ → ℕ → Option ℕ → Half → Half
+take_if now size None x = x
+take_if now size (Some n) x = take_number now size n x
+
 -- what was opened counts for its half, though it is dropped
 abbrev pub opened_under : List SadEntry → Option (List ℕ) → ℕ → Half → Half
-opened_under live o now x = if is_for x.entry.name live o then take_number now (octets_in o) (number_in o) x else x
+opened_under live None now x = x
+opened_under live (Some o) now x = take_if now (octets_in (Some o)) (number_for x.entry.name x.window.top live (esp_of o)) x
 
 -- ---- of acts
 

@@ -8,9 +8,9 @@ use Rattle.life_count.specs.Lifetime.{counts_at}
 use Rattle.hist_acts.specs.declared.act.Act.{Act}
 use Rattle.hist_acts.specs.declared.act.Act.TheVariants as acts
 use Rattle.hist_acts.specs.Past.{clock}
-use Rattle.esp_frame.specs.Esp.{seq_of, spi_of}
+use Rattle.esp_frame.specs.Esp.{spi_of}
 use Rattle.hist_halves.specs.Sealed.{esp_of, by_spi, is_opened}
-use Rattle.hist_halves.specs.Halves.{is_half, live}
+use Rattle.hist_halves.specs.Halves.{is_half, live, arrival_number, numbers_taken}
 
 -- the datagram that arrived at the gateway, where that is the newest act
 abbrev pub arrival : List ℕ → List Act → Option (List ℕ)
@@ -70,16 +70,16 @@ counts g x h = counts_at (clock h) (installed_at g x h) (last_used g x h) (octet
 
 -- ---- a plain reading
 
-abbrev pub number_in : Option (List ℕ) → ℕ
-number_in None = 0
-number_in (Some o) = seq_of (esp_of o)
+abbrev pub is_number : ℕ → Option ℕ → Bool
+is_number s None = false
+is_number s (Some n) = s == n
 
 -- the number was taken under the half since its installation: with what was given, or with what was dropped after it had opened
 abbrev pub was_taken : List ℕ → List ℕ → ℕ → List Act → Bool
 was_taken g x s [] = false
 was_taken g x s (acts.Put f e ∷ h) = not (is_half f e.name g x) && was_taken g x s h
 was_taken g x s (acts.Gave f y n o ∷ h) = (is_half f y g x && (s == n)) || was_taken g x s h
-was_taken g x s (acts.Drop f w ∷ h) = (is_use g x (acts.Drop f w) h && (s == number_in (arrival g h))) || was_taken g x s h
+was_taken g x s (acts.Drop f w ∷ h) = ((bytes_eq f g && is_opened w) && is_number s (arrival_number g x (numbers_taken g x h) h)) || was_taken g x s h
 was_taken g x s (_ ∷ h) = was_taken g x s h
 
 -- a datagram was sent under the half with this number, since its installation

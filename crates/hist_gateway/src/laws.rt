@@ -2,6 +2,8 @@
 ghost use Rattle.std.specs.Prelude.{◌≡◌, ℕ, true, false, List, [], ◌∷◌, ◌++◌, Some, Ok, Result, ◌&&◌, map, max, nat_le, nat_lt, slice_get, take};
 ghost use Rattle.std.specs.List.{list_any};
 ghost use Rattle.std.specs.Str.{bytes_eq};
+ghost use Rattle.ikl_base.specs.Address.{AreOneFamily};
+ghost use Rattle.ip_packet.specs.Field.{next_header};
 ghost use Rattle.hist_acts.specs.declared.act.Act.{Act};
 ghost use Rattle.hist_acts.specs.Past.{after, clock};
 ghost use Rattle.hist_halves.specs.Halves.{live, is_live, numbers_taken, sent};
@@ -18,7 +20,7 @@ ghost use Rattle.reply_table.specs.Reply.{reply};
 ghost use Rattle.hist_gateway.specs.Rows.{tree_of};
 ghost use Rattle.hist_gateway.specs.State.{GatewayState, state_of, did, did_all, acquires, quiet, with_halves, note, sent_under, given_under, opened_under};
 ghost use Rattle.hist_gateway.specs.Places.{names_reached, softly_told, without_all};
-ghost use Rattle.hist_gateway.specs.Uses.{octets_in, number_in};
+ghost use Rattle.hist_gateway.specs.Uses.{octets_in};
 ghost use Rattle.sad_store.specs.declared.half.Half.{Half};
 ghost use Rattle.sad_store.specs.Halves.{changed, entries_of, look_at, names_of, send, take_number, with_overflow};
 ghost use Rattle.sad_store.specs.Kept.{are_names_apart};
@@ -33,11 +35,10 @@ ghost use Rattle.hist_gateway.specs.Expiries.{is_hard_end, is_hard_expiry, is_so
 ghost use Rattle.hist_gateway.specs.Look.{look};
 ghost use Rattle.hist_gateway.specs.Arrive.{use_acts};
 ghost use Rattle.hist_gateway.specs.Datagram.{datagram};
-ghost use Rattle.hist_halves.specs.Sealed.{by_spi, esp_of, number_of, next_header};
+ghost use Rattle.hist_halves.specs.Sealed.{by_spi, esp_of, number_from, number_of};
 ghost use Rattle.hist_acts.specs.declared.act.Act.TheVariants as acts;
 ghost use Rattle.ikeless_tree.specs.declared.sad.SadEntry.{SadEntry};
 ghost use Rattle.ip_packet.specs.View.{Packet};
-ghost use Rattle.ip_packet.specs.Outer.{AreOneFamily};
 ghost use Rattle.esp_frame.specs.Esp.{esp, keying};
 ghost use Rattle.hist_gateway.specs.Safe.{IsGatewaySafe};
 
@@ -184,7 +185,7 @@ pub fn places()
         map (given_under x.entry.name now size n) xs ≡ changed (take_number now size n) i xs }
     ensures opened { (o : List ℕ) (now i : ℕ) (x : Half) (xs : List Half) → are_names_apart (names_of xs) ≡ true → slice_get xs i ≡ Some x →
         by_spi (spi_of (esp_of o)) (entries_of xs) ≡ Some x.entry →
-        map (opened_under (entries_of xs) (Some o) now) xs ≡ changed (take_number now (octets_in (Some o)) (number_in (Some o))) i xs }
+        map (opened_under (entries_of xs) (Some o) now) xs ≡ changed (take_number now (octets_in (Some o)) (number_from x.entry x.window.top (esp_of o))) i xs }
     ensures overflow { (i : ℕ) (x : Half) (xs : List Half) → are_names_apart (names_of xs) ≡ true → slice_get xs i ≡ Some x →
         map (note (notices.SeqOverflow x.entry.name)) xs ≡ changed (with_overflow true) i xs }
     ensures soft { (counts : Limits) (i : ℕ) (x : Half) (xs : List Half) → are_names_apart (names_of xs) ≡ true → slice_get xs i ≡ Some x →

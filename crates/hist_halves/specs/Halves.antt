@@ -7,8 +7,9 @@ use Rattle.ikeless_tree.specs.declared.reply.GoneWhy.{GoneWhy}
 use Rattle.ikeless_tree.specs.declared.reply.GoneWhy.TheVariants as gone
 use Rattle.hist_acts.specs.declared.act.Act.{Act}
 use Rattle.hist_acts.specs.declared.act.Act.TheVariants as acts
+use Rattle.replay_win.specs.Marks.{greatest}
 use Rattle.esp_frame.specs.Esp.{spi_of}
-use Rattle.hist_halves.specs.Sealed.{esp_of, by_spi, number_of, is_opened}
+use Rattle.hist_halves.specs.Sealed.{esp_of, by_spi, number_from, is_opened}
 
 -- this half of this gateway
 abbrev pub is_half : List ℕ → List ℕ → List ℕ → List ℕ → Bool
@@ -66,13 +67,17 @@ sent g x (acts.Put f e ∷ h) = if is_half f e.name g x then 0 else sent g x h
 sent g x (acts.Sent f y n o ∷ h) = if is_half f y g x then sent g x h + 1 else sent g x h
 sent g x (_ ∷ h) = sent g x h
 
-abbrev pub number_if : List ℕ → List ℕ → List ℕ → Option SadEntry → Option ℕ
-number_if x numbers b None = None
-number_if x numbers b (Some e) = if bytes_eq e.name x then Some (number_of e numbers b) else None
+abbrev pub number_if : List ℕ → ℕ → List ℕ → Option SadEntry → Option ℕ
+number_if x top b None = None
+number_if x top b (Some e) = if bytes_eq e.name x then Some (number_from e top b) else None
+
+-- the number of ESP octets for this half, where they are for it: of these halves their SPI is its
+abbrev pub number_for : List ℕ → ℕ → List SadEntry → List ℕ → Option ℕ
+number_for x top halves b = number_if x top b (by_spi (spi_of b) halves)
 
 -- the number of the arrival that is the newest act, where it is one for this half, after these numbers were taken
 abbrev pub arrival_number : List ℕ → List ℕ → List ℕ → List Act → Option ℕ
-arrival_number g x numbers (acts.Arrived f o ∷ h) = if bytes_eq f g then number_if x numbers (esp_of o) (by_spi (spi_of (esp_of o)) (live g h)) else None
+arrival_number g x numbers (acts.Arrived f o ∷ h) = if bytes_eq f g then number_for x (greatest numbers) (live g h) (esp_of o) else None
 arrival_number g x numbers _ = None
 
 abbrev pub with_number : List ℕ → Option ℕ → List ℕ

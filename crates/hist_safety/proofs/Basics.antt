@@ -1,5 +1,6 @@
 -- Tests on names and numbers, and choices by them.
 use Rattle.std.proofs.Common.{◌≡◌, ℕ, ◌+◌, ◌≤◌, Bool, true, false, ◌==◌, ◌&&◌, ◌||◌, List, Option, Some, ◌⊎◌, inl, inr, refl, sym, arith, if◌then◌else◌}
+use Rattle.std.proofs.lemmas.Bool.{false_from_ne_true, and_from}
 use Rattle.std.specs.Str.{bytes_eq}
 use Rattle.std.proofs.lemmas.Slice.Eq.{bytes_eq-Decides}
 use Rattle.hist_acts.specs.Sessions.{is_session}
@@ -8,25 +9,12 @@ use Rattle.hist_halves.specs.Halves.{is_half}
 pub no : false ≡ true → ⊥
 no e = grind arith
 
-pub not-true : (b : Bool) → (b ≡ true → ⊥) → b ≡ false
-not-true true q = absurd (q refl)
-not-true false q = refl
-
-pub or-true : (b c : Bool) → c ≡ true → (b || c) ≡ true
-or-true b c e = grind arith
-
-pub or-left : (b c : Bool) → b ≡ true → (b || c) ≡ true
-or-left b c e = grind arith
-
 pub or-false : (b c : Bool) → b ≡ false → (b || c) ≡ true → c ≡ true
 or-false b c e f = grind arith
 
 pub or-split : {A : Type 0} (b c : Bool) → (b ≡ true → A) → (c ≡ true → A) → (b || c) ≡ true → A
 or-split true c f g e = f refl
 or-split false c f g e = g e
-
-pub both : (b c : Bool) → b ≡ true → c ≡ true → (b && c) ≡ true
-both b c p q = grind arith
 
 pub both-left : (b c : Bool) → (b && c) ≡ true → b ≡ true
 both-left true c e = refl
@@ -35,9 +23,6 @@ both-left false c e = absurd (no e)
 pub both-right : (b c : Bool) → (b && c) ≡ true → c ≡ true
 both-right true c e = e
 both-right false c e = absurd (no e)
-
-pub and-false : (b c : Bool) → c ≡ false → (b && c) ≡ false
-and-false b c e = grind arith
 
 pub eq-nat : (n m : ℕ) → (n == m) ≡ true → n ≡ m
 eq-nat n m e = grind arith
@@ -59,16 +44,16 @@ pub name-true : (y x : List ℕ) → y ≡ x → bytes_eq y x ≡ true
 name-true y x e = (bytes_eq-Decides y x).1 e
 
 pub name-not : (y x : List ℕ) → (y ≡ x → ⊥) → bytes_eq y x ≡ false
-name-not y x q = not-true (bytes_eq y x) (λ e. q (name-is y x e))
+name-not y x q = false_from_ne_true (bytes_eq y x) (λ e. q (name-is y x e))
 
 pub half-is : (f y g x : List ℕ) → is_half f y g x ≡ true → (f ≡ g) × (y ≡ x)
 half-is f y g x e = (name-is f g (both-left (bytes_eq f g) (bytes_eq y x) e), name-is y x (both-right (bytes_eq f g) (bytes_eq y x) e))
 
 pub half-true : (f y g x : List ℕ) → f ≡ g → y ≡ x → is_half f y g x ≡ true
-half-true f y g x p q = both (bytes_eq f g) (bytes_eq y x) (name-true f g p) (name-true y x q)
+half-true f y g x p q = and_from (bytes_eq f g) (bytes_eq y x) (name-true f g p) (name-true y x q)
 
 pub session-self : (g : List ℕ) (s : ℕ) → is_session g s g s ≡ true
-session-self g s = both (bytes_eq g g) (s == s) (name-self g) (self s)
+session-self g s = and_from (bytes_eq g g) (s == s) (name-self g) (self s)
 
 pub session-is : (f : List ℕ) (t : ℕ) (g : List ℕ) (s : ℕ) → is_session f t g s ≡ true → (f ≡ g) × (t ≡ s)
 session-is f t g s e = (name-is f g (both-left (bytes_eq f g) (t == s) e), eq-nat t s (both-right (bytes_eq f g) (t == s) e))

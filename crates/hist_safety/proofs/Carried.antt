@@ -1,5 +1,6 @@
 -- What was sent under an outbound half, and what was given under an inbound one.
 use Rattle.std.proofs.Common.{◌≡◌, ℕ, Bool, true, false, ◌==◌, ◌&&◌, ◌||◌, List, [], ◌∷◌, ◌++◌, Option, Some, None, refl, sym, ◌∙◌, subst, if◌then◌else◌}
+use Rattle.std.proofs.lemmas.Bool.{false_from_ne_true, or_right, or_left, and_from}
 use Rattle.std.specs.Str.{bytes_eq}
 use Rattle.ikeless_tree.specs.declared.sad.SadEntry.{SadEntry}
 use Rattle.ikeless_tree.specs.declared.command.Peer.{Peer}
@@ -14,7 +15,7 @@ use Rattle.hist_safety.specs.Orders.{order_of, site}
 use Rattle.hist_safety.specs.Carried.{Sends, is_let, was_given, was_sent}
 use Rattle.hist_safety.specs.Law.{IsLawful, GiveMayHappen, SendMayHappen}
 use Rattle.hist_safety.specs.Kept.{Carried, WasGiven}
-use Rattle.hist_safety.proofs.Basics.{no, both, both-left, both-right, eq-nat, half-is, half-true, if-old, name-is, name-self, not-true, or-left, or-split, or-true, self}
+use Rattle.hist_safety.proofs.Basics.{no, both-left, both-right, eq-nat, half-is, half-true, if-old, name-is, name-self, or-split, self}
 use Rattle.hist_safety.proofs.Orders.{other, put-order, put-was}
 use Rattle.hist_safety.proofs.Once.{put-once}
 use Rattle.hist_safety.proofs.Pairs.{order-ordered}
@@ -63,21 +64,21 @@ abbrev pub SentSomewhere : List ℕ → List ℕ → List Act → Type 0
 SentSomewhere x b h = (g : List ℕ) × (n : ℕ) × (p : List ℕ) × (was_sent g x n b p h ≡ true)
 
 let-of : (f y : List ℕ) (m : ℕ) (o : List ℕ) (h : List Act) → SendMayHappen f y m o h → (p : List ℕ) × (is_let f p h ≡ true)
-let-of f y m o (acts.Let g p ∷ h) s = (p, both (bytes_eq g f) (bytes_eq p p) (let e = s.0 in rw e (name-self f)) (name-self p))
+let-of f y m o (acts.Let g p ∷ h) s = (p, and_from (bytes_eq g f) (bytes_eq p p) (let e = s.0 in rw e (name-self f)) (name-self p))
 let-of f y m o [] s = absurd s
 let-of f y m o (a ∷ h) s = absurd s
 
 all-four : (a b c d : Bool) → a ≡ true → b ≡ true → c ≡ true → d ≡ true → (a && b && c && d) ≡ true
-all-four a b c d p q r s = both (a && b && c) d (both (a && b) c (both a b p q) r) s
+all-four a b c d p q r s = and_from (a && b && c) d (and_from (a && b) c (and_from a b p q) r) s
 
 sealed-now : (f y : List ℕ) (m : ℕ) (o x b : List ℕ) (h : List Act) → SendMayHappen f y m o h → (bytes_eq y x && bytes_eq (esp_of o) b) ≡ true → SentSomewhere x b (acts.Sent f y m o ∷ h)
 sealed-now f y m o x b h s e =
     let p = let-of f y m o h s in
     let a = half-true f y f x refl (name-is y x (both-left (bytes_eq y x) (bytes_eq (esp_of o) b) e)) in
-    (f, m, p.0, or-left (is_half f y f x && (m == m) && bytes_eq (esp_of o) b && is_let f p.0 h) (was_sent f x m b p.0 h) (all-four (is_half f y f x) (m == m) (bytes_eq (esp_of o) b) (is_let f p.0 h) a (self m) (both-right (bytes_eq y x) (bytes_eq (esp_of o) b) e) p.1))
+    (f, m, p.0, or_left (is_half f y f x && (m == m) && bytes_eq (esp_of o) b && is_let f p.0 h) (was_sent f x m b p.0 h) (all-four (is_half f y f x) (m == m) (bytes_eq (esp_of o) b) (is_let f p.0 h) a (self m) (both-right (bytes_eq y x) (bytes_eq (esp_of o) b) e) p.1))
 
 sealed-more : (f y : List ℕ) (m : ℕ) (o x b : List ℕ) (h : List Act) → SentSomewhere x b h → SentSomewhere x b (acts.Sent f y m o ∷ h)
-sealed-more f y m o x b h s = (s.0, s.1, s.2, or-true (is_half f y s.0 x && (m == s.1) && bytes_eq (esp_of o) b && is_let f s.2 h) (was_sent s.0 x s.1 b s.2 h) s.3)
+sealed-more f y m o x b h s = (s.0, s.1, s.2, or_right (is_half f y s.0 x && (m == s.1) && bytes_eq (esp_of o) b && is_let f s.2 h) (was_sent s.0 x s.1 b s.2 h) s.3)
 
 pub sealed-sent : (gs : List Peer) (x b : List ℕ) (h : List Act) → IsLawful gs h → is_sealed x b h ≡ true → SentSomewhere x b h
 sealed-sent gs x b [] l e = absurd (no e)
@@ -89,14 +90,14 @@ sealed-sent gs x b (a ∷ h) l e = sealed-sent gs x b h l.1 e
 sent-this : (f y g x : List ℕ) (m n : ℕ) (b p o : List ℕ) (h : List Act) → (is_half f y g x && (m == n) && bytes_eq (esp_of o) b && is_let f p h) ≡ true → (bytes_eq y x && bytes_eq (esp_of o) b) ≡ true
 sent-this f y g x m n b p o h e =
     let t = four (is_half f y g x) (m == n) (bytes_eq (esp_of o) b) (is_let f p h) e in
-    both (bytes_eq y x) (bytes_eq (esp_of o) b) (both-right (bytes_eq f g) (bytes_eq y x) t.0) t.2
+    and_from (bytes_eq y x) (bytes_eq (esp_of o) b) (both-right (bytes_eq f g) (bytes_eq y x) t.0) t.2
 
 pub sent-sealed : (g x : List ℕ) (n : ℕ) (b p : List ℕ) (h : List Act) → was_sent g x n b p h ≡ true → is_sealed x b h ≡ true
 sent-sealed g x n b p [] e = absurd (no e)
 sent-sealed g x n b p (acts.Sent f y m o ∷ h) e =
     or-split {A = ((bytes_eq y x && bytes_eq (esp_of o) b) || is_sealed x b h) ≡ true} (is_half f y g x && (m == n) && bytes_eq (esp_of o) b && is_let f p h) (was_sent g x n b p h)
-    (λ q. or-left (bytes_eq y x && bytes_eq (esp_of o) b) (is_sealed x b h) (sent-this f y g x m n b p o h q))
-    (λ q. or-true (bytes_eq y x && bytes_eq (esp_of o) b) (is_sealed x b h) (sent-sealed g x n b p h q)) e
+    (λ q. or_left (bytes_eq y x && bytes_eq (esp_of o) b) (is_sealed x b h) (sent-this f y g x m n b p o h q))
+    (λ q. or_right (bytes_eq y x && bytes_eq (esp_of o) b) (is_sealed x b h) (sent-sealed g x n b p h q)) e
 sent-sealed g x n b p (a ∷ h) e = sent-sealed g x n b p h e
 
 -- ---- what was given
@@ -104,11 +105,11 @@ sent-sealed g x n b p (a ∷ h) e = sent-sealed g x n b p h e
 among-more : (n m : ℕ) (xs : List ℕ) → is_among n xs ≡ true → is_among n (xs ++ m ∷ []) ≡ true
 among-more n m [] e = absurd (no e)
 among-more n m (x ∷ xs) e =
-    or-split {A = ((n == x) || is_among n (xs ++ m ∷ [])) ≡ true} (n == x) (is_among n xs) (λ q. or-left (n == x) (is_among n (xs ++ m ∷ [])) q) (λ q. or-true (n == x) (is_among n (xs ++ m ∷ [])) (among-more n m xs q)) e
+    or-split {A = ((n == x) || is_among n (xs ++ m ∷ [])) ≡ true} (n == x) (is_among n xs) (λ q. or_left (n == x) (is_among n (xs ++ m ∷ [])) q) (λ q. or_right (n == x) (is_among n (xs ++ m ∷ [])) (among-more n m xs q)) e
 
 among-last : (n : ℕ) (xs : List ℕ) → is_among n (xs ++ n ∷ []) ≡ true
-among-last n [] = or-left (n == n) false (self n)
-among-last n (x ∷ xs) = or-true (n == x) (is_among n (xs ++ n ∷ [])) (among-last n xs)
+among-last n [] = or_left (n == n) false (self n)
+among-last n (x ∷ xs) = or_right (n == x) (is_among n (xs ++ n ∷ [])) (among-last n xs)
 
 among-with : (n : ℕ) (xs : List ℕ) (o : Option ℕ) → is_among n xs ≡ true → is_among n (with_number xs o) ≡ true
 among-with n xs None e = e
@@ -139,8 +140,8 @@ given-more f y x m n q h i = (i.0, i.1, among-if (is_half f y i.0 x) n (numbers_
 
 given-put : (f x : List ℕ) (n : ℕ) (d : SadEntry) (h : List Act) → ((g : List ℕ) → was_put g d.name h ≡ false) → WasGiven x n h → WasGiven x n (acts.Put f d ∷ h)
 given-put f x n d h w i =
-    let q : is_half f d.name i.0 x ≡ false = not-true (is_half f d.name i.0 x) (λ r. let s = (half-is f d.name i.0 x r).1 in no (sym (w i.0) ∙ (let t : was_put i.0 d.name h ≡ true = rw s i.1 in t))) in
-    (i.0, or-true (is_half f d.name i.0 x) (was_put i.0 x h) i.1, (let t : is_among n (if is_half f d.name i.0 x then [] else numbers_taken i.0 x h) ≡ true = rw q i.2 in t))
+    let q : is_half f d.name i.0 x ≡ false = false_from_ne_true (is_half f d.name i.0 x) (λ r. let s = (half-is f d.name i.0 x r).1 in no (sym (w i.0) ∙ (let t : was_put i.0 d.name h ≡ true = rw s i.1 in t))) in
+    (i.0, or_right (is_half f d.name i.0 x) (was_put i.0 x h) i.1, (let t : is_among n (if is_half f d.name i.0 x then [] else numbers_taken i.0 x h) ≡ true = rw q i.2 in t))
 
 pub given : (gs : List Peer) (x : List ℕ) (n : ℕ) (h : List Act) → IsLawful gs h → was_given x n h ≡ true → WasGiven x n h
 given gs x n [] l e = absurd (no e)

@@ -2,9 +2,10 @@
 use Rattle.std.proofs.Common.{◌≡◌, ℕ, Bool, true, List, [], ◌∷◌}
 use Rattle.std.specs.Str.{bytes_eq}
 use Rattle.ikeless_tree.specs.declared.order.Order.TheVariants as asks
+use Rattle.ikeless_tree.specs.Half.{in_half}
 use Rattle.hist_acts.specs.declared.act.Act.{Act}
 use Rattle.hist_acts.specs.declared.act.Act.TheVariants as acts
-use Rattle.hist_safety.specs.Orders.{in_half, is_removal_ordered}
+use Rattle.hist_safety.specs.Orders.{is_removal_ordered}
 use Rattle.hist_safety.specs.Ended.{NeverEnds, RemovedEnded}
 use Rattle.hist_safety.proofs.Basics.{name-is, no, or-split}
 

@@ -1,5 +1,6 @@
 -- A removal of a half is ordered behind its put, so once it is handled no put can be.
 use Rattle.std.proofs.Common.{◌≡◌, ℕ, ◌+◌, ◌≤◌, ◌<◌, Bool, true, false, not, ◌&&◌, ◌||◌, List, [], ◌∷◌, ◌⊎◌, inl, inr, refl, sym, subst, arith, if◌then◌else◌}
+use Rattle.std.proofs.lemmas.Bool.{or_right}
 use Rattle.std.specs.Str.{bytes_eq}
 use Rattle.ikeless_tree.specs.declared.command.Peer.{Peer}
 use Rattle.ikeless_tree.specs.declared.order.Order.TheVariants as asks
@@ -9,7 +10,7 @@ use Rattle.hist_acts.specs.Sessions.{handled, is_open, is_session, openings, ord
 use Rattle.hist_safety.specs.Orders.{is_removal_ordered, was_order_given, place_of, session_of, site}
 use Rattle.hist_safety.specs.Law.{IsLawful, OrderMayHappen}
 use Rattle.hist_safety.specs.Kept.{Never}
-use Rattle.hist_safety.proofs.Basics.{no, or-false, or-split, or-true, name-is, session-self, more}
+use Rattle.hist_safety.proofs.Basics.{no, or-false, or-split, name-is, session-self, more}
 
 open-more : (b p : Bool) (o : ℕ) → (p ≡ true → 1 ≤ o) → (b || p) ≡ true → 1 ≤ (if b then o + 1 else o)
 open-more true p o i e = omega arith
@@ -61,7 +62,7 @@ doomed-new y x h o i e = or-split {A = was_order_given x h ≡ true} (bytes_eq y
 pub doomed-ordered : (gs : List Peer) (x : List ℕ) (h : List Act) → IsLawful gs h → is_removal_ordered x h ≡ true → was_order_given x h ≡ true
 doomed-ordered gs x [] l e = absurd (no e)
 doomed-ordered gs x (acts.Order f t j (asks.Remove y) ∷ h) l e = doomed-new y x h (remove-at f y h l.0.4).0 (doomed-ordered gs x h l.1) e
-doomed-ordered gs x (acts.Order f t j (asks.Put d) ∷ h) l e = or-true (bytes_eq d.name x) (was_order_given x h) (doomed-ordered gs x h l.1 e)
+doomed-ordered gs x (acts.Order f t j (asks.Put d) ∷ h) l e = or_right (bytes_eq d.name x) (was_order_given x h) (doomed-ordered gs x h l.1 e)
 doomed-ordered gs x (a ∷ h) l e = doomed-ordered gs x h l.1 e
 
 -- an order of this session and number is behind the put of the half

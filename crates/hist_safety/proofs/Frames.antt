@@ -5,6 +5,7 @@ use Rattle.std.proofs.lemmas.Nat.{from_be_bytes-to_be_bytes_4, from_be_bytes-to_
 use Rattle.ikeless_tree.specs.declared.sad.SadEntry.{SadEntry}
 use Rattle.esp_frame.specs.Esp.{EspOpens, Inner, Keying, esp, iv_of, keying, pad_len, padded, seq_of, spi_of}
 use Rattle.esp_frame.proofs.Opens.{inner_once, opens_once, sealed_opens}
+use Rattle.hist_halves.specs.Sealed.{number_from}
 use Rattle.hist_safety.specs.Carried.{keying_of}
 
 pub esp-iv : (k : Keying) (s next : ℕ) (p : List ℕ) → iv_of (esp k s next p) ≡ to_be_bytes w64 s
@@ -17,6 +18,11 @@ esp-seq-be k s next p = refl
 
 pub esp-seq : (k : Keying) (s next : ℕ) (p : List ℕ) → s < 2 ^ 32 → seq_of (esp k s next p) ≡ s
 esp-seq k s next p lt = esp-seq-be k s next p ∙ from_be_bytes-to_be_bytes_4 s lt
+
+-- the number of ESP octets is the field in them
+pub number-field : (half : SadEntry) (top : ℕ) (b : List ℕ) → number_from half top b ≡ seq_of b
+unfolding number_from
+number-field half top b = refl
 
 esp-spi-be : (k : Keying) (s next : ℕ) (p : List ℕ) → spi_of (esp k s next p) ≡ from_be_bytes w32 (to_be_bytes w32 k.spi)
 unfolding esp

@@ -1,21 +1,22 @@
 -- The halves of an association: the inbound one stays while the outbound one is there.
 use Rattle.std.proofs.Common.{◌≡◌, ℕ, ◌+◌, ◌≤◌, ◌<◌, nat_lt, Bool, true, false, ◌==◌, not, ◌&&◌, ◌||◌, List, [], ◌∷◌, decimal, Option, Some, None, ◌⊎◌, inl, inr, refl, sym, ◌∙◌, ap, subst, arith, if◌then◌else◌}
 use Rattle.std.specs.Str.{bytes_eq}
-use Rattle.std.proofs.lemmas.Bool.{ltb-true}
+use Rattle.std.proofs.lemmas.Bool.{ltb-true, or_right, or_left}
 use Rattle.ikeless_tree.specs.declared.sad.SadEntry.{SadEntry}
 use Rattle.ikeless_tree.specs.declared.command.Peer.{Peer}
 use Rattle.ikeless_tree.specs.declared.order.Order.{Order}
 use Rattle.ikeless_tree.specs.declared.order.Order.TheVariants as asks
 use Rattle.ikeless_tree.specs.declared.order.Answer.{Answer}
 use Rattle.ikeless_tree.specs.declared.reply.GoneWhy.TheVariants as gone
+use Rattle.ikeless_tree.specs.Half.{in_half, out_half}
 use Rattle.hist_acts.specs.declared.act.Act.{Act}
 use Rattle.hist_acts.specs.declared.act.Act.TheVariants as acts
 use Rattle.hist_acts.specs.Sessions.{answer_at, handled, is_session, order_at, session_taken}
 use Rattle.hist_halves.specs.Halves.{is_half, is_lapsed, is_live, was_put}
-use Rattle.hist_safety.specs.Orders.{in_half, inbounds, is_removal_ordered, is_removal_answered, is_put_accepted, is_removal_handled, is_put, is_removal, was_order_given, out_half, site}
+use Rattle.hist_safety.specs.Orders.{inbounds, is_removal_ordered, is_removal_answered, is_put_accepted, is_removal_handled, is_put, is_removal, was_order_given, site}
 use Rattle.hist_safety.specs.Law.{IsAnswer, IsLawful, PutInMayHappen, PutOutMayHappen, RemoveInMayHappen, RemoveOutMayHappen}
 use Rattle.hist_safety.specs.Kept.{Last}
-use Rattle.hist_safety.proofs.Basics.{no, both-left, both-right, or-left, or-split, or-true, name-is, half-is, half-true, spot-is, some-is, if-cases}
+use Rattle.hist_safety.proofs.Basics.{no, both-left, both-right, or-split, name-is, half-is, half-true, spot-is, some-is, if-cases}
 use Rattle.hist_safety.proofs.Sessions.{next-at, next-is, told-order}
 use Rattle.hist_safety.proofs.Orders.{in-out, in-serial, other, out-serial, was}
 use Rattle.hist_safety.proofs.Removal.{asked, left-off, off-dead}
@@ -23,7 +24,7 @@ use Rattle.hist_safety.proofs.Pairs.{pair}
 
 -- the put of a half that was handled is refused, or stands
 answer-put : (g : List ℕ) (e : SadEntry) (a : Answer) (h : List Act) → IsAnswer g (asks.Put e) a h → (400 ≤ a.status) ⊎ (was_put g e.name h ≡ true)
-answer-put g e a (acts.Put f d ∷ h) p = inr (or-left (is_half f d.name g e.name) (was_put g e.name h) (half-true f d.name g e.name p.0 (ap (λ (z : SadEntry). z.name) p.1)))
+answer-put g e a (acts.Put f d ∷ h) p = inr (or_left (is_half f d.name g e.name) (was_put g e.name h) (half-true f d.name g e.name p.0 (ap (λ (z : SadEntry). z.name) p.1)))
 answer-put g e a [] p = inl p.1
 answer-put g e a (b ∷ h) p = inl p.1
 
@@ -36,7 +37,7 @@ told-put-new g f s k t j e o r q h n m w eq p =
 
 put-more : {A : Type 0} (b c : Bool) → A ⊎ (c ≡ true) → A ⊎ ((b || c) ≡ true)
 put-more b c (inl a) = inl a
-put-more b c (inr q) = inr (or-true b c q)
+put-more b c (inr q) = inr (or_right b c q)
 
 pub told-put : (gs : List Peer) (g : List ℕ) (s k : ℕ) (e : SadEntry) (r : Answer) (h : List Act) → IsLawful gs h → answer_at g s k h ≡ Some r → order_at g s k h ≡ Some (asks.Put e) → (400 ≤ r.status) ⊎ (was_put g e.name h ≡ true)
 told-put gs g s k e r [] l p q = absurd (grind arith)
@@ -76,7 +77,7 @@ pub made-put : (gs : List Peer) (x : List ℕ) (h : List Act) → IsLawful gs h 
 made-put gs x [] l q = absurd (no q)
 made-put gs x (acts.Answered f t j a ∷ h) l q =
     or-split {A = was_put (site x h) x h ≡ true} (is_put x (order_at f t j h) && nat_lt a.status 400) (is_put_accepted x h) (made-new gs f t j x a h l.1 l.0.4) (made-put gs x h l.1) q
-made-put gs x (acts.Put f d ∷ h) l q = or-true (is_half f d.name (site x h) x) (was_put (site x h) x h) (made-put gs x h l.1 q)
+made-put gs x (acts.Put f d ∷ h) l q = or_right (is_half f d.name (site x h) x) (was_put (site x h) x h) (made-put gs x h l.1 q)
 made-put gs x (acts.Order f t j (asks.Put d) ∷ h) l q =
     let i = made-put gs x h l.1 q in
     made-older x f d h (other gs x f d h l.1 l.0.4 (was gs (site x h) x h l.1 i).0) i
@@ -108,7 +109,7 @@ last-or false c f i = i
 
 last-off : {A : Type 0} (b c : Bool) → A ⊎ (c ≡ true) → A ⊎ ((b || c) ≡ true)
 last-off b c (inl a) = inl a
-last-off b c (inr q) = inr (or-true b c q)
+last-off b c (inr q) = inr (or_right b c q)
 
 pub last : (gs : List Peer) (t : List ℕ) (h : List Act) → IsLawful gs h → is_removal_ordered (in_half t) h ≡ true → Last t h
 last gs t [] l e = absurd (no e)
@@ -136,7 +137,7 @@ stays-hard true v p d i = inr (inl refl)
 stays-hard false v p d i = i
 
 stays-boot : (b c v p d : Bool) → c ≡ true → Stands v p d → Stands (not b && v) ((b && c) || p) d
-stays-boot true c v p d e i = inr (inl (or-left c p e))
+stays-boot true c v p d e i = inr (inl (or_left c p e))
 stays-boot false c v p d e i = i
 
 stays-doomed : (b v p d : Bool) → Stands v p d → Stands v p (b || d)

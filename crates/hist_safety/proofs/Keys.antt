@@ -1,19 +1,22 @@
 -- No number is sealed twice under one key.
 use Rattle.std.proofs.Common.{◌≡◌, ℕ, ◌+◌, ◌≤◌, true, false, ◌&&◌, List, [], ◌∷◌, Some, refl, sym, ◌∙◌, ap, subst, arith, if◌then◌else◌}
+use Rattle.std.proofs.lemmas.Bool.{false_from_ne_true}
 use Rattle.std.specs.Int.{w64, to_be_bytes}
 use Rattle.std.specs.Str.{bytes_eq}
+use Rattle.ip_packet.specs.Field.{next_header}
 use Rattle.ikeless_tree.specs.declared.sad.SadEntry.{SadEntry}
 use Rattle.ikeless_tree.specs.declared.command.Peer.{Peer}
+use Rattle.ikeless_tree.specs.Half.{is_inbound, aes_part, in_half, out_half}
 use Rattle.hist_acts.specs.declared.act.Act.{Act}
 use Rattle.hist_acts.specs.declared.act.Act.TheVariants as acts
 use Rattle.esp_frame.specs.Esp.{iv_of}
-use Rattle.hist_halves.specs.Sealed.{esp_of, is_inbound, next_header}
+use Rattle.hist_halves.specs.Sealed.{esp_of}
 use Rattle.hist_halves.specs.Halves.{is_half, put_of, sent, was_put}
-use Rattle.hist_safety.specs.Orders.{aes_part, in_half, order_of, was_order_given, out_half, site}
+use Rattle.hist_safety.specs.Orders.{order_of, was_order_given, site}
 use Rattle.hist_safety.specs.Carried.{Sends, aes_in, keying_of, was_sealed}
 use Rattle.hist_safety.specs.Law.{IsLawful, SendMayHappen}
 use Rattle.hist_safety.specs.Kept.{Under}
-use Rattle.hist_safety.proofs.Basics.{no, both-left, both-right, half-is, half-true, if-old, more, name-is, not-true, or-split, some-is}
+use Rattle.hist_safety.proofs.Basics.{no, both-left, both-right, half-is, half-true, if-old, more, name-is, or-split, some-is}
 use Rattle.hist_safety.proofs.Orders.{put-order, put-was}
 use Rattle.hist_safety.proofs.Once.{put-once}
 use Rattle.hist_safety.proofs.Pairs.{keys-differ, outbound, pair}
@@ -22,7 +25,7 @@ use Rattle.hist_safety.proofs.Frames.{esp-iv, iv-once}
 -- the half that was put isn't the one that is put now
 pub not-now : (gs : List Peer) (g f x : List ℕ) (d e : SadEntry) (h : List Act) → was_put g d.name h ≡ false → put_of g x h ≡ Some e → is_half f d.name g x ≡ false
 not-now gs g f x d e h w p =
-    not-true (is_half f d.name g x) (λ q. let r = (half-is f d.name g x q).1 in let s : was_put g d.name h ≡ true = rw r (put-was g x e h p) in no (sym w ∙ s))
+    false_from_ne_true (is_half f d.name g x) (λ q. let r = (half-is f d.name g x q).1 in let s : was_put g d.name h ≡ true = rw r (put-was g x e h p) in no (sym w ∙ s))
 
 under-put : (gs : List Peer) (c iv f : List ℕ) (d : SadEntry) (h : List Act) → ((g : List ℕ) → was_put g d.name h ≡ false) → Under c iv h → Under c iv (acts.Put f d ∷ h)
 under-put gs c iv f d h w u =
@@ -93,7 +96,7 @@ key-clash gs g x n p o h l s u =
 
 pub key-safe : (gs : List Peer) (g x : List ℕ) (n : ℕ) (o : List ℕ) (h : List Act) → IsLawful gs h → SendMayHappen g x n o h → was_sealed (aes_in (put_of g x h)) (iv_of (esp_of o)) h ≡ false
 key-safe gs g x n o (acts.Let f p ∷ h) l m =
-    not-true (was_sealed (aes_in (put_of g x h)) (iv_of (esp_of o)) h) (λ q.
+    false_from_ne_true (was_sealed (aes_in (put_of g x h)) (iv_of (esp_of o)) h) (λ q.
     let s : Sends g x n p o h = m.1 in
     let u = used-by gs (aes_in (put_of g x h)) (iv_of (esp_of o)) h l.1 q in
     key-clash gs g x n p o h l.1 s (subst (λ z. Under z (iv_of (esp_of o)) h) (ap aes_in s.put) u))

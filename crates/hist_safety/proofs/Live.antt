@@ -1,17 +1,19 @@
 -- The list of live halves: each is the one that was put under its name, and an SPI names one of them.
 use Rattle.std.proofs.Common.{◌≡◌, ℕ, Bool, true, false, ◌==◌, not, ◌&&◌, ◌||◌, List, [], ◌∷◌, ◌++◌, Some, ◌⊎◌, inl, inr, refl, sym, ◌∙◌, ap, subst, arith, if◌then◌else◌}
+use Rattle.std.proofs.lemmas.Bool.{or_right, or_left, and_from}
 use Rattle.std.specs.Prelude.{find}
 use Rattle.std.specs.Str.{bytes_eq}
 use Rattle.ikeless_tree.specs.declared.sad.SadEntry.{SadEntry}
 use Rattle.ikeless_tree.specs.declared.command.Peer.{Peer}
+use Rattle.ikeless_tree.specs.Half.{is_inbound, in_half}
 use Rattle.hist_acts.specs.declared.act.Act.{Act}
 use Rattle.hist_acts.specs.declared.act.Act.TheVariants as acts
-use Rattle.hist_halves.specs.Sealed.{by_spi, is_inbound}
+use Rattle.hist_halves.specs.Sealed.{by_spi}
 use Rattle.hist_halves.specs.Halves.{is_half, is_live, live, put_of, was_put, without}
-use Rattle.hist_safety.specs.Orders.{in_half, order_of}
+use Rattle.hist_safety.specs.Orders.{order_of}
 use Rattle.hist_safety.specs.Law.{IsLawful}
 use Rattle.hist_safety.specs.Kept.{IsOneOf}
-use Rattle.hist_safety.proofs.Basics.{no, both, both-left, both-right, eq-nat, half-true, if-new, if-old, name-is, name-not, name-true, or-left, or-true, self, some-is}
+use Rattle.hist_safety.proofs.Basics.{no, both-left, both-right, eq-nat, half-true, if-new, if-old, name-is, name-not, name-true, self, some-is}
 use Rattle.hist_safety.proofs.Orders.{put-order}
 use Rattle.hist_safety.proofs.Once.{put-once}
 use Rattle.hist_safety.proofs.Pairs.{inbound, numbered, one-spi}
@@ -64,12 +66,12 @@ Stands g e h = (put_of g e.name h ≡ Some e) × (is_live g e.name h ≡ true)
 stands-new : (f g : List ℕ) (d e : SadEntry) (h : List Act) → f ≡ g → d ≡ e → Stands g e (acts.Put f d ∷ h)
 stands-new f g d e h p q =
     let b : is_half f d.name g e.name ≡ true = half-true f d.name g e.name p (ap (λ (z : SadEntry). z.name) q) in
-    (if-new (is_half f d.name g e.name) (Some d) (put_of g e.name h) b ∙ ap (λ (z : SadEntry). Some z) q, or-left (is_half f d.name g e.name) (is_live g e.name h) b)
+    (if-new (is_half f d.name g e.name) (Some d) (put_of g e.name h) b ∙ ap (λ (z : SadEntry). Some z) q, or_left (is_half f d.name g e.name) (is_live g e.name h) b)
 
 stands-old : (gs : List Peer) (f g : List ℕ) (d e : SadEntry) (h : List Act) → was_put g d.name h ≡ false → Stands g e h → Stands g e (acts.Put f d ∷ h)
 stands-old gs f g d e h w s =
     let b = not-now gs g f e.name d e h w s.0 in
-    (if-old (is_half f d.name g e.name) (Some d) (put_of g e.name h) b ∙ s.0, or-true (is_half f d.name g e.name) (is_live g e.name h) s.1)
+    (if-old (is_half f d.name g e.name) (Some d) (put_of g e.name h) b ∙ s.0, or_right (is_half f d.name g e.name) (is_live g e.name h) s.1)
 
 stands-put : (gs : List Peer) (b : Bool) (f g : List ℕ) (d e : SadEntry) (h : List Act) → (b ≡ true → f ≡ g) → was_put g d.name h ≡ false → (IsOneOf e (live g h) → Stands g e h) →
     IsOneOf e (if b then live g h ++ d ∷ [] else live g h) → Stands g e (acts.Put f d ∷ h)
@@ -179,6 +181,6 @@ spi-finds gs g t spi e h l v p q =
     let same : w.0 ≡ e = some-is w.0 e (sym s.0 ∙ ap (λ (z : List ℕ). put_of g z h) w.2 ∙ p) in
     let m : IsOneOf e (live g h) = subst (λ z. IsOneOf z (live g h)) same w.1 in
     let name : e.name ≡ in_half t = ap (λ (z : SadEntry). z.name) (sym same) ∙ w.2 in
-    let b : spi_test spi e ≡ true = both (is_inbound e.name) (e.spi == spi) (ap is_inbound name) (let r = self spi in ap (λ (z : ℕ). z == spi) q ∙ r) in
+    let b : spi_test spi e ≡ true = and_from (is_inbound e.name) (e.spi == spi) (ap is_inbound name) (let r = self spi in ap (λ (z : ℕ). z == spi) q ∙ r) in
     let f = find-some (spi_test spi) e (live g h) b m in
     f.1 ∙ ap (λ (z : SadEntry). Some z) (same-half gs g t spi f.0 e h l p q f.1)

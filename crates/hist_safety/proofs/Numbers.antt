@@ -1,23 +1,26 @@
 -- The numbers under one half: each was sent once, and what was taken was sent.
 use Rattle.std.proofs.Common.{◌≡◌, ℕ, ◌+◌, ◌≤◌, Bool, true, false, ◌==◌, ◌&&◌, ◌||◌, List, [], ◌∷◌, ◌++◌, Option, Some, None, ◌⊎◌, inl, inr, refl, sym, ◌∙◌, ap, subst, arith, if◌then◌else◌}
+use Rattle.std.proofs.lemmas.Bool.{or_right, or_left}
 use Rattle.std.specs.Str.{bytes_eq}
+use Rattle.ip_packet.specs.Field.{next_header}
 use Rattle.ikeless_tree.specs.declared.sad.SadEntry.{SadEntry}
 use Rattle.ikeless_tree.specs.declared.command.Peer.{Peer}
 use Rattle.ikeless_tree.specs.declared.reply.DropWhy.{DropWhy}
 use Rattle.esp_frame.specs.Esp.{seq_of, spi_of}
-use Rattle.replay_win.specs.Marks.{is_among}
+use Rattle.replay_win.specs.Marks.{greatest, is_among}
+use Rattle.ikeless_tree.specs.Half.{other_half}
 use Rattle.hist_acts.specs.declared.act.Act.{Act}
 use Rattle.hist_acts.specs.declared.act.Act.TheVariants as acts
-use Rattle.hist_halves.specs.Sealed.{by_spi, esp_of, is_opened, number_of, other_half, next_header}
-use Rattle.hist_halves.specs.Halves.{arrival_number, is_half, is_sealed, live, number_if, put_of, sent, numbers_taken, was_put, with_number}
+use Rattle.hist_halves.specs.Sealed.{by_spi, esp_of, is_opened, number_of}
+use Rattle.hist_halves.specs.Halves.{arrival_number, is_half, is_sealed, live, number_for, number_if, put_of, sent, numbers_taken, was_put, with_number}
 use Rattle.hist_safety.specs.Orders.{site}
 use Rattle.hist_safety.specs.Carried.{ComesTo, is_let, keying_of, was_sent}
 use Rattle.hist_safety.specs.Kept.{NumberSent}
 use Rattle.hist_safety.specs.Law.{IsLawful, DropMayHappen, GiveMayHappen, SendMayHappen}
-use Rattle.hist_safety.proofs.Basics.{both-left, both-right, eq-nat, half-is, if-old, more, name-is, no, or-left, or-split, or-true, some-is}
+use Rattle.hist_safety.proofs.Basics.{both-left, both-right, eq-nat, half-is, if-old, more, name-is, no, or-split, some-is}
 use Rattle.hist_safety.proofs.Once.{put-once}
 use Rattle.hist_safety.proofs.Keys.{not-now}
-use Rattle.hist_safety.proofs.Frames.{esp-seq}
+use Rattle.hist_safety.proofs.Frames.{esp-seq, number-field}
 use Rattle.hist_safety.proofs.Carried.{carried, sealed-sent}
 use Rattle.hist_safety.proofs.Window.{gave-safe}
 
@@ -111,8 +114,8 @@ among-split : (n m : ℕ) (xs : List ℕ) → is_among n (xs ++ m ∷ []) ≡ tr
 among-split n m [] e = or-split {A = (false ≡ true) ⊎ (m ≡ n)} (n == m) false (λ q. inr (sym (eq-nat n m q))) (λ q. inl q) e
 among-split n m (x ∷ xs) e =
     or-split {A = (((n == x) || is_among n xs) ≡ true) ⊎ (m ≡ n)} (n == x) (is_among n (xs ++ m ∷ []))
-    (λ q. inl (or-left (n == x) (is_among n xs) q))
-    (λ q. elim (among-split n m xs q) as (λ z. (((n == x) || is_among n xs) ≡ true) ⊎ (m ≡ n)) [ inl r ↦ inl (or-true (n == x) (is_among n xs) r) | inr r ↦ inr r ]) e
+    (λ q. inl (or_left (n == x) (is_among n xs) q))
+    (λ q. elim (among-split n m xs q) as (λ z. (((n == x) || is_among n xs) ≡ true) ⊎ (m ≡ n)) [ inl r ↦ inl (or_right (n == x) (is_among n xs) r) | inr r ↦ inr r ]) e
 
 with-split : (n : ℕ) (xs : List ℕ) (o : Option ℕ) → is_among n (with_number xs o) ≡ true → (is_among n xs ≡ true) ⊎ (o ≡ Some n)
 with-split n xs None e = inl e
@@ -130,11 +133,11 @@ number-is true k n e = (refl, some-is k n e)
 number-is false k n e = absurd (grind arith)
 
 arrival-is : (g x f o : List ℕ) (numbers : List ℕ) (half : SadEntry) (n : ℕ) (h : List Act) → by_spi (spi_of (esp_of o)) (live g h) ≡ Some half → (b : Bool) →
-    (if b then number_if x numbers (esp_of o) (by_spi (spi_of (esp_of o)) (live g h)) else None) ≡ Some n → (half.name ≡ x) × (seq_of (esp_of o) ≡ n)
+    (if b then number_for x (greatest numbers) (live g h) (esp_of o) else None) ≡ Some n → (half.name ≡ x) × (seq_of (esp_of o) ≡ n)
 arrival-is g x f o numbers half n h q true e =
-    let r : (if bytes_eq half.name x then Some (number_of half numbers (esp_of o)) else None) ≡ Some n = sym (ap (number_if x numbers (esp_of o)) q) ∙ e in
+    let r : (if bytes_eq half.name x then Some (number_of half numbers (esp_of o)) else None) ≡ Some n = sym (ap (number_if x (greatest numbers) (esp_of o)) q) ∙ e in
     let s = number-is (bytes_eq half.name x) (number_of half numbers (esp_of o)) n r in
-    (name-is half.name x s.0, s.1)
+    (name-is half.name x s.0, sym (number-field half (greatest numbers) (esp_of o)) ∙ s.1)
 arrival-is g x f o numbers half n h q false e = absurd (grind arith)
 
 number-of-sent : (gs : List Peer) (x b : List ℕ) (n : ℕ) (h : List Act) → IsLawful gs h → is_sealed x b h ≡ true → seq_of b ≡ n → NumberSent x n h
@@ -165,7 +168,7 @@ gave-sent gs f y m q g x n h l s b e =
     subst (λ z. NumberSent (other_half x) z h) e (subst (λ z. NumberSent (other_half z) m h) k one)
 
 sent-more : (f y : List ℕ) (m : ℕ) (o x : List ℕ) (n : ℕ) (h : List Act) → NumberSent x n h → NumberSent x n (acts.Sent f y m o ∷ h)
-sent-more f y m o x n h s = (s.0, s.1, s.2, or-true (is_half f y s.0 x && (m == n) && bytes_eq (esp_of o) s.1 && is_let f s.2 h) (was_sent s.0 x n s.1 s.2 h) s.3)
+sent-more f y m o x n h s = (s.0, s.1, s.2, or_right (is_half f y s.0 x && (m == n) && bytes_eq (esp_of o) s.1 && is_let f s.2 h) (was_sent s.0 x n s.1 s.2 h) s.3)
 
 pub taken-sent : (gs : List Peer) (g x : List ℕ) (n : ℕ) (h : List Act) → IsLawful gs h → is_among n (numbers_taken g x h) ≡ true → NumberSent (other_half x) n h
 taken-sent gs g x n [] l e = absurd (no e)

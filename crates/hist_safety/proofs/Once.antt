@@ -1,5 +1,6 @@
 -- A half is put once.
 use Rattle.std.proofs.Common.{◌≡◌, ℕ, ◌+◌, ◌≤◌, Bool, true, false, ◌&&◌, ◌||◌, List, [], ◌∷◌, Some, ◌⊎◌, inl, inr, refl, sym, ◌∙◌, ap, subst, arith, if◌then◌else◌}
+use Rattle.std.proofs.lemmas.Bool.{false_from_ne_true}
 use Rattle.std.specs.Str.{bytes_eq}
 use Rattle.ikeless_tree.specs.declared.sad.SadEntry.{SadEntry}
 use Rattle.ikeless_tree.specs.declared.command.Peer.{Peer}
@@ -16,7 +17,7 @@ use Rattle.hist_clear.specs.Safe.{ClearIsLet}
 use Rattle.hist_safety.specs.Orders.{place_of, session_of, site}
 use Rattle.hist_safety.specs.Law.{IsAnswer, IsLawful, DropMayHappen, GiveMayHappen, MayHappen, PassMayHappen, SendMayHappen, is_ready}
 use Rattle.hist_safety.specs.Kept.{IsBehind, IsPutAt}
-use Rattle.hist_safety.proofs.Basics.{no, not-true, name-is, more, session-self}
+use Rattle.hist_safety.proofs.Basics.{no, name-is, more, session-self}
 use Rattle.hist_safety.proofs.Sessions.{next-at, next-is}
 use Rattle.hist_safety.proofs.Orders.{other, place, was}
 
@@ -147,6 +148,6 @@ too-far f x t h a b c n = let q : handled f t h + 1 ≤ handled f t h = rw (sym 
 -- no half is put twice
 pub put-once : (gs : List Peer) (g f : List ℕ) (e : SadEntry) (h : List Act) → IsLawful gs h → is_ready h ≡ true → next_request f h ≡ Some (asks.Put e) → was_put g e.name h ≡ false
 put-once gs g f e h l r n =
-    not-true (was_put g e.name h) (λ q.
+    false_from_ne_true (was_put g e.name h) (λ q.
     let p = place gs f (session_taken f h) (handled f (session_taken f h) h + 1) e h l (next-is f (asks.Put e) h n) in
     too-far f e.name (session_taken f h) h p.1 p.2 p.3 (settled e.name h r (once gs g e.name h l q)))

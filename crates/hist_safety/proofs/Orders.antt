@@ -1,20 +1,21 @@
 -- Orders of one half: where its put was ordered, and that it is ordered once.
 use Rattle.std.proofs.Common.{◌≡◌, ℕ, ◌+◌, ◌≤◌, ◌<◌, ◌^◌, Bool, true, false, ◌==◌, ◌&&◌, ◌||◌, List, [], ◌∷◌, decimal, drop, Option, Some, ◌⊎◌, inl, inr, refl, sym, ◌∙◌, ap, subst, arith, if◌then◌else◌}
+use Rattle.std.proofs.lemmas.Bool.{false_from_ne_true}
 use Rattle.std.specs.Str.{bytes_eq}
 use Rattle.std.proofs.lemmas.Fmt.{decimal_injective}
 use Rattle.ikeless_tree.specs.declared.sad.SadEntry.{SadEntry}
 use Rattle.ikeless_tree.specs.declared.command.Peer.{Peer}
 use Rattle.ikeless_tree.specs.declared.order.Order.{Order}
 use Rattle.ikeless_tree.specs.declared.order.Order.TheVariants as asks
+use Rattle.ikeless_tree.specs.Half.{is_inbound, in_half, out_half}
 use Rattle.hist_acts.specs.declared.act.Act.{Act}
 use Rattle.hist_acts.specs.declared.act.Act.TheVariants as acts
 use Rattle.hist_acts.specs.Sessions.{handled, is_session, order_at, session_taken}
-use Rattle.hist_halves.specs.Sealed.{is_inbound}
 use Rattle.hist_halves.specs.Halves.{is_half, put_of, was_put}
-use Rattle.hist_safety.specs.Orders.{in_half, inbounds, order_of, was_order_given, out_half, site}
+use Rattle.hist_safety.specs.Orders.{inbounds, order_of, was_order_given, site}
 use Rattle.hist_safety.specs.Law.{IsLawful, PutInMayHappen, PutOutMayHappen}
 use Rattle.hist_safety.specs.Kept.{IsPutAt, PutIs}
-use Rattle.hist_safety.proofs.Basics.{no, or-split, not-true, name-is, name-not, name-self, half-is, spot-is, more, if-cases, some-is}
+use Rattle.hist_safety.proofs.Basics.{no, or-split, name-is, name-not, name-self, half-is, spot-is, more, if-cases, some-is}
 use Rattle.hist_safety.proofs.Sessions.{next-is}
 
 -- ---- names of halves
@@ -52,7 +53,7 @@ serial gs m (a ∷ h) lt l q = serial gs m h lt l.1 q
 -- the put of a half is ordered at most once
 pub once-ordered : (gs : List Peer) (f : List ℕ) (e : SadEntry) (h : List Act) → IsLawful gs h → PutInMayHappen e h ⊎ PutOutMayHappen f e h → was_order_given e.name h ≡ false
 once-ordered gs f e h l (inl p) =
-    not-true (was_order_given e.name h) (λ q.
+    false_from_ne_true (was_order_given e.name h) (λ q.
     let few = p.few in
     let r : was_order_given (in_half (decimal (inbounds h + 1))) h ≡ true = subst (λ z. was_order_given z h ≡ true) p.name q in
     let n = serial gs (inbounds h + 1) h (omega (arith, few)) l r in

@@ -1,22 +1,23 @@
 -- The two halves of an association: one key, one SPI, mirrored selectors, two gateways.
 use Rattle.std.proofs.Common.{◌==◌, ◌≡◌, ℕ, ◌+◌, ◌≤◌, nat_lt, Bool, true, false, ◌&&◌, ◌||◌, List, [], ◌∷◌, decimal, Option, Some, ◌⊎◌, inl, inr, refl, sym, ◌∙◌, ap, subst, arith, if◌then◌else◌}
+use Rattle.std.proofs.lemmas.Bool.{or_right, or_left, and_from}
 use Rattle.std.specs.Str.{bytes_eq}
 use Rattle.ikl_base.specs.declared.address.Addr.{Addr}
 use Rattle.ikl_base.specs.declared.address.Addr.TheVariants.{V4, V6}
-use Rattle.ip_packet.specs.Outer.{AreOneFamily}
+use Rattle.ikl_base.specs.Address.{AreOneFamily}
 use Rattle.ikeless_tree.specs.declared.sad.SadEntry.{SadEntry}
 use Rattle.ikeless_tree.specs.declared.command.Peer.{Peer}
 use Rattle.ikeless_tree.specs.declared.order.Order.TheVariants as asks
+use Rattle.ikeless_tree.specs.Half.{is_inbound, aes_part, in_half, out_half}
 use Rattle.hist_acts.specs.declared.act.Act.{Act}
 use Rattle.hist_acts.specs.declared.act.Act.TheVariants as acts
 use Rattle.hist_acts.specs.Sessions.{is_session, order_at, orders}
-use Rattle.hist_halves.specs.Sealed.{is_inbound}
-use Rattle.hist_safety.specs.Orders.{aes_part, in_half, inbounds, is_key_used, is_put_accepted, is_put, order_of, was_order_given, out_half, place_of, session_of, site}
+use Rattle.hist_safety.specs.Orders.{inbounds, is_key_used, is_put_accepted, is_put, order_of, was_order_given, place_of, session_of, site}
 use Rattle.hist_safety.specs.Law.{IsLawful, PutInMayHappen, PutOutMayHappen}
 use Rattle.hist_safety.specs.Kept.{Pair}
 use Rattle.hist_safety.proofs.Sessions.{count-at, not-new}
 use Rattle.hist_safety.proofs.Finality.{num-in}
-use Rattle.hist_safety.proofs.Basics.{both, self, session-self, no, or-left, or-split, or-true, name-is, name-not, name-true, some-is, if-cases, if-new, if-old}
+use Rattle.hist_safety.proofs.Basics.{self, session-self, no, or-split, name-is, name-not, name-true, some-is, if-cases, if-new, if-old}
 use Rattle.hist_safety.proofs.Orders.{in-out, in-serial, other, out-serial}
 
 -- what was ordered has an entry, of its name
@@ -41,7 +42,7 @@ order-name x e (a ∷ h) q = order-name x e h q
 -- and stands as the order with its number, in its session, at its gateway
 stands-new : (f x : List ℕ) (t j : ℕ) (d : SadEntry) (h : List Act) (b : Bool) → b ≡ true →
     order_at (if b then f else site x h) (if b then t else session_of x h) (if b then j else place_of x h) (acts.Order f t j (asks.Put d) ∷ h) ≡ Some (asks.Put d)
-stands-new f x t j d h true q = if-new (is_session f t f t && (j == j)) (Some (asks.Put d)) (order_at f t j h) (both (is_session f t f t) (j == j) (session-self f t) (self j))
+stands-new f x t j d h true q = if-new (is_session f t f t && (j == j)) (Some (asks.Put d)) (order_at f t j h) (and_from (is_session f t f t) (j == j) (session-self f t) (self j))
 stands-new f x t j d h false q = absurd (no q)
 
 stands-old : (f x : List ℕ) (t j : ℕ) (d e : SadEntry) (h : List Act) (b : Bool) → b ≡ false → (is_session f t (site x h) (session_of x h) && (j == place_of x h)) ≡ false → order_at (site x h) (session_of x h) (place_of x h) h ≡ Some (asks.Put e) →
@@ -114,7 +115,7 @@ pair-put gs f s k t d h (inr p) q =
     pair-new f s k t d h p (out-serial p.serial t (sym p.name ∙ e)) q (name-not d.name (in_half t) (λ r. in-out t t (sym r ∙ e)))
 
 pair-made : (t : List ℕ) (b : Bool) (h : List Act) → is_put_accepted (in_half t) h ≡ true → (b || is_put_accepted (in_half t) h) ≡ true
-pair-made t b h e = or-true b (is_put_accepted (in_half t) h) e
+pair-made t b h e = or_right b (is_put_accepted (in_half t) h) e
 
 -- the outbound half is ordered only after the inbound one, of the same association
 pub pair : (gs : List Peer) (t : List ℕ) (h : List Act) → IsLawful gs h → was_order_given (out_half t) h ≡ true → Pair t h
@@ -179,8 +180,8 @@ one-spi t u d e p q r =
 
 -- ---- keys: no two associations have one AES part
 key-in : (b c : Bool) (d e : SadEntry) (part : List ℕ) (o : Option SadEntry) → (o ≡ Some e → c ≡ true) → (d ≡ e → bytes_eq (aes_part d.key) part ≡ true) → (if b then Some d else o) ≡ Some e → (bytes_eq (aes_part d.key) part || c) ≡ true
-key-in true c d e part o ih f q = or-left (bytes_eq (aes_part d.key) part) c (f (some-is d e q))
-key-in false c d e part o ih f q = or-true (bytes_eq (aes_part d.key) part) c (ih q)
+key-in true c d e part o ih f q = or_left (bytes_eq (aes_part d.key) part) c (f (some-is d e q))
+key-in false c d e part o ih f q = or_right (bytes_eq (aes_part d.key) part) c (ih q)
 
 pub key-used : (x : List ℕ) (e : SadEntry) (h : List Act) → order_of x h ≡ Some e → is_key_used (aes_part e.key) h ≡ true
 key-used x e [] q = absurd (grind arith)

@@ -1,5 +1,6 @@
 -- Once a removal of a half is handled, it isn't live and can't be put.
 use Rattle.std.proofs.Common.{◌≡◌, ℕ, ◌+◌, ◌≤◌, ◌<◌, Bool, true, false, ◌==◌, not, ◌&&◌, ◌||◌, List, [], ◌∷◌, Option, Some, None, ◌⊎◌, inl, inr, refl, sym, ◌∙◌, ap, subst, arith, if◌then◌else◌}
+use Rattle.std.proofs.lemmas.Bool.{or_right, or_left, and_right}
 use Rattle.std.specs.Str.{bytes_eq}
 use Rattle.ikeless_tree.specs.declared.sad.SadEntry.{SadEntry}
 use Rattle.ikeless_tree.specs.declared.command.Peer.{Peer}
@@ -14,7 +15,7 @@ use Rattle.hist_halves.specs.Halves.{is_half, is_live}
 use Rattle.hist_safety.specs.Orders.{is_removal_ordered, is_removal_answered, is_removal_handled, is_removal, place_of, session_of, site}
 use Rattle.hist_safety.specs.Law.{IsAnswer, IsLawful}
 use Rattle.hist_safety.specs.Kept.{Dead, Never}
-use Rattle.hist_safety.proofs.Basics.{no, or-split, or-true, or-left, and-false, name-is, name-self, name-true, half-is, half-true, spot-is, more, some-is, if-cases}
+use Rattle.hist_safety.proofs.Basics.{no, or-split, name-is, name-self, name-true, half-is, half-true, spot-is, more, some-is, if-cases}
 use Rattle.hist_safety.proofs.Sessions.{next-at, next-is, told-order}
 use Rattle.hist_safety.proofs.Orders.{order-old, other, place}
 use Rattle.hist_safety.proofs.Once.{too-far}
@@ -28,7 +29,7 @@ remove-is : (y x : List ℕ) → Some (asks.Remove y) ≡ Some (asks.Remove x) �
 remove-is y x p = grind arith
 
 asked-new : (f y x : List ℕ) (t j : ℕ) (h : List Act) → y ≡ x → f ≡ site y h → Later t j y h → Asked f t j x (acts.Order f t j (asks.Remove y) ∷ h)
-asked-new f y x t j h p q b = (or-left (bytes_eq y x) (is_removal_ordered x h) (name-true y x p), q ∙ ap (λ (z : List ℕ). site z h) p, subst (λ z. Later t j z h) p b)
+asked-new f y x t j h p q b = (or_left (bytes_eq y x) (is_removal_ordered x h) (name-true y x p), q ∙ ap (λ (z : List ℕ). site z h) p, subst (λ z. Later t j z h) p b)
 
 asked-remove : (g f x y : List ℕ) (s k t j : ℕ) (h : List Act) → f ≡ site y h → Later t j y h → (order_at g s k h ≡ Some (asks.Remove x) → Asked g s k x h) →
     (here : Bool) → (here ≡ true → (f ≡ g) × (t ≡ s) × (j ≡ k)) → (if here then Some (asks.Remove y) else order_at g s k h) ≡ Some (asks.Remove x) → Asked g s k x (acts.Order f t j (asks.Remove y) ∷ h)
@@ -36,7 +37,7 @@ asked-remove g f x y s k t j h q b i true three e =
     let r = three refl in
     let one = asked-new f y x t j h (remove-is y x e) q b in
     (one.0, sym r.0 ∙ one.1, subst (λ z. Later z k x h) r.1 (subst (λ z. Later t z x h) r.2 one.2))
-asked-remove g f x y s k t j h q b i false three e = let r = i e in (or-true (bytes_eq y x) (is_removal_ordered x h) r.0, r.1, r.2)
+asked-remove g f x y s k t j h q b i false three e = let r = i e in (or_right (bytes_eq y x) (is_removal_ordered x h) r.0, r.1, r.2)
 
 asked-put : (g f x : List ℕ) (s k t j : ℕ) (d : SadEntry) (h : List Act) → bytes_eq d.name x ≡ false → Asked g s k x h → Asked g s k x (acts.Order f t j (asks.Put d) ∷ h)
 asked-put g f x s k t j d h q i =
@@ -109,19 +110,19 @@ off-dead gs x (acts.Handled f t j a ∷ h) l e =
 off-dead gs x (acts.Put f d ∷ h) l e =
     let i = off-dead gs x h l.1 e in
     (i.0, i.1, put-dead (is_half f d.name (site x h) x) (is_live (site x h) x h) (λ q. never-put gs f x d h l.1 l.0.1 (half-is f d.name (site x h) x q).1 i.1) i.2)
-off-dead gs x (acts.Gone f y w ∷ h) l e = let i = off-dead gs x h l.1 e in (i.0, i.1, and-false (not (is_half f y (site x h) x)) (is_live (site x h) x h) i.2)
+off-dead gs x (acts.Gone f y w ∷ h) l e = let i = off-dead gs x h l.1 e in (i.0, i.1, and_right (not (is_half f y (site x h) x)) (is_live (site x h) x h) i.2)
 off-dead gs x (acts.Boot f ∷ h) l e =
     let i = off-dead gs x h l.1 e in
     let s = sess-in gs x h l.1 (doomed-ordered gs x h l.1 i.0) in (
       i.0,
       never-boot (bytes_eq f (site x h)) (session_taken (site x h) h) (session_of x h) (place_of x h) (handled (site x h) (session_of x h) h) s.0 i.1,
-      and-false (not (bytes_eq f (site x h))) (is_live (site x h) x h) i.2,
+      and_right (not (bytes_eq f (site x h))) (is_live (site x h) x h) i.2,
     )
 off-dead gs x (acts.Opened f t ∷ h) l e =
     let i = off-dead gs x h l.1 e in
     let s = sess-in gs x h l.1 (doomed-ordered gs x h l.1 i.0) in
     (i.0, never-opened (bytes_eq f (site x h)) t (session_taken (site x h) h) (session_of x h) (place_of x h) (openings (site x h) h) (handled (site x h) (session_of x h) h) (opened-at f (site x h) t h l.0.1) s.1 i.1, i.2)
-off-dead gs x (acts.Order f t j (asks.Remove y) ∷ h) l e = let i = off-dead gs x h l.1 e in (or-true (bytes_eq y x) (is_removal_ordered x h) i.0, i.1, i.2)
+off-dead gs x (acts.Order f t j (asks.Remove y) ∷ h) l e = let i = off-dead gs x h l.1 e in (or_right (bytes_eq y x) (is_removal_ordered x h) i.0, i.1, i.2)
 off-dead gs x (acts.Order f t j (asks.Put d) ∷ h) l e =
     let i = off-dead gs x h l.1 e in
     dead-put x f t j d h (other gs x f d h l.1 l.0.4 (doomed-ordered gs x h l.1 i.0)) i
@@ -130,7 +131,7 @@ off-dead gs x (a ∷ h) l e = off-dead gs x h l.1 e
 told-new : (g f x : List ℕ) (s k t j : ℕ) (h : List Act) → order_at g s k h ≡ Some (asks.Remove x) → (f ≡ g) × (t ≡ s) × (j ≡ k) → (is_removal x (order_at f t j h) || is_removal_handled x h) ≡ true
 told-new g f x s k t j h e p =
     let q : order_at f t j h ≡ Some (asks.Remove x) = rw (p.0, p.1, p.2) e in
-    or-left (is_removal x (order_at f t j h)) (is_removal_handled x h) (ap (is_removal x) q ∙ name-self x)
+    or_left (is_removal x (order_at f t j h)) (is_removal_handled x h) (ap (is_removal x) q ∙ name-self x)
 
 -- a removal that is told was handled
 pub told-off : (gs : List Peer) (g : List ℕ) (s k : ℕ) (x : List ℕ) (r : Answer) (h : List Act) → IsLawful gs h → answer_at g s k h ≡ Some r → order_at g s k h ≡ Some (asks.Remove x) → is_removal_handled x h ≡ true
@@ -138,7 +139,7 @@ told-off gs g s k x r [] l e f = absurd (grind arith)
 told-off gs g s k x r (acts.Handled f t j q ∷ h) l e w =
     elim (if-cases (is_session f t g s && (j == k)) q r (answer_at g s k h) e) as (λ z. (is_removal x (order_at f t j h) || is_removal_handled x h) ≡ true) [
       | inl p ↦ told-new g f x s k t j h w (spot-is f t j g s k p.0)
-      | inr p ↦ or-true (is_removal x (order_at f t j h)) (is_removal_handled x h) (told-off gs g s k x r h l.1 p w)
+      | inr p ↦ or_right (is_removal x (order_at f t j h)) (is_removal_handled x h) (told-off gs g s k x r h l.1 p w)
     ]
 told-off gs g s k x r (acts.Order f t j a ∷ h) l e w = told-off gs g s k x r h l.1 e (told-order gs g s k f t j a (asks.Remove x) r h l.1 l.0.3 e w)
 told-off gs g s k x r (a ∷ h) l e w = told-off gs g s k x r h l.1 e w
@@ -147,5 +148,5 @@ pub left-off : (gs : List Peer) (x : List ℕ) (h : List Act) → IsLawful gs h 
 left-off gs x [] l e = absurd (no e)
 left-off gs x (acts.Answered f t j r ∷ h) l e =
     or-split {A = is_removal_handled x h ≡ true} (is_removal x (order_at f t j h)) (is_removal_answered x h) (λ q. told-off gs f t j x r h l.1 l.0.4 (removal-is x (order_at f t j h) q)) (left-off gs x h l.1) e
-left-off gs x (acts.Handled f t j r ∷ h) l e = or-true (is_removal x (order_at f t j h)) (is_removal_handled x h) (left-off gs x h l.1 e)
+left-off gs x (acts.Handled f t j r ∷ h) l e = or_right (is_removal x (order_at f t j h)) (is_removal_handled x h) (left-off gs x h l.1 e)
 left-off gs x (a ∷ h) l e = left-off gs x h l.1 e

@@ -2,11 +2,12 @@
 use Rattle.std.proofs.Common.{◌≡◌, ℕ, true, false, List, [], ◌∷◌, ◌⊎◌, sym, ◌∙◌, ap, subst}
 use Rattle.ikeless_tree.specs.declared.sad.SadEntry.{SadEntry}
 use Rattle.ikeless_tree.specs.declared.command.Peer.{Peer}
+use Rattle.ikeless_tree.specs.Half.{is_inbound, other_half, in_half, out_half}
 use Rattle.hist_acts.specs.declared.act.Act.{Act}
 use Rattle.hist_acts.specs.declared.act.Act.TheVariants as acts
-use Rattle.hist_halves.specs.Sealed.{esp_of, is_inbound, number_of, other_half}
+use Rattle.hist_halves.specs.Sealed.{esp_of, number_of}
 use Rattle.hist_halves.specs.Halves.{is_lapsed, is_live, is_sealed, numbers_taken, was_put}
-use Rattle.hist_safety.specs.Orders.{in_half, out_half, site}
+use Rattle.hist_safety.specs.Orders.{site}
 use Rattle.hist_safety.specs.Carried.{IsGenuine, Sends}
 use Rattle.hist_safety.specs.Law.{IsLawful, IsWhole, MayHappen, SendMayHappen}
 use Rattle.hist_safety.specs.Safe.{IsArrivalSafe, IsClearSafe, IsGaveSafe, IsKeySafe, IsLastSafe, IsSentSafe, MustGive, Safe}

@@ -3,6 +3,7 @@
 -- removal again in the next session, a restart of the receiver, and a packet that is lost by it. All is by computing but for
 -- the sealed octets themselves: of those only the laws of ESP are used.
 use Rattle.std.proofs.Common.{◌≡◌, ℕ, ◌&&◌, ◌+◌, ◌<◌, ◌≤◌, ◌^◌, true, false, List, [], ◌∷◌, ◌++◌, codes, decimal, drop, length, Some, None, Ok, inl, inr, refl, sym, ◌∙◌, ap, subst, arith, Bool, Result}
+use Rattle.std.proofs.lemmas.Bool.{or_left, and_from}
 use Rattle.ikl_base.specs.declared.address.Addr.TheVariants.{V4, V6}
 use Rattle.ikl_base.specs.declared.address.Prefix.{Prefix}
 use Rattle.ip_packet.specs.declared.outer.Outer.{Outer}
@@ -23,6 +24,7 @@ use Rattle.ikeless_tree.specs.declared.order.Order.TheVariants as asks
 use Rattle.ikeless_tree.specs.declared.order.Notice.TheVariants as notices
 use Rattle.ikeless_tree.specs.declared.reply.DropWhy.TheVariants as why
 use Rattle.ikeless_tree.specs.declared.reply.GoneWhy.TheVariants as gone
+use Rattle.ikeless_tree.specs.Half.{other_half, in_half}
 use Rattle.spd_match.specs.Match.{first_entry, holds_packet}
 use Rattle.esp_frame.specs.Esp.{esp, iv_of, pad_len, padded, seq_of, spi_of}
 use Rattle.esp_frame.proofs.Opens.{length-esp}
@@ -31,10 +33,10 @@ use Rattle.replay_win.specs.declared.verdict.Verdict.{Verdict}
 use Rattle.replay_win.specs.declared.verdict.Verdict.TheVariants.{Fresh, Seen}
 use Rattle.hist_acts.specs.declared.act.Act.{Act}
 use Rattle.hist_acts.specs.declared.act.Act.TheVariants as acts
-use Rattle.hist_halves.specs.Sealed.{by_spi, esp_of, number_of, other_half, payload_of}
+use Rattle.hist_halves.specs.Sealed.{by_spi, esp_of, number_from, number_of, payload_of}
 use Rattle.hist_halves.specs.Halves.{is_lapsed, is_live, is_sealed, live, numbers_taken, put_of}
 use Rattle.hist_clear.specs.Safe.{ClearIsLet}
-use Rattle.hist_safety.specs.Orders.{in_half, mirrored}
+use Rattle.hist_safety.specs.Orders.{mirrored}
 use Rattle.hist_safety.specs.Carried.{Delivers, IsGenuine, IsUndelivered, Sends, aes_in, keying_of, was_sealed}
 use Rattle.hist_safety.specs.Law.{IsLawful, IsWhole}
 use Rattle.hist_safety.specs.Safe.{IsLastSafe, MustGive, Safe}
@@ -42,8 +44,8 @@ use Rattle.std.specs.Fmt.{digits}
 use Rattle.std.specs.Str.{bytes_eq}
 use Rattle.hist_acts.specs.Past.{force}
 use Rattle.esp_frame.specs.Esp.{keying}
-use Rattle.hist_safety.proofs.Basics.{both, name-self, no, or-left, some-is}
-use Rattle.hist_safety.proofs.Frames.{esp-seq, esp-spi, seals-open}
+use Rattle.hist_safety.proofs.Basics.{name-self, no, some-is}
+use Rattle.hist_safety.proofs.Frames.{esp-seq, esp-spi, seals-open, number-field}
 
 few1 : 1 ≤ 1048576
 few1 = omega arith
@@ -201,6 +203,9 @@ datagram_esp e = ap payload_of (datagram_view e)
 datagram_seq : (e : SadEntry) → seq_of (esp_of (datagram e)) ≡ 1
 datagram_seq e = ap (λ (z : List ℕ). seq_of z) (datagram_esp e) ∙ esp-seq (keying_of e) 1 41 p (omega arith)
 
+datagram_number : (half e : SadEntry) (top : ℕ) → number_from half top (esp_of (datagram e)) ≡ 1
+datagram_number half e top = number-field half top (esp_of (datagram e)) ∙ datagram_seq e
+
 datagram_spi : (e : SadEntry) → e.spi < 2 ^ 32 → spi_of (esp_of (datagram e)) ≡ e.spi
 unfolding keying
 datagram_spi e lt = ap (λ (z : List ℕ). spi_of z) (datagram_esp e) ∙ esp-spi (keying_of e) 1 41 p lt
@@ -231,7 +236,7 @@ undelivered-by g o half v h found e n = λ x m r d.
     n (sym e ∙ subst (λ z. verdict_over z.window (numbers_taken g z.name h) (number_of z (numbers_taken g z.name h) (esp_of o)) ≡ Fresh) same d.comes.fresh)
 
 sealed-head : (x o : List ℕ) (f : List ℕ) (n : ℕ) (h : List Act) → is_sealed x (esp_of o) (acts.Sent f x n o ∷ h) ≡ true
-sealed-head x o f n h = or-left (bytes_eq x x && bytes_eq (esp_of o) (esp_of o)) (is_sealed x (esp_of o) h) (both (bytes_eq x x) (bytes_eq (esp_of o) (esp_of o)) (name-self x) (name-self (esp_of o)))
+sealed-head x o f n h = or_left (bytes_eq x x && bytes_eq (esp_of o) (esp_of o)) (is_sealed x (esp_of o) h) (and_from (bytes_eq x x) (bytes_eq (esp_of o) (esp_of o)) (name-self x) (name-self (esp_of o)))
 
 bypass : (older : List Act) → force (codes "a") older ≡ list → ClearIsLet (acts.Let (codes "a") q ∷ older) (codes "a") q
 bypass older e = record {
@@ -299,9 +304,9 @@ genuine1 = genuine-by (codes "b") datagram1 in1 arrived_past found1 (sealed-head
 delivers1 : Delivers gateways (codes "b") datagram1 (codes "in/1") 1 p arrived_past
 delivers1 = record {
   half = in1;
-  comes = record { packet = outer_view outer (sealed_in out1); view = datagram_view out1; proto = refl; own = refl; found = found1; fresh = ap (verdict_over 64 []) (datagram_seq out1) };
+  comes = record { packet = outer_view outer (sealed_in out1); view = datagram_view out1; proto = refl; own = refl; found = found1; fresh = ap (verdict_over 64 []) (datagram_number in1 out1 0) };
   name = refl;
-  number = sym (datagram_seq out1);
+  number = sym (datagram_number in1 out1 0);
   text = padded (pad_len (length p)) 41 p;
   opens = seals-open (keying_of in1) 1 41 p (esp_of datagram1) (datagram_esp out1);
   inner = (pad_len (length p), refl);
@@ -320,7 +325,7 @@ genuine_again : IsGenuine gateways (codes "b") datagram1 again_past
 genuine_again = genuine-by (codes "b") datagram1 in1 again_past found_again (sealed-head (codes "out/1") datagram1 (codes "a") 1 (acts.Let (codes "a") p ∷ sent_past))
 
 undelivered_again : IsUndelivered gateways (codes "b") datagram1 again_past
-undelivered_again = undelivered-by (codes "b") datagram1 in1 Seen again_past found_again (ap (verdict_over 64 (1 ∷ [])) (datagram_seq out1)) seen-fresh
+undelivered_again = undelivered-by (codes "b") datagram1 in1 Seen again_past found_again (ap (verdict_over 64 (1 ∷ [])) (datagram_number in1 out1 1)) seen-fresh
 
 abbrev h6 : List Act
 h6 =
@@ -407,7 +412,7 @@ must1 = record {
   number = 1;
   unchanged = let e = name-self (esp_of datagram1) in rw e refl;
   put = refl;
-  fresh = ap (verdict_over 64 []) (datagram_seq out1);
+  fresh = ap (verdict_over 64 []) (datagram_number in1 out1 0);
   stays = refl;
   whole = refl;
 }

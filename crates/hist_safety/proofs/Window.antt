@@ -1,7 +1,9 @@
 -- What arrives is given once, and what must be given is given.
 use Rattle.std.proofs.Common.{◌≡◌, ℕ, ◌<◌, ◌^◌, Bool, true, false, ◌==◌, ◌&&◌, List, [], ◌∷◌, Option, Some, None, inl, inr, refl, sym, ◌∙◌, ap, subst, arith, if◌then◌else◌, length}
+use Rattle.std.proofs.lemmas.Bool.{false_from_ne_true}
 use Rattle.std.specs.Str.{bytes_eq}
 use Rattle.ip_packet.specs.View.{Packet}
+use Rattle.ip_packet.specs.Field.{next_header}
 use Rattle.ikeless_tree.specs.declared.sad.SadEntry.{SadEntry}
 use Rattle.ikeless_tree.specs.declared.command.Peer.{Peer}
 use Rattle.ikeless_tree.specs.declared.entry.Direction.TheVariants.{In, Out}
@@ -10,25 +12,26 @@ use Rattle.ikeless_tree.specs.declared.order.Order.{Order}
 use Rattle.ikeless_tree.specs.declared.order.Order.TheVariants as asks
 use Rattle.ikeless_tree.specs.declared.order.Answer.{Answer}
 use Rattle.ikeless_tree.specs.declared.reply.GoneWhy.TheVariants as gone
+use Rattle.ikeless_tree.specs.Half.{is_inbound, other_half, in_half, out_half}
 use Rattle.spd_match.specs.Match.{holds_packet, lies_in, local_port, port_fits, proto_fits, remote_port}
 use Rattle.esp_frame.specs.Esp.{EspOpens, Inner, esp, pad_len, padded, seq_of, spi_of}
 use Rattle.esp_frame.proofs.Opens.{inner_once, opens_once}
-use Rattle.replay_win.specs.Marks.{is_among, verdict_over}
+use Rattle.replay_win.specs.Marks.{greatest, is_among, verdict_over}
 use Rattle.replay_win.specs.declared.verdict.Verdict.TheVariants.{Fresh, Old, Seen, Zero}
 use Rattle.hist_acts.specs.declared.act.Act.{Act}
 use Rattle.hist_acts.specs.declared.act.Act.TheVariants as acts
-use Rattle.hist_halves.specs.Sealed.{by_spi, esp_of, is_inbound, number_of, other_half, next_header}
+use Rattle.hist_halves.specs.Sealed.{by_spi, esp_of, number_of}
 use Rattle.hist_halves.specs.Halves.{is_lapsed, is_live, is_sealed, live, put_of, numbers_taken}
 use Rattle.hist_clear.specs.Safe.{ClearIsLet}
-use Rattle.hist_safety.specs.Orders.{in_half, is_removal_ordered, mirrored, order_of, out_half, site}
+use Rattle.hist_safety.specs.Orders.{is_removal_ordered, mirrored, order_of, site}
 use Rattle.hist_safety.specs.Carried.{ComesTo, Delivers, IsGenuine, keying_of, was_given, was_sent}
 use Rattle.hist_safety.specs.Law.{IsAnswer, IsLawful, GiveMayHappen, MayHappen}
 use Rattle.hist_safety.specs.Safe.{GaveWasSent, MustGive}
-use Rattle.hist_safety.proofs.Basics.{no, name-not, name-true, not-true, some-is}
+use Rattle.hist_safety.proofs.Basics.{no, name-not, name-true, some-is}
 use Rattle.hist_safety.proofs.Orders.{put-order, put-was, was}
 use Rattle.hist_safety.proofs.Pairs.{Numbered, inbound, numbered, order-ordered, pair}
 use Rattle.hist_safety.proofs.Halves.{Stands, stays}
-use Rattle.hist_safety.proofs.Frames.{esp-seq, esp-spi, keying-same, keying-spi, one-packet, seals-open}
+use Rattle.hist_safety.proofs.Frames.{esp-seq, esp-spi, keying-same, keying-spi, one-packet, seals-open, number-field}
 use Rattle.hist_safety.proofs.Live.{spi-finds, spi-is}
 use Rattle.hist_safety.proofs.Carried.{carried, given, sealed-sent}
 
@@ -77,7 +80,7 @@ gave-by gs g o x n p h l genuine d t e order here =
     let i : order_of (in_half t) h ≡ Some d.half = subst (λ y. order_of y h ≡ Some d.half) e order in
     let w = paired gs t c.0 d.half h l c.2 i in
     let sealed : esp_of o ≡ esp (keying_of d.half) s.1 (next_header s.2) s.2 = c.6 ∙ ap (λ k. esp k s.1 (next_header s.2) s.2) w.0 in
-    let number : n ≡ s.1 = d.number ∙ ap (λ (y : List ℕ). seq_of y) sealed ∙ esp-seq (keying_of d.half) s.1 (next_header s.2) s.2 c.5 in
+    let number : n ≡ s.1 = d.number ∙ number-field d.half (greatest (numbers_taken g x h)) (esp_of o) ∙ ap (λ (y : List ℕ). seq_of y) sealed ∙ esp-seq (keying_of d.half) s.1 (next_header s.2) s.2 c.5 in
     let packet : p ≡ s.2 = one-packet (keying_of d.half) s.1 (next_header s.2) (next_header p) s.2 p (esp_of o) d.text sealed d.opens d.inner in
     let site_in : site (in_half t) h ≡ g = subst (λ y. site y h ≡ g) e here in
     let apart : bytes_eq (site (out_half t) h) g ≡ false = name-not (site (out_half t) h) g (λ r. no (sym w.3 ∙ name-true (site (in_half t) h) (site (out_half t) h) (site_in ∙ sym r))) in
@@ -86,7 +89,7 @@ gave-by gs g o x n p h l genuine d t e order here =
 
 not-given : (gs : List Peer) (g x : List ℕ) (n size : ℕ) (h : List Act) → IsLawful gs h → site x h ≡ g → verdict_over size (numbers_taken g x h) n ≡ Fresh → was_given x n h ≡ false
 not-given gs g x n size h l here f =
-    not-true (was_given x n h) (λ e.
+    false_from_ne_true (was_given x n h) (λ e.
     let i = given gs x n h l e in
     let s : i.0 ≡ g = sym (was gs i.0 x h l i.1).1 ∙ here in
     let a : is_among n (numbers_taken g x h) ≡ true = subst (λ z. is_among n (numbers_taken z x h) ≡ true) s i.2 in

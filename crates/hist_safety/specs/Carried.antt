@@ -4,18 +4,19 @@ use Rattle.std.specs.Prelude.{◌≡◌, ℕ, ◌+◌, ◌^◌, ◌<◌, ◌==�
 use Rattle.std.specs.Str.{bytes_eq}
 use Rattle.ikl_base.specs.declared.address.Addr.{Addr}
 use Rattle.ip_packet.specs.View.{Packet, view_of}
+use Rattle.ip_packet.specs.Field.{next_header}
 use Rattle.ikeless_tree.specs.declared.sad.SadEntry.{SadEntry}
 use Rattle.ikeless_tree.specs.declared.command.Peer.{Peer}
 use Rattle.ikeless_tree.specs.declared.entry.Direction.TheVariants.{In, Out}
+use Rattle.ikeless_tree.specs.Half.{is_inbound, other_half, aes_part}
 use Rattle.spd_match.specs.Match.{holds_packet}
 use Rattle.esp_frame.specs.Esp.{EspOpens, Inner, Keying, esp, iv_of, keying, spi_of}
 use Rattle.replay_win.specs.Marks.{verdict_over}
 use Rattle.replay_win.specs.declared.verdict.Verdict.TheVariants.{Fresh}
 use Rattle.hist_acts.specs.declared.act.Act.{Act}
 use Rattle.hist_acts.specs.declared.act.Act.TheVariants as acts
-use Rattle.hist_halves.specs.Sealed.{by_spi, esp_of, is_inbound, number_of, other_half, next_header}
+use Rattle.hist_halves.specs.Sealed.{by_spi, esp_of, number_of}
 use Rattle.hist_halves.specs.Halves.{is_half, is_live, is_sealed, live, put_of, sent, numbers_taken}
-use Rattle.hist_safety.specs.Orders.{aes_part}
 
 -- how the octets of a half are sealed
 abbrev pub keying_of : SadEntry → Keying

@@ -3,9 +3,10 @@
 -- removal comes only where it is. One of the reasons to be ended, that its tunnel was, isn't seen in what happened.
 use Rattle.std.specs.Prelude.{◌≡◌, ℕ, Bool, true, List, [], ◌∷◌}
 use Rattle.ikeless_tree.specs.declared.order.Order.TheVariants as asks
+use Rattle.ikeless_tree.specs.Half.{in_half}
 use Rattle.hist_acts.specs.declared.act.Act.{Act}
 use Rattle.hist_acts.specs.declared.act.Act.TheVariants as acts
-use Rattle.hist_safety.specs.Orders.{in_half, is_removal_ordered}
+use Rattle.hist_safety.specs.Orders.{is_removal_ordered}
 
 -- what is ended stays so
 abbrev pub NeverEnds : (List ℕ → List Act → Bool) → Type 0

@@ -2,18 +2,19 @@
 use Rattle.std.specs.Prelude.{◌≡◌, ℕ, ◌^◌, ◌≤◌, ◌<◌, true, false, List, [], ◌∷◌, Some, Ok, ◌⊎◌}
 use Rattle.std.specs.Int.{w64, to_be_bytes}
 use Rattle.std.specs.Str.{bytes_eq}
-use Rattle.ip_packet.specs.Outer.{AreOneFamily}
+use Rattle.ikl_base.specs.Address.{AreOneFamily}
 use Rattle.ip_packet.specs.View.{Packet, view_of}
 use Rattle.ikeless_tree.specs.declared.sad.SadEntry.{SadEntry}
 use Rattle.ikeless_tree.specs.declared.entry.Direction.TheVariants.{Out}
 use Rattle.ikeless_tree.specs.declared.order.Order.TheVariants as asks
+use Rattle.ikeless_tree.specs.Half.{is_inbound, other_half, aes_part, in_half, out_half}
 use Rattle.spd_match.specs.Match.{holds_packet}
 use Rattle.replay_win.specs.Marks.{is_among}
 use Rattle.hist_acts.specs.declared.act.Act.{Act}
 use Rattle.hist_acts.specs.Sessions.{answered, handled, is_open, openings, order_at, orders, session_taken, was_cut}
 use Rattle.hist_halves.specs.Halves as halves
-use Rattle.hist_halves.specs.Sealed.{by_spi, is_inbound, other_half}
-use Rattle.hist_safety.specs.Orders.{aes_part, in_half, is_removal_ordered, is_removal_answered, is_put_accepted, is_removal_handled, mirrored, order_of, was_order_given, out_half, place_of, session_of, site}
+use Rattle.hist_halves.specs.Sealed.{by_spi}
+use Rattle.hist_safety.specs.Orders.{is_removal_ordered, is_removal_answered, is_put_accepted, is_removal_handled, mirrored, order_of, was_order_given, place_of, session_of, site}
 use Rattle.hist_safety.specs.Carried.{HalfSeals, was_given, was_sealed, was_sent}
 
 -- the put of the half is handled, or passed over

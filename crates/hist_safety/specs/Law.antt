@@ -2,7 +2,7 @@
 -- of gateways, sessions and the controller give. A past has its newest act first.
 use Rattle.std.specs.Prelude.{◌≡◌, ℕ, ◌+◌, ◌≤◌, true, false, Bool, List, [], ◌∷◌, decimal, ◌⊎◌, Some}
 use Rattle.std.specs.Str.{bytes_eq}
-use Rattle.ip_packet.specs.Outer.{AreOneFamily}
+use Rattle.ikl_base.specs.Address.{AreOneFamily}
 use Rattle.ikeless_tree.specs.declared.sad.SadEntry.{SadEntry}
 use Rattle.ikeless_tree.specs.declared.command.Peer.{Peer}
 use Rattle.ikeless_tree.specs.declared.order.Order.{Order}
@@ -10,13 +10,14 @@ use Rattle.ikeless_tree.specs.declared.order.Order.TheVariants as asks
 use Rattle.ikeless_tree.specs.declared.order.Answer.{Answer}
 use Rattle.ikeless_tree.specs.declared.reply.DropWhy.{DropWhy}
 use Rattle.ikeless_tree.specs.declared.reply.GoneWhy.TheVariants as gone
+use Rattle.ikeless_tree.specs.Half.{aes_part, in_half, out_half}
 use Rattle.hist_acts.specs.declared.act.Act.{Act}
 use Rattle.hist_acts.specs.declared.act.Act.TheVariants as acts
 use Rattle.hist_acts.specs.Sessions.{answer_at, answered, handled, is_open, next_request, openings, orders, session_taken}
 use Rattle.hist_halves.specs.Sealed.{is_opened}
 use Rattle.hist_halves.specs.Halves.{is_live}
 use Rattle.hist_clear.specs.Safe.{ClearIsLet}
-use Rattle.hist_safety.specs.Orders.{aes_part, in_half, inbounds, is_removal_ordered, is_key_used, is_removal_answered, is_put_accepted, mirrored, order_of, was_order_given, out_half, site}
+use Rattle.hist_safety.specs.Orders.{inbounds, is_removal_ordered, is_key_used, is_removal_answered, is_put_accepted, mirrored, order_of, was_order_given, site}
 use Rattle.hist_safety.specs.Carried.{Delivers, IsGenuine, IsOpened, IsUndelivered, Sends}
 
 -- ---- orders

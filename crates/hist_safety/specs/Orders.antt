@@ -1,23 +1,15 @@
--- The two halves of an association, and the orders for each, of this project. An association has a serial number, written
--- in decimal at the end of both names. Each word looks back over what happened; a past has its newest act first. In each
+-- The orders for each half of an association, of this project. Each word looks back over what happened; a past has its newest act first. In each
 -- test the name in the act stands first and the name asked for second.
-use Rattle.std.specs.Prelude.{ℕ, ◌+◌, ◌-◌, nat_lt, ◌&&◌, ◌||◌, Bool, false, List, [], ◌∷◌, ◌++◌, codes, length, take, Option, Some, None, if◌then◌else◌}
+use Rattle.std.specs.Prelude.{ℕ, ◌+◌, nat_lt, ◌&&◌, ◌||◌, Bool, false, List, [], ◌∷◌, Option, Some, None, if◌then◌else◌}
 use Rattle.std.specs.Str.{bytes_eq}
 use Rattle.ikeless_tree.specs.declared.sad.SadEntry.{SadEntry}
 use Rattle.ikeless_tree.specs.declared.entry.Selector.{Selector}
 use Rattle.ikeless_tree.specs.declared.order.Order.{Order}
 use Rattle.ikeless_tree.specs.declared.order.Order.TheVariants as asks
+use Rattle.ikeless_tree.specs.Half.{is_inbound, aes_part}
 use Rattle.hist_acts.specs.declared.act.Act.{Act}
 use Rattle.hist_acts.specs.declared.act.Act.TheVariants as acts
 use Rattle.hist_acts.specs.Sessions.{order_at}
-use Rattle.hist_halves.specs.Sealed.{is_inbound}
-
--- the halves of the association whose serial number is written so
-abbrev pub in_half : List ℕ → List ℕ
-in_half serial = codes "in/" ++ serial
-
-abbrev pub out_half : List ℕ → List ℕ
-out_half serial = codes "out/" ++ serial
 
 -- the selector as the other end has it
 abbrev pub mirrored : Selector → Selector
@@ -28,10 +20,6 @@ mirrored s = record {
   local_ports = s.remote_ports;
   remote_ports = s.local_ports;
 }
-
--- the AES part of a key: all but the salt of 4 octets at its end (RFC 4106 section 8.1)
-abbrev pub aes_part : List ℕ → List ℕ
-aes_part key = take (length key - 4) key
 
 -- a put of the half was ordered
 abbrev pub was_order_given : List ℕ → List Act → Bool

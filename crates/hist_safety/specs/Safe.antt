@@ -7,12 +7,13 @@ use Rattle.ikeless_tree.specs.declared.command.Peer.{Peer}
 use Rattle.esp_frame.specs.Esp.{iv_of}
 use Rattle.replay_win.specs.Marks.{verdict_over}
 use Rattle.replay_win.specs.declared.verdict.Verdict.TheVariants.{Fresh}
+use Rattle.ikeless_tree.specs.Half.{is_inbound, other_half, in_half, out_half}
 use Rattle.hist_acts.specs.declared.act.Act.{Act}
 use Rattle.hist_acts.specs.declared.act.Act.TheVariants as acts
-use Rattle.hist_halves.specs.Sealed.{esp_of, is_inbound, number_of, other_half}
+use Rattle.hist_halves.specs.Sealed.{esp_of, number_of}
 use Rattle.hist_halves.specs.Halves.{is_lapsed, is_live, put_of, numbers_taken, was_put}
 use Rattle.hist_clear.specs.Safe.{ClearIsLet}
-use Rattle.hist_safety.specs.Orders.{in_half, is_removal_ordered, out_half, site}
+use Rattle.hist_safety.specs.Orders.{is_removal_ordered, site}
 use Rattle.hist_safety.specs.Carried.{address_of, aes_in, was_given, was_sealed, was_sent}
 
 -- each packet that leaves in clear is that of the Let just before, and a bypass entry in force holds it first

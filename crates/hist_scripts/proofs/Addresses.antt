@@ -2,7 +2,7 @@
 use Rattle.std.proofs.Common.{◌≡◌, ℕ, ◌+◌, ◌-◌, ◌<◌, ◌==◌, Bool, true, false, not, nat_lt, List, [], ◌∷◌, ◌++◌, length, map, replicate, drop, take, Option, Some, None, option_and_then, Result, Ok, Err, cond, refl, sym, ◌∙◌, ap, subst, arith, if◌then◌else◌}
 use Rattle.std.proofs.lemmas.Grind.{common_steps}
 use Rattle.std.proofs.lemmas.Bool.{and_parts}
-use Rattle.std.proofs.lemmas.List.{length-replicate}
+use Rattle.std.proofs.lemmas.List.{length-replicate, length-map, length-append}
 use Rattle.std.specs.List.{list_all, list_any, slice_split}
 use Rattle.std.specs.Str.Parse.{digits_value}
 use Rattle.ikl_base.specs.declared.address.Addr.{Addr}
@@ -15,14 +15,6 @@ use Rattle.yang_values.specs.Addresses.{is_dot, is_quad, fits_octet, quad_of, oc
 abbrev pub IsWhole : Addr → Type 0
 IsWhole (V4 octets) = length octets ≡ 4
 IsWhole (V6 octets) = length octets ≡ 16
-
-map-length : {A B : Type 0} (f : A → B) (xs : List A) → length (map f xs) ≡ length xs
-map-length f [] = refl
-map-length f (x ∷ xs) = let q = map-length f xs in grind (arith, q)
-
-append-length : {A : Type 0} (xs ys : List A) → length (xs ++ ys) ≡ length xs + length ys
-append-length [] ys = omega arith
-append-length (x ∷ xs) ys = grind (arith, append-length xs ys)
 
 octets-length : (groups : List ℕ) → length (octets_of groups) ≡ length groups + length groups
 octets-length [] = refl
@@ -38,7 +30,7 @@ quad-whole parts octets is = by-form (is_quad parts) refl is
         let e : map (digits_value 10) parts ≡ octets = cc in
         let n : (length parts == 4) ≡ true = (and_parts (length parts == 4) _ f).0 in
         let m : length parts ≡ 4 = grind arith in
-        sym (ap length e) ∙ (map-length (digits_value 10) parts ∙ m)
+        sym (ap length e) ∙ (length-map (digits_value 10) parts ∙ m)
 
     by-form : (b : Bool) → is_quad parts ≡ b → cond (not b) (Err Form) (cond (not (list_all fits_octet parts)) (Err Range) (Ok (map (digits_value 10) parts))) ≡ Ok octets → length octets ≡ 4
     by-form false f t = cc
@@ -55,8 +47,8 @@ eight-some (Some groups) out t = eight-is groups out (length groups == 8) refl t
 filled-is : (front back out : List ℕ) (b : Bool) → nat_lt (length front + length back) 8 ≡ b → (if b then Some (front ++ replicate (8 - (length front + length back)) 0 ++ back) else None) ≡ Some out → length out ≡ 8
 filled-is front back out true e t =
     let q : front ++ replicate (8 - (length front + length back)) 0 ++ back ≡ out = cc in
-    let a = append-length (front ++ replicate (8 - (length front + length back)) 0) back in
-    let b = append-length front (replicate (8 - (length front + length back)) 0) in
+    let a = length-append (front ++ replicate (8 - (length front + length back)) 0) back in
+    let b = length-append front (replicate (8 - (length front + length back)) 0) in
     let c = length-replicate {A = ℕ} (8 - (length front + length back)) 0 in
     let l : length front + length back < 8 = grind (arith, common_steps) in
     let m : length front + length (replicate (8 - (length front + length back)) 0) + length back ≡ 8 = omega (arith, c, l) in

@@ -4,18 +4,16 @@ use Rattle.std.specs.Prelude.{codes}
 use Rattle.std.specs.List.{AllByRecursion, list_all, slice_split}
 use Rattle.std.specs.Str.{bytes_eq}
 use Rattle.std.proofs.lemmas.Bool.{and_parts, and_from}
-use Rattle.ikl_base.specs.Address.{is_one_family}
+use Rattle.ikl_base.specs.Address.{is_one_family, AreOneFamily, is_same_address}
 use Rattle.ikl_base.specs.declared.address.Addr.{Addr}
 use Rattle.ikl_base.specs.declared.address.Addr.TheVariants.{V4, V6}
 use Rattle.ikl_base.specs.declared.status.LineFault.TheVariants as faults
 use Rattle.ikeless_tree.specs.Check.{is_gateway}
 use Rattle.ikeless_tree.specs.declared.command.Peer.{Peer}
-use Rattle.ip_packet.specs.Outer.{AreOneFamily}
 use Rattle.yang_values.specs.Addresses.{address_of}
 use Rattle.line_words.specs.Words.{or_fault, words, is_printable}
 use Rattle.line_words.proofs.TakenSteps.{after, passed, inside, each_has, number_most}
 use Rattle.event_lines.specs.Header.{is_equals, seq_last_of, gateway_in as peer_in, peer_of, peers_of, go_together, all_go_together, gateways_of, header_in, header_of}
-use Rattle.hist_acts.specs.Gateways.{is_same_address}
 use Rattle.hist_acts.specs.declared.event.Header.{Header}
 use Rattle.hist_controller.specs.Told.{are_names_apart, peer_address}
 use Rattle.hist_controller.proofs.PeerNames.{named}

@@ -1,10 +1,12 @@
 -- The answer of a gateway to a datagram from outside may happen in the world, where the datagram isn't forged.
 use Rattle.std.proofs.Common.{◌≡◌, ℕ, ◌≤◌, Bool, true, false, ◌==◌, not, ◌&&◌, ◌||◌, nat_lt, List, [], ◌∷◌, length, Option, Some, None, Result, Ok, Err, refl, sym, ◌∙◌, ap, subst, MatchOption, arith, if◌then◌else◌}
+use Rattle.std.proofs.lemmas.Bool.{and_from}
 use Rattle.ikl_base.specs.declared.address.Addr.{Addr}
 use Rattle.ikl_base.specs.declared.address.Addr.TheVariants.{V4, V6}
+use Rattle.ikl_base.specs.Address.{is_same_address}
 use Rattle.ip_packet.specs.declared.packet.NotPacket.{NotPacket}
 use Rattle.ip_packet.specs.declared.packet.NotPacket.TheVariants as faults
-use Rattle.ip_packet.specs.Field.{version}
+use Rattle.ip_packet.specs.Field.{version, next_header}
 use Rattle.ip_packet.specs.View.{Packet, is_short, view_of, view_of_4, view_of_6}
 use Rattle.ikeless_tree.specs.declared.sad.SadEntry.{SadEntry}
 use Rattle.ikeless_tree.specs.declared.command.Peer.{Peer}
@@ -21,12 +23,12 @@ use Rattle.esp_frame.proofs.Opens.{opened_finds, opened_is, packet_finds, packet
 use Rattle.replay_win.specs.declared.verdict.Verdict.{Verdict}
 use Rattle.replay_win.specs.declared.verdict.Verdict.TheVariants as verdicts
 use Rattle.replay_win.specs.Marks.{verdict_over}
+use Rattle.ikeless_tree.specs.Half.{other_half}
 use Rattle.spd_match.specs.Match.{first_entry, holds_packet}
 use Rattle.hist_acts.specs.declared.act.Act.{Act}
 use Rattle.hist_acts.specs.declared.act.Act.TheVariants as acts
-use Rattle.hist_acts.specs.Gateways.{is_same_address}
 use Rattle.hist_acts.specs.Past.{after, force}
-use Rattle.hist_halves.specs.Sealed.{by_spi, esp_of, is_opened, number_of, other_half, payload_of, next_header}
+use Rattle.hist_halves.specs.Sealed.{by_spi, esp_of, is_opened, number_of, payload_of}
 use Rattle.hist_halves.specs.Halves.{is_sealed, live, numbers_taken}
 use Rattle.hist_gateway.specs.Stands.{does_bad_spi_stand}
 use Rattle.hist_gateway.specs.Datagram.{fault_why}
@@ -38,7 +40,7 @@ use Rattle.hist_gateway.specs.May.{GatewayMayActAll, IsDelivery, IsOpenedArrival
 use Rattle.hist_gateway.proofs.DeliveryLemmas.{delivers-is}
 use Rattle.hist_safety.specs.Carried.{ComesTo, Delivers, IsGenuine, IsOpened, IsUndelivered, address_of, keying_of}
 use Rattle.hist_safety.specs.Law.{AllMayHappen, MayHappen, is_ready}
-use Rattle.hist_safety.proofs.Basics.{no, both, both-left, both-right, eq-nat, name-is, name-self}
+use Rattle.hist_safety.proofs.Basics.{no, both-left, both-right, eq-nat, name-is, name-self}
 use Rattle.hist_world.specs.Arrivals.{does_open, is_esp_forged, is_forged, is_fresh, is_half_forged, is_view_forged}
 use Rattle.hist_world.proofs.Followers.{follow, look-follows, unless-follows}
 use Rattle.hist_world.proofs.Lets.{Shaped, shaped, shaped-if}
@@ -122,7 +124,7 @@ pub genuine : (gs : List Peer) (g o : List ℕ) (own : Addr) (h : List Act) → 
 genuine gs g o own h at no-forgery = λ half text c opens.
     let b = esp-is o c.packet c.view in
     let same : own ≡ c.packet.dst = let s : Some own ≡ Some c.packet.dst = sym at ∙ c.own in grind (arith, s) in
-    let ours : is_sealed_for own c.packet ≡ true = both (c.packet.proto == 50) (is_same_address c.packet.dst own) (grind (arith, c.proto)) (subst (λ (z : Addr). is_same_address z own ≡ true) same (own-address own)) in
+    let ours : is_sealed_for own c.packet ≡ true = and_from (c.packet.proto == 50) (is_same_address c.packet.dst own) (grind (arith, c.proto)) (subst (λ (z : Addr). is_same_address z own ≡ true) same (own-address own)) in
     let v1 : is_view_forged g own h (Ok c.packet) ≡ false = subst (λ (r : Result Packet NotPacket). is_view_forged g own h r ≡ false) c.view no-forgery in
     let v2 : is_esp_forged g h c.packet.payload ≡ false = subst (λ (t : Bool). (t && is_esp_forged g h c.packet.payload) ≡ false) ours v1 in
     let v3 : is_esp_forged g h (esp_of o) ≡ false = subst (λ (z : List ℕ). is_esp_forged g h z ≡ false) (sym b) v2 in
@@ -145,7 +147,7 @@ to-delivery gs c o x n p h at d =
     let e : SadEntry = d.half in
     record {
       view = d.comes.view;
-      own = both (v.proto == 50) (is_same_address v.dst c.address) (grind (arith, d.comes.proto)) (subst (λ (z : Addr). is_same_address z c.address ≡ true) same (own-address c.address));
+      own = and_from (v.proto == 50) (is_same_address v.dst c.address) (grind (arith, d.comes.proto)) (subst (λ (z : Addr). is_same_address z c.address ≡ true) same (own-address c.address));
       whole = subst (λ (z : List ℕ). nat_lt (length z) 34 ≡ false) b (long (esp_of o) d.opens.0);
       spi = ap (λ (z : List ℕ). by_spi (spi_of z) (live c.name h)) (sym b) ∙ d.comes.found;
       fresh = ap (λ (z : List ℕ). verdict_over e.window (numbers_taken c.name e.name h) (number_of e (numbers_taken c.name e.name h) z)) (sym b) ∙ d.comes.fresh;

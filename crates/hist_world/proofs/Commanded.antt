@@ -1,5 +1,6 @@
 -- The lists accepted for a gateway are those commanded for it, and those put in force there never go back.
 use Rattle.std.proofs.Common.{◌≡◌, ℕ, suc, ◌+◌, ◌-◌, ◌<◌, Bool, true, false, ◌==◌, nat_lt, List, [], ◌∷◌, ◌++◌, length, Option, Some, None, refl, sym, ◌∙◌, ap, subst, append-nil, append_assoc, arith, if◌then◌else◌}
+use Rattle.std.proofs.lemmas.Bool.{false_from_ne_true, ltb-true}
 use Rattle.std.proofs.lemmas.Grind.{common_steps}
 use Rattle.std.specs.Str.{bytes_eq}
 use Rattle.ikeless_tree.specs.declared.command.Command.TheVariants as commands
@@ -27,7 +28,7 @@ use Rattle.hist_controller.specs.Past.{answered, is_open, queue, openings}
 use Rattle.hist_controller.specs.Told.{Named, peer_name}
 use Rattle.hist_controller.proofs.Policies.{lists-right}
 use Rattle.hist_controller.proofs.Transcript.{order-told}
-use Rattle.hist_safety.proofs.Basics.{no, not-true, name-is, name-true}
+use Rattle.hist_safety.proofs.Basics.{no, name-is, name-true}
 use Rattle.hist_world.specs.Block.{Past, Shows, arrives_at, block, controller_acts, gateway_at, history, past_after, unless_forged, is_forgery, is_forged_event}
 use Rattle.hist_world.specs.Block as whole
 use Rattle.hist_world.specs.Arrivals.{is_forged}
@@ -96,9 +97,6 @@ name-known f (p ∷ ps) g i e = by (bytes_eq p.name f) refl (g == 0) refl i e (n
 if-same : (b c : Bool) (l : List SpdEntry) → b ≡ c → (if b then l ∷ [] else []) ≡ (if c then l ∷ [] else [])
 if-same b c l e = ap (λ (z : Bool). if z then l ∷ [] else []) e
 
-less-is : (m n : ℕ) → nat_lt m n ≡ true → m < n
-less-is m n e = grind (arith, common_steps, e)
-
 not-less : (m n : ℕ) → nat_lt m n ≡ false → m < n → ⊥
 not-less m n e i = grind (arith, common_steps, e, i)
 
@@ -109,11 +107,11 @@ policy-lists ps c f l g names i = by (nat_lt (peer_number f ps) (length ps)) ref
       → lists_accepted g (after c (by_refusal c (SetPolicy (peer_number f ps) l) (if b then None else Some refusals.UnknownGateway))) ≡ lists_accepted g c ++ (if bytes_eq f (peer_name ps g) then l ∷ [] else [])
   by true e =
       let m : ℕ = peer_number f ps in
-      let k : m < length ps = less-is m (length ps) e in
+      let k : m < length ps = ltb-true m (length ps) e in
       let same : bytes_eq f (peer_name ps g) ≡ (g == m) = ap (λ (z : List ℕ). bytes_eq z (peer_name ps g)) (sym (name-number f ps k)) ∙ names m g k i in
       going-lists g c (Accepted (SetPolicy m l)) ∙ ap (λ z. lists_accepted g c ++ z) (if-same (g == m) (bytes_eq f (peer_name ps g)) l (sym same))
   by false e =
-      let unknown : bytes_eq f (peer_name ps g) ≡ false = not-true (bytes_eq f (peer_name ps g)) (λ q. not-less (peer_number f ps) (length ps) e (name-known f ps g i q)) in
+      let unknown : bytes_eq f (peer_name ps g) ≡ false = false_from_ne_true (bytes_eq f (peer_name ps g)) (λ q. not-less (peer_number f ps) (length ps) e (name-known f ps g i q)) in
       sym (append-nil (lists_accepted g c)) ∙ ap (λ z. lists_accepted g c ++ z) (if-same false (bytes_eq f (peer_name ps g)) l (sym unknown))
 
 -- at one event of a script those accepted are those commanded

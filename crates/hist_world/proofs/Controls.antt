@@ -1,5 +1,6 @@
 -- The controller's block may happen in the world, where the controller's part of what happened is its own past, told.
 use Rattle.std.proofs.Common.{◌≡◌, ℕ, ◌+◌, ◌<◌, Bool, true, false, List, [], ◌∷◌, ◌++◌, length, Option, Some, None, refl, sym, ◌∙◌, ap, subst, if◌then◌else◌}
+use Rattle.std.proofs.lemmas.Bool.{and_from}
 use Rattle.std.specs.List.{list_all, list_any}
 use Rattle.ikeless_tree.specs.declared.command.Peer.{Peer}
 use Rattle.ikeless_tree.specs.declared.command.Refusal.{Refusal}
@@ -23,7 +24,7 @@ use Rattle.hist_controller.proofs.Fitting.{act-fits}
 use Rattle.hist_controller.proofs.Gives.{Given, nothing, out_removed, in_removed, out_was_put, in_was_put, given}
 use Rattle.hist_controller.proofs.Transcript.{answered-told, open-told, openings-told, orders-told}
 use Rattle.hist_safety.specs.Law as law
-use Rattle.hist_safety.proofs.Basics.{no, both, both-left, both-right}
+use Rattle.hist_safety.proofs.Basics.{no, both-left, both-right}
 use Rattle.hist_world.specs.Stands.{Meet}
 use Rattle.hist_world.proofs.MayOrders.{Family, order-may}
 use Rattle.hist_world.proofs.Parts.{answered-part, open-part, openings-part, order-part, orders-part}
@@ -39,7 +40,7 @@ are_orders xs = list_all is_order xs
 
 joined : (xs ys : List ControllerAct) → are_orders xs ≡ true → are_orders ys ≡ true → are_orders (xs ++ ys) ≡ true
 joined [] ys p q = q
-joined (a ∷ xs) ys p q = both (is_order a) (are_orders (xs ++ ys)) (both-left (is_order a) (are_orders xs) p) (joined xs ys (both-right (is_order a) (are_orders xs) p) q)
+joined (a ∷ xs) ys p q = and_from (is_order a) (are_orders (xs ++ ys)) (both-left (is_order a) (are_orders xs) p) (joined xs ys (both-right (is_order a) (are_orders xs) p) q)
 
 either : (b : Bool) (xs ys : List ControllerAct) → are_orders xs ≡ true → are_orders ys ≡ true → are_orders (if b then xs else ys) ≡ true
 either true xs ys p q = p

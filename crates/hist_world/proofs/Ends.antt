@@ -1,5 +1,6 @@
 -- No history ends with an arrival that must be given.
 use Rattle.std.proofs.Common.{◌≡◌, ℕ, ◌+◌, Bool, true, false, ◌&&◌, not, nat_lt, List, [], ◌∷◌, ◌++◌, length, Option, Some, None, Result, Ok, refl, sym, ap, subst, ◌∙◌, append-nil, if◌then◌else◌}
+use Rattle.std.proofs.lemmas.Bool.{and_right}
 use Rattle.ikl_base.specs.declared.address.Addr.{Addr}
 use Rattle.ip_packet.specs.declared.packet.NotPacket.{NotPacket}
 use Rattle.ip_packet.specs.Ttl.{with_ttl}
@@ -9,13 +10,14 @@ use Rattle.ikeless_tree.specs.declared.command.Peer.{Peer}
 use Rattle.esp_frame.specs.Esp.{keying, spi_of}
 use Rattle.esp_frame.specs.Open.{opened}
 use Rattle.replay_win.specs.Marks.{verdict_over}
+use Rattle.ikeless_tree.specs.Half.{other_half}
 use Rattle.hist_acts.specs.declared.act.Act.{Act}
 use Rattle.hist_acts.specs.declared.act.Act.TheVariants as acts
 use Rattle.hist_acts.specs.declared.event.Event.{Event}
 use Rattle.hist_acts.specs.declared.event.Event.TheVariants as events
 use Rattle.hist_acts.specs.declared.event.Header.{Header}
 use Rattle.hist_acts.specs.Past.{after, events_taken}
-use Rattle.hist_halves.specs.Sealed.{by_spi, esp_of, number_of, other_half}
+use Rattle.hist_halves.specs.Sealed.{by_spi, esp_of, number_of}
 use Rattle.hist_halves.specs.Halves.{is_sealed, live, numbers_taken}
 use Rattle.hist_gateway.specs.Arrive.{is_sealed_for}
 use Rattle.hist_gateway.specs.Block as node
@@ -38,10 +40,6 @@ sent-not true true false s e = ap (λ z. false) e
 sent-not true false d s e = ap (λ z. false) e
 sent-not false f d s e = ap (λ z. false) e
 
-and-false : (a b : Bool) → b ≡ false → (a && b) ≡ false
-and-false true b e = e
-and-false false b e = ap (λ z. false) e
-
 -- what must be given was sent, so it is not forged
 not-forged : (gs : List Peer) (g o t p : List ℕ) (half : SadEntry) (own : Addr) (h : List Act) → IsLawful gs h → MustGive gs g o t p half h → is_forged g own h o ≡ false
 not-forged gs g o t p half own h l m =
@@ -51,9 +49,9 @@ not-forged gs g o t p half own h l m =
     let e : SadEntry = d.half in
     let v5 : is_half_forged g h (esp_of o) (Some e) ≡ false = sent-not true (is_fresh (verdict_over e.window (numbers_taken g e.name h) (number_of e (numbers_taken g e.name h) (esp_of o)))) (does_open (opened (keying e.spi e.key) (esp_of o))) (is_sealed (other_half e.name) (esp_of o) h) sealed in
     let v4 : is_half_forged g h (esp_of o) (by_spi (spi_of (esp_of o)) (live g h)) ≡ false = subst (λ (z : Option SadEntry). is_half_forged g h (esp_of o) z ≡ false) (sym d.comes.found) v5 in
-    let v3 : is_esp_forged g h (esp_of o) ≡ false = and-false (not (nat_lt (length (esp_of o)) 34)) (is_half_forged g h (esp_of o) (by_spi (spi_of (esp_of o)) (live g h))) v4 in
+    let v3 : is_esp_forged g h (esp_of o) ≡ false = and_right (not (nat_lt (length (esp_of o)) 34)) (is_half_forged g h (esp_of o) (by_spi (spi_of (esp_of o)) (live g h))) v4 in
     let v2 : is_esp_forged g h d.comes.packet.payload ≡ false = subst (λ (z : List ℕ). is_esp_forged g h z ≡ false) b v3 in
-    let v1 : is_view_forged g own h (Ok d.comes.packet) ≡ false = and-false (is_sealed_for own d.comes.packet) (is_esp_forged g h d.comes.packet.payload) v2 in
+    let v1 : is_view_forged g own h (Ok d.comes.packet) ≡ false = and_right (is_sealed_for own d.comes.packet) (is_esp_forged g h d.comes.packet.payload) v2 in
     subst (λ (r : Result Packet NotPacket). is_view_forged g own h r ≡ false) (sym d.comes.view) v1
 
 -- where no question is open, none is at the end

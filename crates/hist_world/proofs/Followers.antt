@@ -1,5 +1,6 @@
 -- What follows a gateway's answer in its block: halves that are gone by a hard limit, and notices.
 use Rattle.std.proofs.Common.{◌≡◌, ℕ, Bool, true, false, List, [], ◌∷◌, ◌++◌, refl, if◌then◌else◌}
+use Rattle.std.proofs.lemmas.Bool.{and_from}
 use Rattle.std.specs.List.{list_all}
 use Rattle.ikeless_tree.specs.declared.sad.SadEntry.{SadEntry}
 use Rattle.ikeless_tree.specs.declared.command.Peer.{Peer}
@@ -16,7 +17,7 @@ use Rattle.hist_gateway.specs.Uses.{counts}
 use Rattle.hist_gateway.specs.Look.{event_of, given_by, goings, expiries, look}
 use Rattle.hist_gateway.specs.Let.{unless}
 use Rattle.hist_safety.specs.Law.{AllMayHappen, MayHappen, is_ready}
-use Rattle.hist_safety.proofs.Basics.{no, both, both-left, both-right}
+use Rattle.hist_safety.proofs.Basics.{no, both-left, both-right}
 use Rattle.hist_world.specs.Block.{looks}
 
 abbrev pub is_follower : Act → Bool
@@ -43,7 +44,7 @@ follow gs h (a ∷ xs) r p = absurd (no p)
 
 pub joined : (xs ys : List Act) → are_followers xs ≡ true → are_followers ys ≡ true → are_followers (xs ++ ys) ≡ true
 joined [] ys p q = q
-joined (a ∷ xs) ys p q = both (is_follower a) (are_followers (xs ++ ys)) (both-left (is_follower a) (are_followers xs) p) (joined xs ys (both-right (is_follower a) (are_followers xs) p) q)
+joined (a ∷ xs) ys p q = and_from (is_follower a) (are_followers (xs ++ ys)) (both-left (is_follower a) (are_followers xs) p) (joined xs ys (both-right (is_follower a) (are_followers xs) p) q)
 
 pub either : (b : Bool) (xs ys : List Act) → are_followers xs ≡ true → are_followers ys ≡ true → are_followers (if b then xs else ys) ≡ true
 either true xs ys p q = p

@@ -1,11 +1,12 @@
 -- A put that a gateway handles next is of a half whose name and SPI no live half there has, and live halves have names of
 -- their own.
 use Rattle.std.proofs.Common.{◌≡◌, ℕ, ◌+◌, Bool, true, false, ◌==◌, ◌&&◌, List, [], ◌∷◌, ◌++◌, map, Some, refl, sym, ◌∙◌, ap, subst, inl, inr, if◌then◌else◌}
+use Rattle.std.proofs.lemmas.Bool.{false_from_ne_true}
 use Rattle.std.specs.Str.{bytes_eq}
 use Rattle.ikeless_tree.specs.declared.sad.SadEntry.{SadEntry}
 use Rattle.ikeless_tree.specs.declared.command.Peer.{Peer}
 use Rattle.ikeless_tree.specs.declared.order.Order.TheVariants as asks
-use Rattle.ikeless_tree.specs.Half.{is_inbound}
+use Rattle.ikeless_tree.specs.Half.{is_inbound, in_half}
 use Rattle.reply_table.specs.Reply.{has_spi}
 use Rattle.hist_acts.specs.declared.act.Act.{Act}
 use Rattle.hist_acts.specs.declared.act.Act.TheVariants as acts
@@ -17,8 +18,8 @@ use Rattle.hist_gateway.proofs.HalvesLemmas.{apart-more, apart-without}
 use Rattle.hist_gateway.proofs.ReadingsLemmas.{live-is}
 use Rattle.hist_safety.specs.Kept.{IsOneOf}
 use Rattle.hist_safety.specs.Law.{IsLawful, is_ready}
-use Rattle.hist_safety.specs.Orders.{in_half, order_of}
-use Rattle.hist_safety.proofs.Basics.{no, both-left, both-right, eq-nat, not-true, or-split}
+use Rattle.hist_safety.specs.Orders.{order_of}
+use Rattle.hist_safety.proofs.Basics.{no, both-left, both-right, eq-nat, or-split}
 use Rattle.hist_safety.proofs.Halves.{live-was}
 use Rattle.hist_safety.proofs.Live.{stands}
 use Rattle.hist_safety.proofs.Once.{put-once}
@@ -29,7 +30,7 @@ use Rattle.hist_safety.proofs.Sessions.{next-is}
 -- ---- the name
 
 pub name-free : (gs : List Peer) (g f : List ℕ) (e : SadEntry) (h : List Act) → IsLawful gs h → is_ready h ≡ true → next_request f h ≡ Some (asks.Put e) → is_live g e.name h ≡ false
-name-free gs g f e h l r n = not-true (is_live g e.name h) (λ q. no (sym (put-once gs g f e h l r n) ∙ live-was g e.name h q))
+name-free gs g f e h l r n = false_from_ne_true (is_live g e.name h) (λ q. no (sym (put-once gs g f e h l r n) ∙ live-was g e.name h q))
 
 -- ---- the SPI
 
@@ -62,7 +63,7 @@ spi-not gs g e h l r n b t =
 pub spi-free : (gs : List Peer) (g : List ℕ) (e : SadEntry) (h : List Act) → IsLawful gs h → is_ready h ≡ true → next_request g h ≡ Some (asks.Put e)
     → (is_inbound e.name && has_spi e.spi (tree_of g h).sad) ≡ false
 spi-free gs g e h l r n =
-    not-true (is_inbound e.name && has_spi e.spi (tree_of g h).sad) (λ q.
+    false_from_ne_true (is_inbound e.name && has_spi e.spi (tree_of g h).sad) (λ q.
     spi-not gs g e h l r n (both-left (is_inbound e.name) (has_spi e.spi (tree_of g h).sad) q)
     (spi-row g h e.spi (live g h) (both-right (is_inbound e.name) (has_spi e.spi (tree_of g h).sad) q)))
 

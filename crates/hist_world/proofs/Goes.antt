@@ -1,5 +1,6 @@
 -- Histories that are shown in pieces, one after another.
 use Rattle.std.proofs.Common.{◌≡◌, ℕ, ◌+◌, Bool, true, false, not, ◌&&◌, nat_lt, List, [], ◌∷◌, ◌++◌, length, Option, Some, None, Ok, refl, sym, ◌∙◌, ap, subst, append-nil, append_assoc, if◌then◌else◌}
+use Rattle.std.proofs.lemmas.Bool.{and_right}
 use Rattle.std.specs.List.{list_all}
 use Rattle.ikl_base.specs.declared.address.Addr.{Addr}
 use Rattle.ip_packet.specs.View.{Packet, view_of}
@@ -10,7 +11,8 @@ use Rattle.ikeless_tree.specs.declared.reply.DropWhy.TheVariants as why
 use Rattle.esp_frame.specs.Esp.{keying, seq_of, spi_of}
 use Rattle.esp_frame.specs.Open.{opened}
 use Rattle.replay_win.specs.declared.verdict.Verdict.TheVariants.{Fresh, Seen}
-use Rattle.replay_win.specs.Marks.{verdict_over}
+use Rattle.replay_win.specs.Marks.{greatest, verdict_over}
+use Rattle.ikeless_tree.specs.Half.{other_half}
 use Rattle.spd_match.specs.Match.{first_entry}
 use Rattle.hist_acts.specs.declared.act.Act.{Act}
 use Rattle.hist_acts.specs.declared.act.Act.TheVariants as acts
@@ -19,14 +21,15 @@ use Rattle.hist_acts.specs.declared.event.Event.TheVariants as events
 use Rattle.hist_acts.specs.declared.event.Header.{Header}
 use Rattle.hist_acts.specs.Past.{after, events_taken, force}
 use Rattle.hist_halves.specs.Halves.{is_sealed, live, numbers_taken}
-use Rattle.hist_halves.specs.Sealed.{by_spi, number_of, other_half}
+use Rattle.hist_halves.specs.Sealed.{by_spi, number_of}
 use Rattle.hist_gateway.specs.Arrive.{arrive_acts, arrive_by_entry, arrive_by_half, by_number, by_text, by_verdict, arrive_by_view, drops, esp_acts, is_sealed_for}
 use Rattle.hist_gateway.specs.Block as node
 use Rattle.hist_gateway.specs.Let.{unless}
 use Rattle.hist_gateway.specs.Look.{tells}
 use Rattle.hist_gateway.specs.Stands.{does_bad_spi_stand}
 use Rattle.hist_controller.specs.Told.{all_told}
-use Rattle.hist_safety.proofs.Basics.{and-false, both-left, both-right, no}
+use Rattle.hist_safety.proofs.Basics.{both-left, both-right, no}
+use Rattle.hist_safety.proofs.Frames.{number-field}
 use Rattle.hist_world.specs.Arrivals.{does_open, is_esp_forged, is_forged, is_fresh, is_half_forged, is_view_forged}
 use Rattle.hist_world.specs.Block.{Past, Shows, arrives_at, block, controller_acts, gateway_acts, history, past_after, took, unless_forged, is_forged_event}
 use Rattle.hist_world.specs.Stands.{AreGenuine, past_at}
@@ -108,12 +111,12 @@ arrives shows header p e c o xs m f w =
 -- ---- it comes to no half that a forged one could come to
 
 forged-view : (g : List ℕ) (own : Addr) (h : List Act) (o : List ℕ) (v : Packet) → view_of o ≡ Ok v → is_esp_forged g h v.payload ≡ false → is_forged g own h o ≡ false
-forged-view g own h o v e f = ap (is_view_forged g own h) e ∙ and-false (is_sealed_for own v) (is_esp_forged g h v.payload) f
+forged-view g own h o v e f = ap (is_view_forged g own h) e ∙ and_right (is_sealed_for own v) (is_esp_forged g h v.payload) f
 
 pub genuine-no-half : (g : List ℕ) (own : Addr) (h : List Act) (o : List ℕ) (v : Packet) → view_of o ≡ Ok v → by_spi (spi_of v.payload) (live g h) ≡ None → is_forged g own h o ≡ false
 genuine-no-half g own h o v e n =
     let b : List ℕ = v.payload in
-    forged-view g own h o v e (and-false (not (nat_lt (length b) 34)) (is_half_forged g h b (by_spi (spi_of b) (live g h))) (ap (is_half_forged g h b) n))
+    forged-view g own h o v e (and_right (not (nat_lt (length b) 34)) (is_half_forged g h b (by_spi (spi_of b) (live g h))) (ap (is_half_forged g h b) n))
 
 -- or its octets were sent
 pub genuine-sent : (g : List ℕ) (own : Addr) (h : List Act) (o : List ℕ) (v : Packet) (d : SadEntry) → view_of o ≡ Ok v → by_spi (spi_of v.payload) (live g h) ≡ Some d
@@ -123,8 +126,8 @@ genuine-sent g own h o v d e n s =
     let fresh : Bool = is_fresh (verdict_over d.window (numbers_taken g d.name h) (number_of d (numbers_taken g d.name h) b)) in
     let opens : Bool = does_open (opened (keying d.spi d.key) b) in
     let last : (fresh && (opens && not (is_sealed (other_half d.name) b h))) ≡ false =
-    and-false fresh (opens && not (is_sealed (other_half d.name) b h)) (and-false opens (not (is_sealed (other_half d.name) b h)) (ap (λ (z : Bool). not z) s)) in
-    forged-view g own h o v e (and-false (not (nat_lt (length b) 34)) (is_half_forged g h b (by_spi (spi_of b) (live g h))) (ap (is_half_forged g h b) n ∙ last))
+    and_right fresh (opens && not (is_sealed (other_half d.name) b h)) (and_right opens (not (is_sealed (other_half d.name) b h)) (ap (λ (z : Bool). not z) s)) in
+    forged-view g own h o v e (and_right (not (nat_lt (length b) 34)) (is_half_forged g h b (by_spi (spi_of b) (live g h))) (ap (is_half_forged g h b) n ∙ last))
 
 -- or they don't open
 pub genuine-closed : (g : List ℕ) (own : Addr) (h : List Act) (o : List ℕ) (v : Packet) (d : SadEntry) → view_of o ≡ Ok v → by_spi (spi_of v.payload) (live g h) ≡ Some d
@@ -134,8 +137,8 @@ genuine-closed g own h o v d e n s =
     let fresh : Bool = is_fresh (verdict_over d.window (numbers_taken g d.name h) (number_of d (numbers_taken g d.name h) b)) in
     let after_opening : Bool = not (is_sealed (other_half d.name) b h) in
     let last : (fresh && (does_open (opened (keying d.spi d.key) b) && after_opening)) ≡ false =
-    and-false fresh (does_open (opened (keying d.spi d.key) b) && after_opening) (ap (λ z. does_open z && after_opening) s) in
-    forged-view g own h o v e (and-false (not (nat_lt (length b) 34)) (is_half_forged g h b (by_spi (spi_of b) (live g h))) (ap (is_half_forged g h b) n ∙ last))
+    and_right fresh (does_open (opened (keying d.spi d.key) b) && after_opening) (ap (λ z. does_open z && after_opening) s) in
+    forged-view g own h o v e (and_right (not (nat_lt (length b) 34)) (is_half_forged g h b (by_spi (spi_of b) (live g h))) (ap (is_half_forged g h b) n ∙ last))
 
 -- ---- what answers it
 
@@ -148,7 +151,7 @@ answers-text g own h o v d n text e own_is long found number fresh opens =
     ∙ ap (λ z. if z then esp_acts g h b else arrive_by_entry g o (first_entry (force g h) In v) ∷ []) own_is
     ∙ ap (λ z. if z then drops g why.Short else arrive_by_half g h b (by_spi (spi_of b) (live g h))) long
     ∙ ap (arrive_by_half g h b) found
-    ∙ ap (λ (z : ℕ). by_number g h b d z) number
+    ∙ ap (λ (z : ℕ). by_number g h b d z) (number-field d (greatest (numbers_taken g d.name h)) b ∙ number)
     ∙ ap (by_verdict g h b d n) fresh
     ∙ ap (by_text g h d n) opens
 
@@ -161,7 +164,7 @@ answers-seen g own h o v d n e own_is long found number seen =
     ∙ ap (λ z. if z then esp_acts g h b else arrive_by_entry g o (first_entry (force g h) In v) ∷ []) own_is
     ∙ ap (λ z. if z then drops g why.Short else arrive_by_half g h b (by_spi (spi_of b) (live g h))) long
     ∙ ap (arrive_by_half g h b) found
-    ∙ ap (λ (z : ℕ). by_number g h b d z) number
+    ∙ ap (λ (z : ℕ). by_number g h b d z) (number-field d (greatest (numbers_taken g d.name h)) b ∙ number)
     ∙ ap (by_verdict g h b d n) seen
 
 pub answers-no-half : (g : List ℕ) (own : Addr) (h : List Act) (o : List ℕ) (v : Packet) (spi : ℕ) (xs : List Act) → view_of o ≡ Ok v → is_sealed_for own v ≡ true → nat_lt (length v.payload) 34 ≡ false

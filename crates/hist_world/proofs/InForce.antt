@@ -1,5 +1,6 @@
 -- The lists put in force at a gateway stand in the order of their orders.
 use Rattle.std.proofs.Common.{◌≡◌, ℕ, ◌+◌, ◌<◌, ◌≤◌, Bool, true, false, ◌==◌, ◌&&◌, List, [], ◌∷◌, ◌++◌, Option, Some, None, ◌⊎◌, inl, inr, refl, sym, ◌∙◌, ap, subst, arith, if◌then◌else◌}
+use Rattle.std.proofs.lemmas.Bool.{and_from}
 use Rattle.std.specs.Str.{bytes_eq}
 use Rattle.ikeless_tree.specs.declared.command.Peer.{Peer}
 use Rattle.ikeless_tree.specs.declared.entry.SpdEntry.{SpdEntry}
@@ -12,7 +13,7 @@ use Rattle.hist_acts.specs.declared.act.Act.TheVariants as acts
 use Rattle.hist_acts.specs.Sessions.{handled, is_session, next_request, openings, order_at, orders, session_taken}
 use Rattle.hist_controller.specs.Machine.{place}
 use Rattle.hist_safety.specs.Law.{IsAnswer, IsLawful, MayHappen, is_ready}
-use Rattle.hist_safety.proofs.Basics.{no, if-old, more, name-is, name-true, self, both}
+use Rattle.hist_safety.proofs.Basics.{no, if-old, more, name-is, name-true, self}
 use Rattle.hist_safety.proofs.Sessions.{count-at, next-is, not-new, order-bound, taken-last}
 use Rattle.hist_world.specs.Lists.{StandFrom, put_in_force}
 use Rattle.hist_world.proofs.ListPlaces.{IsLater}
@@ -94,7 +95,7 @@ behind-more gs g s k (acts.Handled f t j a) h m (inl p) = more (is_session f t g
 behind-more gs g s k (acts.Handled f t j a) h m (inr p) =
     let at = answers-there g f m.2.0 a h m.2.2 p.0 in
     let same : t ≡ s = m.0 ∙ ap (λ (z : List ℕ). session_taken z h) at ∙ sym p.1 in
-    let here : is_session f t g s ≡ true = both (bytes_eq f g) (t == s) (name-true f g at) (ap (λ (z : ℕ). z == s) same ∙ self s) in
+    let here : is_session f t g s ≡ true = and_from (bytes_eq f g) (t == s) (name-true f g at) (ap (λ (z : ℕ). z == s) same ∙ self s) in
     one-more (is_session f t g s) k (handled g s h) here p.2
 behind-more gs g s k a h m (inl p) = p
 behind-more gs g s k a h m (inr p) = absurd (only-handling gs g a h m p.0)

@@ -1,9 +1,11 @@
 -- The answer of a gateway to a packet from inside may happen in the world.
 use Rattle.std.proofs.Common.{◌≡◌, ℕ, ◌+◌, ◌<◌, ◌^◌, Bool, true, false, ◌==◌, not, ◌&&◌, nat_le, nat_lt, List, [], ◌∷◌, length, Option, Some, None, Result, Ok, Err, refl, sym, ◌∙◌, ap, subst, inl, inr, arith, if◌then◌else◌}
+use Rattle.ikl_base.specs.Address.{AreOneFamily}
 use Rattle.ip_packet.specs.declared.packet.NotPacket.{NotPacket}
 use Rattle.ip_packet.specs.View.{Packet, view_of}
-use Rattle.ip_packet.specs.Outer.{AreOneFamily, outer_header}
+use Rattle.ip_packet.specs.Outer.{outer_header}
 use Rattle.ip_packet.proofs.OuterViews.{sealed}
+use Rattle.ip_packet.specs.Field.{next_header}
 use Rattle.ikeless_tree.specs.declared.sad.SadEntry.{SadEntry}
 use Rattle.ikeless_tree.specs.declared.command.Peer.{Peer}
 use Rattle.ikeless_tree.specs.declared.entry.SpdEntry.{SpdEntry}
@@ -13,12 +15,13 @@ use Rattle.ikeless_tree.specs.declared.entry.Direction.TheVariants.{Out}
 use Rattle.ikeless_tree.specs.declared.order.Notice.TheVariants as notices
 use Rattle.ikeless_tree.specs.declared.reply.DropWhy.TheVariants as why
 use Rattle.esp_frame.specs.Esp.{esp, keying}
+use Rattle.ikeless_tree.specs.Half.{is_inbound}
 use Rattle.spd_match.specs.Match.{first_entry, holds_packet}
 use Rattle.sad_store.specs.Halves.{may_seal}
 use Rattle.hist_acts.specs.declared.act.Act.{Act}
 use Rattle.hist_acts.specs.declared.act.Act.TheVariants as acts
 use Rattle.hist_acts.specs.Past.{after, force}
-use Rattle.hist_halves.specs.Sealed.{esp_of, is_inbound, next_header}
+use Rattle.hist_halves.specs.Sealed.{esp_of}
 use Rattle.hist_halves.specs.Halves.{is_live, live, put_of, sent}
 use Rattle.hist_gateway.specs.Stands.{does_acquire_stand, was_overflow_given}
 use Rattle.hist_gateway.specs.Datagram.{datagram, fault_why, flow_of, outer_of}

@@ -1,11 +1,12 @@
 -- Each order of the controller may be given in the world.
 use Rattle.std.proofs.Common.{◌≡◌, ℕ, ◌+◌, ◌-◌, ◌<◌, ◌≤◌, ◌^◌, Bool, true, false, ◌==◌, not, ◌||◌, List, [], ◌∷◌, ◌++◌, length, decimal, Some, refl, sym, ◌∙◌, ap, subst, inl, inr, ◌⊎◌, arith, if◌then◌else◌}
+use Rattle.std.proofs.lemmas.Bool.{or_right, or_left, false_from_ne_true}
 use Rattle.std.specs.Str.{bytes_eq}
-use Rattle.ip_packet.specs.Outer.{AreOneFamily}
+use Rattle.ikl_base.specs.Address.{AreOneFamily}
 use Rattle.ikeless_tree.specs.declared.command.Peer.{Peer}
-use Rattle.hist_controller.specs.Acts.{Association, in_name, out_name, ControllerOrder, Read, Policy, PutIn, PutOut, RemoveIn, RemoveOut, ControllerAct, Opened, Cut, Answered, Heard, Ordered, Accepted, Refused}
+use Rattle.ikeless_tree.specs.Half.{in_name, out_name, aes_part, in_half, out_half}
+use Rattle.hist_controller.specs.Acts.{Association, ControllerOrder, Read, Policy, PutIn, PutOut, RemoveIn, RemoveOut, ControllerAct, Opened, Cut, Answered, Heard, Ordered, Accepted, Refused}
 use Rattle.hist_controller.specs.Past.{keys, is_out_ordered, has_answer, is_ended, is_read, PuttingIn, PuttingOut, is_kind}
-use Rattle.hist_controller.specs.Law.{aes_part}
 use Rattle.hist_controller.specs.Clauses.{IsControllerPast}
 use Rattle.hist_controller.specs.Machine.{place}
 use Rattle.hist_controller.specs.Orders.{WasOrdered, was_ordered}
@@ -17,7 +18,7 @@ use Rattle.hist_controller.proofs.Homes.{in-home, in-removal, out-home, out-remo
 use Rattle.hist_controller.proofs.Often.{keyed}
 use Rattle.hist_safety.specs.Law as law
 use Rattle.hist_safety.specs.Orders as world
-use Rattle.hist_safety.proofs.Basics.{no, name-is, or-left, or-true, self}
+use Rattle.hist_safety.proofs.Basics.{no, name-is, self}
 use Rattle.hist_world.proofs.Told.{in-doomed, in-half, in-order, in-ordered, inbound-given, inbounds-told, left-told, made-told, out-half, out-ordered, out-site}
 
 -- ---- keys
@@ -80,12 +81,8 @@ uses-key ps p part (Ordered g s k (PutOut y) ∷ h) l e =
 uses-key ps p part (Ordered g s k (RemoveIn m) ∷ h) l e = uses-older part g s k (RemoveIn m) h (uses-key ps p part h l.1 e)
 uses-key ps p part (Ordered g s k (RemoveOut m) ∷ h) l e = uses-older part g s k (RemoveOut m) h (uses-key ps p part h l.1 e)
 
-not-yes : (b : Bool) → (b ≡ true → ⊥) → b ≡ false
-not-yes true q = absurd (q refl)
-not-yes false q = refl
-
 fresh-key : (ps : List Peer) (p g s k : ℕ) (x : Association) (h : List ControllerAct) → IsControllerPast p (Ordered g s k (PutIn x) ∷ h) → world.is_key_used (aes_part x.key) (past_told ps h) ≡ false
-fresh-key ps p g s k x h l = not-yes (world.is_key_used (aes_part x.key) (past_told ps h)) (λ q.
+fresh-key ps p g s k x h l = false_from_ne_true (world.is_key_used (aes_part x.key) (past_told ps h)) (λ q.
     let u = uses-key ps p (aes_part x.key) h l.1 q in
     let low = (in-home p h l.1 u.0.way.receiver u.0 u.1).low in
     let old = given-key p u.0.way.receiver u.0 h l.1 u.1 in
@@ -124,8 +121,8 @@ given-in g x (Answered f s k a ∷ h) e = given-in g x h e
 given-in g x (Heard f s t ∷ h) e = given-in g x h e
 given-in g x (Accepted c ∷ h) e = given-in g x h e
 given-in g x (Refused w ∷ h) e = given-in g x h e
-given-in g x (Ordered f s k o ∷ h) (inl e) = or-left (is_kind PuttingIn x.serial o) (was_ordered PuttingIn x.serial h) (subst (λ (z : ControllerOrder). is_kind PuttingIn x.serial z ≡ true) e.0 (self x.serial))
-given-in g x (Ordered f s k o ∷ h) (inr e) = or-true (is_kind PuttingIn x.serial o) (was_ordered PuttingIn x.serial h) (given-in g x h e)
+given-in g x (Ordered f s k o ∷ h) (inl e) = or_left (is_kind PuttingIn x.serial o) (was_ordered PuttingIn x.serial h) (subst (λ (z : ControllerOrder). is_kind PuttingIn x.serial z ≡ true) e.0 (self x.serial))
+given-in g x (Ordered f s k o ∷ h) (inr e) = or_right (is_kind PuttingIn x.serial o) (was_ordered PuttingIn x.serial h) (given-in g x h e)
 
 given-out : (g : ℕ) (x : Association) (h : List ControllerAct) → WasOrdered (PutOut x) g h → was_ordered PuttingOut x.serial h ≡ true
 given-out g x [] e = absurd e
@@ -135,8 +132,8 @@ given-out g x (Answered f s k a ∷ h) e = given-out g x h e
 given-out g x (Heard f s t ∷ h) e = given-out g x h e
 given-out g x (Accepted c ∷ h) e = given-out g x h e
 given-out g x (Refused w ∷ h) e = given-out g x h e
-given-out g x (Ordered f s k o ∷ h) (inl e) = or-left (is_kind PuttingOut x.serial o) (was_ordered PuttingOut x.serial h) (subst (λ (z : ControllerOrder). is_kind PuttingOut x.serial z ≡ true) e.0 (self x.serial))
-given-out g x (Ordered f s k o ∷ h) (inr e) = or-true (is_kind PuttingOut x.serial o) (was_ordered PuttingOut x.serial h) (given-out g x h e)
+given-out g x (Ordered f s k o ∷ h) (inl e) = or_left (is_kind PuttingOut x.serial o) (was_ordered PuttingOut x.serial h) (subst (λ (z : ControllerOrder). is_kind PuttingOut x.serial z ≡ true) e.0 (self x.serial))
+given-out g x (Ordered f s k o ∷ h) (inr e) = or_right (is_kind PuttingOut x.serial o) (was_ordered PuttingOut x.serial h) (given-out g x h e)
 
 -- ---- the orders
 
@@ -154,7 +151,7 @@ may-put-in ps g s k x h l family =
     let b = few-keys (length ps) h l.1 in
     let w = placings (length ps) h l.1 x.way l.0.3.of in
     record {
-      name = in-half x.serial ∙ ap (λ (z : ℕ). world.in_half (decimal z)) n;
+      name = in-half x.serial ∙ ap (λ (z : ℕ). in_half (decimal z)) n;
       few = omega (arith, a, b, many);
       spi = ap (λ (z : ℕ). 256 + z) n;
       key = fresh-key ps (length ps) g s k x h l;
@@ -215,7 +212,7 @@ may-remove-in ps g s k n h l names f =
     let o = in-order ps (length ps) x h low0 l.1 there in
     let order : world.was_order_given (in_name n) t ≡ true = in-ordered ps (length ps) n h low l.1 ∙ ap (λ (z : ℕ). was_ordered PuttingIn z h) r.1 ∙ given-in g x h put in
     let here : peer_name ps g ≡ world.site (in_name n) t = ap (peer_name ps) at ∙ sym o.site ∙ ap (λ (z : ℕ). world.site (in_name z) t) (sym r.1) in
-    let Q : Type 0 = (world.was_order_given (world.out_half (decimal n)) t ≡ false) ⊎ (world.is_removal_answered (world.out_half (decimal n)) t ≡ true) in
+    let Q : Type 0 = (world.was_order_given (out_half (decimal n)) t ≡ false) ⊎ (world.is_removal_answered (out_half (decimal n)) t ≡ true) in
     let last : Q = elim (before (length ps) h g (RemoveIn n) l.1 l.0.3) as (λ z. Q) [
       | inl a ↦ inl (ap (λ (z : List ℕ). world.was_order_given z t) (sym (out-half n)) ∙ out-ordered ps (length ps) n h low l.1 ∙ a)
       | inr a ↦ inr (ap (λ (z : List ℕ). world.is_removal_answered z t) (sym (out-half n)) ∙ left-told ps (length ps) n h low l.1 names f a)

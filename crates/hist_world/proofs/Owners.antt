@@ -1,12 +1,14 @@
 -- Each half that was ordered is of an association of the controller, and while it isn't gone for good that association is left.
 use Rattle.std.proofs.Common.{◌≡◌, ℕ, ◌+◌, ◌<◌, ◌^◌, Bool, true, false, ◌==◌, not, ◌||◌, List, [], ◌∷◌, length, Option, Some, None, refl, sym, subst, inl, inr, ◌⊎◌, arith, if◌then◌else◌}
+use Rattle.std.proofs.lemmas.Bool.{or_right, or_left}
 use Rattle.std.specs.Str.{bytes_eq}
 use Rattle.std.specs.Option.{option_map}
 use Rattle.ikeless_tree.specs.declared.sad.SadEntry.{SadEntry}
 use Rattle.ikeless_tree.specs.declared.command.Peer.{Peer}
 use Rattle.ikeless_tree.specs.declared.order as tree
+use Rattle.ikeless_tree.specs.Half.{in_name, out_name}
 use Rattle.hist_acts.specs.Sessions as sessions
-use Rattle.hist_controller.specs.Acts.{Association, in_name, out_name, ControllerOrder, Read, Policy, PutIn, PutOut, RemoveIn, RemoveOut, ControllerAct, Opened, Cut, Answered, Heard, Ordered, Accepted, Refused}
+use Rattle.hist_controller.specs.Acts.{Association, ControllerOrder, Read, Policy, PutIn, PutOut, RemoveIn, RemoveOut, ControllerAct, Opened, Cut, Answered, Heard, Ordered, Accepted, Refused}
 use Rattle.hist_controller.specs.Past.{RemovingIn, is_answer_to, directions, has_answer, is_kind, left, is_made_by, oldest, inbound_put, queue, PuttingIn}
 use Rattle.hist_controller.specs.Clauses.{Has, IsControllerPast}
 use Rattle.hist_controller.specs.Ever.{made}
@@ -19,7 +21,7 @@ use Rattle.hist_controller.proofs.KeptState.{made-no, rising}
 use Rattle.hist_controller.proofs.Lists.{has-left, right-in}
 use Rattle.hist_controller.proofs.Serials.{upto}
 use Rattle.hist_safety.specs.Orders as world
-use Rattle.hist_safety.proofs.Basics.{no, both-right, eq-nat, if-cases, or-left, or-split, or-true, self}
+use Rattle.hist_safety.proofs.Basics.{no, both-right, eq-nat, if-cases, or-split, self}
 use Rattle.hist_world.proofs.Told.{same-in, told-at}
 
 -- ---- whose half an order puts
@@ -110,9 +112,9 @@ in-left-told ps p n (Answered g s k a ∷ h) i l names f q =
     let t = told-at ps p g s k a h l names f.1 f.0 in
     let m : Bool = world.is_removal (in_name n) (sessions.order_at (peer_name ps g) s k (past_told ps h)) in
     or-split {A = (m || world.is_removal_answered (in_name n) (past_told ps h)) ≡ true} (is_answer_to RemovingIn n (oldest (queue g h))) (has_answer RemovingIn n h)
-    (λ w. or-left m (world.is_removal_answered (in_name n) (past_told ps h))
+    (λ w. or_left m (world.is_removal_answered (in_name n) (past_told ps h))
     (subst (λ (z : Option tree.Order.Order). world.is_removal (in_name n) z ≡ true) (sym t) (is-gone ps n (oldest (queue g h)) i w)))
-    (λ w. or-true m (world.is_removal_answered (in_name n) (past_told ps h)) (in-left-told ps p n h i l.1 names f.1 w)) q
+    (λ w. or_right m (world.is_removal_answered (in_name n) (past_told ps h)) (in-left-told ps p n h i l.1 names f.1 w)) q
 in-left-told ps p n (Heard g s t ∷ h) i l names f q = in-left-told ps p n h i l.1 names f.1 q
 in-left-told ps p n (Ordered g s k o ∷ h) i l names f q = in-left-told ps p n h i l.1 names f.1 (both-right (not (is_kind PuttingIn n o)) (has_answer RemovingIn n h) q)
 in-left-told ps p n (Accepted c ∷ h) i l names f q = in-left-told ps p n h i l.1 names f.1 q

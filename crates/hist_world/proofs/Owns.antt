@@ -1,5 +1,6 @@
 -- The acts of gateways leave the controller's part of what happened as it is.
 use Rattle.std.proofs.Common.{◌≡◌, ℕ, Bool, true, false, List, [], ◌∷◌, ◌++◌, refl, ◌∙◌, ap}
+use Rattle.std.proofs.lemmas.Bool.{and_from}
 use Rattle.std.specs.List.{list_all}
 use Rattle.ikl_base.specs.declared.address.Addr.{Addr}
 use Rattle.ikeless_tree.specs.declared.order.Answer.{Answer}
@@ -12,7 +13,7 @@ use Rattle.hist_acts.specs.Past.{after}
 use Rattle.hist_gateway.specs.Arrive.{arrive_acts}
 use Rattle.hist_gateway.specs.Handle.{change_acts}
 use Rattle.hist_gateway.specs.Let.{let_acts}
-use Rattle.hist_safety.proofs.Basics.{no, both, both-left, both-right}
+use Rattle.hist_safety.proofs.Basics.{no, both-left, both-right}
 use Rattle.hist_world.specs.Parts.{controllers_part}
 use Rattle.hist_world.proofs.Arrives.{ArriveAnswer, arrive-shape}
 use Rattle.hist_world.proofs.Followers.{are_followers, is_follower}
@@ -51,7 +52,7 @@ follower-own a e = absurd (no e)
 
 pub followers-own : (xs : List Act) → are_followers xs ≡ true → are_own xs ≡ true
 followers-own [] e = refl
-followers-own (a ∷ xs) e = both (is_own a) (are_own xs) (follower-own a (both-left (is_follower a) (are_followers xs) e)) (followers-own xs (both-right (is_follower a) (are_followers xs) e))
+followers-own (a ∷ xs) e = and_from (is_own a) (are_own xs) (follower-own a (both-left (is_follower a) (are_followers xs) e)) (followers-own xs (both-right (is_follower a) (are_followers xs) e))
 
 let-own : (g : List ℕ) (a : Act) → LetAnswer g a → is_own a ≡ true
 let-own g (acts.Clear f o) e = refl
@@ -66,7 +67,7 @@ arrive-own g (acts.Drop f w) e = refl
 arrive-own g a e = absurd e
 
 shaped-own : (ok : Act → Type 0) (xs : List Act) → ((a : Act) → ok a → is_own a ≡ true) → Shaped ok xs → are_own xs ≡ true
-shaped-own ok xs f s = ap are_own s.parts ∙ both (is_own s.first) (are_own s.rest) (f s.first s.fits) (followers-own s.rest s.follow)
+shaped-own ok xs f s = ap are_own s.parts ∙ and_from (is_own s.first) (are_own s.rest) (f s.first s.fits) (followers-own s.rest s.follow)
 
 pub lets-own : (g o : List ℕ) (q : ℕ) (h : List Act) → are_own (let_acts g q h o) ≡ true
 lets-own g o q h = shaped-own (LetAnswer g) (let_acts g q h o) (let-own g) (let-shape g o q h)

@@ -4,12 +4,12 @@ use Rattle.std.specs.Str.{bytes_eq}
 use Rattle.ikeless_tree.specs.declared.sad.SadEntry.{SadEntry}
 use Rattle.ikeless_tree.specs.declared.order.Order.{Order}
 use Rattle.ikeless_tree.specs.declared.order.Order.TheVariants as asks
-use Rattle.ikeless_tree.specs.Half.{is_inbound}
+use Rattle.ikeless_tree.specs.Half.{is_inbound, aes_part, in_half, out_half}
 use Rattle.hist_acts.specs.declared.act.Act.{Act}
 use Rattle.hist_acts.specs.declared.act.Act.TheVariants as acts
 use Rattle.hist_acts.specs.Sessions.{answered, is_open, is_session, openings, order_at, orders}
 use Rattle.hist_safety.specs.Law.{OrderMayHappen, PutInMayHappen, PutOutMayHappen, RemoveInMayHappen, RemoveOutMayHappen}
-use Rattle.hist_safety.specs.Orders.{aes_part, inbounds, in_half, is_removal_ordered, is_key_used, is_removal_answered, is_put_accepted, is_put, is_removal, order_of, was_order_given, out_half, site}
+use Rattle.hist_safety.specs.Orders.{inbounds, is_removal_ordered, is_key_used, is_removal_answered, is_put_accepted, is_put, is_removal, order_of, was_order_given, site}
 use Rattle.hist_world.specs.Parts.{controllers_part}
 
 if-both : {A : Type 0} (b : Bool) (x y z : A) → y ≡ z → (if b then x else y) ≡ (if b then x else z)

@@ -1,10 +1,12 @@
 -- Where puts are answered with 201 or refused, a gateway has room for the put that it handles next: each live half and the
 -- new one are of associations left there, and these are few.
 use Rattle.std.proofs.Common.{◌≡◌, ℕ, suc, ◌+◌, ◌<◌, ◌≤◌, Bool, true, false, ◌==◌, nat_le, not, List, [], ◌∷◌, ◌++◌, length, map, decimal, Some, refl, sym, ◌∙◌, ap, subst, inl, inr, ◌⊎◌, arith, if◌then◌else◌}
+use Rattle.std.proofs.lemmas.Bool.{or_right, or_left, and_from, not-true}
 use Rattle.std.specs.Str.{bytes_eq}
 use Rattle.ikeless_tree.specs.declared.sad.SadEntry.{SadEntry}
 use Rattle.ikeless_tree.specs.declared.command.Peer.{Peer}
 use Rattle.ikeless_tree.specs.declared.order.Order.TheVariants as asks
+use Rattle.ikeless_tree.specs.Half.{in_name, out_name, in_half}
 use Rattle.reply_table.specs.Reply.{is_sad_full}
 use Rattle.hist_acts.specs.declared.act as happened
 use Rattle.hist_acts.specs.Sessions.{handled, next_request, session_taken}
@@ -12,7 +14,7 @@ use Rattle.hist_halves.specs.Halves.{is_live, live}
 use Rattle.hist_gateway.specs.May.{are_apart, has_half}
 use Rattle.hist_gateway.specs.Rows.{row_of, tree_of}
 use Rattle.hist_gateway.proofs.ReadingsLemmas.{live-is}
-use Rattle.hist_controller.specs.Acts.{Way, Association, in_name, out_name, PutIn, PutOut, ControllerAct}
+use Rattle.hist_controller.specs.Acts.{Way, Association, PutIn, PutOut, ControllerAct}
 use Rattle.hist_controller.specs.Past.{RemovingIn, directions, has_answer, left}
 use Rattle.hist_controller.specs.Clauses.{Has, IsControllerPast}
 use Rattle.hist_controller.specs.Halves.{PlainAnswers, half_count, is_at_gateway}
@@ -26,7 +28,7 @@ use Rattle.hist_controller.proofs.Lists.{has-left, length-both, right-in}
 use Rattle.hist_safety.specs.Kept.{Dead, IsOneOf}
 use Rattle.hist_safety.specs.Law.{IsLawful, is_ready}
 use Rattle.hist_safety.specs.Orders as world
-use Rattle.hist_safety.proofs.Basics.{no, both, both-left, both-right, eq-nat, if-new, if-old, name-true, or-left, or-true, self}
+use Rattle.hist_safety.proofs.Basics.{no, both-left, both-right, eq-nat, if-new, if-old, name-true, self}
 use Rattle.hist_safety.proofs.Halves.{last}
 use Rattle.hist_safety.proofs.Live.{stands}
 use Rattle.hist_safety.proofs.Once.{too-far}
@@ -111,7 +113,7 @@ in-spot ps w c x l m names put q =
     let o = in-order ps (length ps) x c low m.past put in
     let kept : Has x (left x.way c) = still-left (has_answer RemovingIn x.serial c) (λ e. q (gone-dead ps w c x l m names put e)) (left-or-gone (length ps) x c m.past put) in
     let one = self g in
-    let there = names-has g c (directions c) x.way x known (or-true (x.way.sender == g) (g == g) one) kept in
+    let there = names-has g c (directions c) x.way x known (or_right (x.way.sender == g) (g == g) one) kept in
     record {
       number = g;
       known = (placings (length ps) c m.past x.way known).receiver;
@@ -124,7 +126,7 @@ turned m n e = grind (arith, e)
 
 out-gone : (ps : List Peer) (w : List happened.Act.Act) (n : ℕ) → IsLawful ps w → world.was_order_given (out_name n) w ≡ true → (Dead (out_name n) w → ⊥) → Dead (in_name n) w → ⊥
 out-gone ps w n l o q d =
-    let doomed : world.is_removal_ordered (world.in_half (decimal n)) w ≡ true = subst (λ (z : List ℕ). world.is_removal_ordered z w ≡ true) (in-half n) d.0 in
+    let doomed : world.is_removal_ordered (in_half (decimal n)) w ≡ true = subst (λ (z : List ℕ). world.is_removal_ordered z w ≡ true) (in-half n) d.0 in
     elim (last ps (decimal n) w l doomed) as (λ z. ⊥) [
       | inl e ↦ no (sym e ∙ subst (λ (z : List ℕ). world.was_order_given z w ≡ true) (out-half n) o)
       | inr e ↦ q (off-dead ps (out_name n) w l (subst (λ (z : List ℕ). world.is_removal_handled z w ≡ true) (sym (out-half n)) e))
@@ -141,7 +143,7 @@ out-spot ps w c x l m names sent order q =
     let place = placings (length ps) c m.past x.way known in
     let kept : Has x (left x.way c) =
     still-left (has_answer RemovingIn x.serial c) (λ e. out-gone ps w x.serial l order q (gone-dead ps w c x l m names put e)) (left-or-gone (length ps) x c m.past put) in
-    let there = names-has g c (directions c) x.way x known (or-left (g == g) (x.way.receiver == g) (self g)) kept in
+    let there = names-has g c (directions c) x.way x known (or_left (g == g) (x.way.receiver == g) (self g)) kept in
     record {
       number = g;
       known = place.sender;
@@ -170,8 +172,8 @@ spot ps w c e l m names o q =
 
 has-half : (d : SadEntry) (x : List ℕ) (es : List SadEntry) → IsOneOf d es → d.name ≡ x → has_half x es ≡ true
 has-half d x [] i q = absurd i
-has-half d x (e ∷ es) (inl p) q = or-left (bytes_eq e.name x) (has_half x es) (name-true e.name x (ap (λ (z : SadEntry). z.name) p ∙ q))
-has-half d x (e ∷ es) (inr i) q = or-true (bytes_eq e.name x) (has_half x es) (has-half d x es i q)
+has-half d x (e ∷ es) (inl p) q = or_left (bytes_eq e.name x) (has_half x es) (name-true e.name x (ap (λ (z : SadEntry). z.name) p ∙ q))
+has-half d x (e ∷ es) (inr i) q = or_right (bytes_eq e.name x) (has_half x es) (has-half d x es i q)
 
 -- the names but one
 abbrev Others : List ℕ → List (List ℕ) → Type 0
@@ -190,15 +192,11 @@ others x [] i = absurd i
 others x (y ∷ ys) (inl e) = (ys, grind arith, λ z j n. other-here x y z ys e j n)
 others x (y ∷ ys) (inr i) = let t = others x ys i in let m = t.1 in (y ∷ t.0, grind (arith, m), λ z j n. other-there x y z ys t.0 (t.2 z) j n)
 
-not-it : (b : Bool) → not b ≡ true → b ≡ false
-not-it true e = absurd (no e)
-not-it false e = refl
-
 fit : (es : List SadEntry) (ys : List (List ℕ)) → are_apart es ≡ true → ((d : SadEntry) → IsOneOf d es → Has d.name ys) → length es ≤ length ys
 fit [] ys a f = omega arith
 fit (e ∷ es) ys a f =
     let t = others e.name ys (f e (inl refl)) in
-    let new : has_half e.name es ≡ false = not-it (has_half e.name es) (both-left (not (has_half e.name es)) (are_apart es) a) in
+    let new : has_half e.name es ≡ false = not-true (has_half e.name es) (both-left (not (has_half e.name es)) (are_apart es) a) in
     let more : (d : SadEntry) → IsOneOf d es → Has d.name t.0 = λ d j. t.2 d.name (f d (inr j)) (λ q. no (sym new ∙ has-half d e.name es j q)) in
     let i = fit es t.0 (both-right (not (has_half e.name es)) (are_apart es) a) more in
     let n = t.1 in
@@ -263,5 +261,5 @@ room ps w c g e l m names plain r next =
     let each : (d : SadEntry) → IsOneOf d (e ∷ live g w) → Has d.name ys = λ d i.
     elim i as (λ z. Has d.name ys) [ inl q ↦ subst (λ (z : SadEntry). Has z.name ys) q s.has | inr j ↦ live-has ps w c g s.number d l m names s.known name j ] in
     let new : not (has_half e.name (live g w)) ≡ true = ap not (live-is g e.name w ∙ name-free ps g g e w l r next) in
-    let apart : are_apart (e ∷ live g w) ≡ true = both (not (has_half e.name (live g w))) (are_apart (live g w)) new (live-apart ps g w l) in
+    let apart : are_apart (e ∷ live g w) ≡ true = and_from (not (has_half e.name (live g w))) (are_apart (live g w)) new (live-apart ps g w l) in
     full-not (length (map (row_of g w) (live g w))) (length (live g w)) (length ys) (length-map (row_of g w) (live g w)) (fit (e ∷ live g w) ys apart each) (few-names (length ps) c s.number m.past plain)

@@ -2,6 +2,7 @@
 -- definition is too dear: a datagram is its header followed by what `esp` gives for key, number and packet. Its length, SPI and
 -- number are computed, and that it opens to the packet again is a law of ESP.
 use Rattle.std.proofs.Common.{◌≡◌, ℕ, ◌+◌, ◌&&◌, nat_lt, true, false, List, [], ◌∷◌, length, take, Some, None, Ok, refl, ◌∙◌, ap}
+use Rattle.std.proofs.lemmas.Bool.{or_left, and_from}
 use Rattle.std.specs.Str.{bytes_eq}
 use Rattle.ikl_base.specs.declared.address.Addr.{Addr}
 use Rattle.ikl_base.specs.declared.address.Addr.TheVariants.{V4}
@@ -16,19 +17,20 @@ use Rattle.esp_frame.specs.Open.{opened}
 use Rattle.esp_frame.proofs.Opens.{opened_finds, sealed_opens}
 use Rattle.replay_win.specs.declared.verdict.Verdict.TheVariants.{Fresh, Seen}
 use Rattle.replay_win.specs.Marks.{verdict_over}
+use Rattle.ikeless_tree.specs.Half.{other_half}
 use Rattle.hist_acts.specs.declared.act.Act.{Act}
 use Rattle.hist_acts.specs.declared.act.Act.TheVariants as acts
 use Rattle.hist_acts.specs.declared.event.Event.{Event}
 use Rattle.hist_acts.specs.Past.{events_taken}
 use Rattle.hist_halves.specs.Halves.{is_sealed, live, numbers_taken}
-use Rattle.hist_halves.specs.Sealed.{by_spi, esp_of, other_half, payload_of}
+use Rattle.hist_halves.specs.Sealed.{by_spi, esp_of, payload_of}
 use Rattle.hist_gateway.specs.Arrive.{by_text}
 use Rattle.hist_gateway.specs.Block as node
 use Rattle.hist_gateway.specs.Datagram.{datagram}
 use Rattle.hist_gateway.specs.Let.{unless}
 use Rattle.hist_gateway.specs.Look.{tells}
 use Rattle.hist_gateway.specs.Stands.{does_bad_spi_stand}
-use Rattle.hist_safety.proofs.Basics.{both, name-self, name-true, or-left}
+use Rattle.hist_safety.proofs.Basics.{name-self, name-true}
 use Rattle.hist_world.specs.Block.{Past, Shows, took}
 use Rattle.hist_world.proofs.Goes.{Comes, Goes, answers-no-half, answers-seen, answers-text, arrived, arrives, genuine-no-half, genuine-sent}
 use Rattle.hist_world.proofs.Shown.{b, greatest, out1, out3, packet_6, sent, two}
@@ -90,8 +92,8 @@ begins3 = refl
 pub was-sealed : (e : SadEntry) (n m : ℕ) (o x f : List ℕ) (h : List Act) → Carries o e n → is_sealed x (octets e n) (acts.Sent f x m o ∷ h) ≡ true
 was-sealed e n m o x f h c =
     let same : esp_of o ≡ octets e n = ap payload_of c.view in
-    or-left (bytes_eq x x && bytes_eq (esp_of o) (octets e n)) (is_sealed x (octets e n) h)
-    (both (bytes_eq x x) (bytes_eq (esp_of o) (octets e n)) (name-self x) (name-true (esp_of o) (octets e n) same))
+    or_left (bytes_eq x x && bytes_eq (esp_of o) (octets e n)) (is_sealed x (octets e n) h)
+    (and_from (bytes_eq x x) (bytes_eq (esp_of o) (octets e n)) (name-self x) (name-true (esp_of o) (octets e n) same))
 
 -- where a datagram comes to b, and what is known of it there
 pub record At (e d : SadEntry) (n : ℕ) (h : List Act) : Type 0 where

@@ -13,7 +13,7 @@ use Rattle.hist_acts.specs.declared.event.Event.{Event}
 use Rattle.hist_acts.specs.declared.event.Event.TheVariants as events
 use Rattle.hist_acts.specs.Past.{after}
 use Rattle.hist_halves.specs.Halves.{live}
-use Rattle.hist_halves.specs.Sealed.{by_spi}
+use Rattle.hist_halves.specs.Sealed.{by_spi, number_from}
 use Rattle.hist_gateway.specs.Arrive.{arrive_acts}
 use Rattle.hist_gateway.specs.Block as node
 use Rattle.hist_gateway.specs.Datagram.{datagram}
@@ -21,6 +21,7 @@ use Rattle.spd_match.specs.Match.{holds_packet}
 use Rattle.replay_win.specs.Marks.{verdict_over}
 use Rattle.hist_world.specs.Arrivals.{does_open, flipped, is_forged, is_fresh, is_half_forged, is_view_forged}
 use Rattle.hist_world.specs.Block.{Past, Shows, history, nothing, took}
+use Rattle.hist_safety.proofs.Frames.{number-field}
 use Rattle.hist_world.proofs.Goes.{Goes, and-then, ends}
 use Rattle.hist_world.proofs.Shown.{b, in1, out1, packet_6, sent, two, greatest}
 use Rattle.hist_world.proofs.ShownDatagrams.{found-at, opens-at, carries1, gateway_b, octets, own_b}
@@ -35,7 +36,7 @@ forged =
     ap (is_view_forged b own_b h) carries1.view
     ∙ ap (λ (z : Bool). not z && is_half_forged b h o (by_spi (spi_of o) (live b h))) carries1.long
     ∙ ap (is_half_forged b h o) (found-at out1 in1 1 (sent out1 1) h carries1 refl)
-    ∙ ap (λ (z : ℕ). is_fresh (verdict_over 64 [] z) && (does_open (opened (keying in1.spi in1.key) o) && true)) carries1.number
+    ∙ ap (λ (z : ℕ). is_fresh (verdict_over 64 [] z) && (does_open (opened (keying in1.spi in1.key) o) && true)) (number-field in1 0 o ∙ carries1.number)
     ∙ ap (λ z. does_open z && true) (opens-at out1 in1 1 refl)
 
 abbrev pub invented : Event
@@ -94,7 +95,7 @@ abbrev pub after_too_late : Past
 after_too_late = record { world = after after_given.world too_late_acts; controller = after_given.controller }
 
 pub too_late-goes : (shows : Shows) → Goes shows (two greatest) after_given too_late too_late_acts after_too_late
-unfolding view_of datagram outer_header esp sealed tag_of keying packet_6 arrive_acts
+unfolding view_of datagram outer_header esp sealed tag_of keying packet_6 arrive_acts number_from
 too_late-goes shows = record { acts = refl; past = refl; genuine = (refl, tt) }
 
 abbrev pub number_taken : List Event

@@ -5,6 +5,7 @@ use Rattle.ip_packet.specs.Outer.{outer_header}
 use Rattle.ip_packet.specs.View.{view_of}
 use Rattle.ikeless_tree.specs.declared.order.Notice.TheVariants as notices
 use Rattle.ikeless_tree.specs.declared.order.Order.TheVariants as asks
+use Rattle.ikeless_tree.specs.Half.{in_name, out_name}
 use Rattle.reply_table.specs.Reply.{reply}
 use Rattle.gcm_seal.specs.Gcm.{sealed, tag_of}
 use Rattle.esp_frame.specs.Esp.{esp, keying}
@@ -15,7 +16,6 @@ use Rattle.hist_acts.specs.declared.event.Event.TheVariants as events
 use Rattle.hist_acts.specs.Past.{after}
 use Rattle.hist_gateway.specs.Datagram.{datagram}
 use Rattle.hist_controller.specs.Acts as own
-use Rattle.hist_controller.specs.Acts.{in_name, out_name}
 use Rattle.hist_world.specs.Block.{Past, Shows, history, nothing}
 use Rattle.hist_world.proofs.Goes.{Goes, and-then, quiet}
 use Rattle.hist_world.proofs.Shown.{a, association3, association4, b, in3, in4, key1, key2, key3, key4, limits, packet_6, two, greatest}

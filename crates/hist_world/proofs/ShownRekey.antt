@@ -7,6 +7,7 @@ use Rattle.ip_packet.specs.View.{view_of}
 use Rattle.ikeless_tree.specs.declared.order.Notice.TheVariants as notices
 use Rattle.ikeless_tree.specs.declared.order.Order.TheVariants as asks
 use Rattle.ikeless_tree.specs.declared.reply.GoneWhy.TheVariants as gone
+use Rattle.ikeless_tree.specs.Half.{in_name, out_name}
 use Rattle.reply_table.specs.Reply.{reply}
 use Rattle.gcm_seal.specs.Gcm.{sealed, tag_of}
 use Rattle.esp_frame.specs.Esp.{esp, keying}
@@ -20,7 +21,6 @@ use Rattle.hist_acts.specs.Past.{after}
 use Rattle.hist_gateway.specs.Datagram.{datagram}
 use Rattle.hist_gateway.specs.Let.{let_acts}
 use Rattle.hist_controller.specs.Acts as own
-use Rattle.hist_controller.specs.Acts.{in_name, out_name}
 use Rattle.hist_world.specs.Block.{Past, Shows, history, nothing}
 use Rattle.hist_world.proofs.Goes.{Goes, and-then, quiet}
 use Rattle.hist_world.proofs.Shown.{a, association3, b, behind_a, behind_b, in1, in3, key1, key2, key3, limits, out1, out3, packet_6, plain, sent, two, greatest}

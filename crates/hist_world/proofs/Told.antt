@@ -1,5 +1,6 @@
 -- The words on orders say of the controller's acts, told in a transcript, what the controller's own words say.
 use Rattle.std.proofs.Common.{◌≡◌, ℕ, ◌+◌, ◌<◌, ◌≤◌, ◌^◌, Bool, true, false, ◌==◌, not, ◌&&◌, ◌||◌, nat_le, nat_lt, List, [], ◌∷◌, length, decimal, Option, Some, None, refl, sym, ◌∙◌, ap, subst, inl, inr, arith, if◌then◌else◌}
+use Rattle.std.proofs.lemmas.Bool.{or_right, or_left, or_parts}
 use Rattle.std.proofs.lemmas.Grind.{common_steps}
 use Rattle.std.specs.Str.{bytes_eq}
 use Rattle.std.specs.Option.{option_map}
@@ -7,9 +8,9 @@ use Rattle.ikeless_tree.specs.declared.sad.SadEntry.{SadEntry}
 use Rattle.ikeless_tree.specs.declared.command.Peer.{Peer}
 use Rattle.ikeless_tree.specs.declared.order as tree
 use Rattle.ikeless_tree.specs.declared.order.Answer.{Answer}
-use Rattle.ikeless_tree.specs.Half.{is_inbound}
+use Rattle.ikeless_tree.specs.Half.{is_inbound, in_name, out_name, in_half, out_half}
 use Rattle.hist_acts.specs.Sessions as sessions
-use Rattle.hist_controller.specs.Acts.{Association, in_name, out_name, ControllerOrder, Read, Policy, PutIn, PutOut, RemoveIn, RemoveOut, ControllerAct, Opened, Cut, Answered, Heard, Ordered, Accepted, Refused}
+use Rattle.hist_controller.specs.Acts.{Association, ControllerOrder, Read, Policy, PutIn, PutOut, RemoveIn, RemoveOut, ControllerAct, Opened, Cut, Answered, Heard, Ordered, Accepted, Refused}
 use Rattle.hist_controller.specs.Past.{serials, queue, oldest, is_kind, is_answer_to, has_answer, is_spoiled, is_ended, is_out_ordered, PuttingIn, PuttingOut, RemovingIn, RemovingOut}
 use Rattle.hist_controller.specs.Clauses.{IsControllerPast, MayOrderInPut, MayOrderOutPut, MayOrderInRemove}
 use Rattle.hist_controller.specs.Orders.{was_ordered, WasOrdered}
@@ -22,7 +23,7 @@ use Rattle.hist_controller.proofs.Readings.{answers-number}
 use Rattle.hist_controller.proofs.Serials.{low}
 use Rattle.hist_controller.proofs.Transcript.{order-told}
 use Rattle.hist_safety.specs.Orders as world
-use Rattle.hist_safety.proofs.Basics.{no, eq-nat, name-not, name-self, or-left, or-true}
+use Rattle.hist_safety.proofs.Basics.{no, eq-nat, name-not, name-self}
 
 -- ---- names of halves
 
@@ -54,11 +55,11 @@ pub out-outbound : (n : ℕ) → is_inbound (out_name n) ≡ false
 unfolding out_name
 out-outbound n = refl
 
-pub in-half : (n : ℕ) → in_name n ≡ world.in_half (decimal n)
+pub in-half : (n : ℕ) → in_name n ≡ in_half (decimal n)
 unfolding in_name
 in-half n = refl
 
-pub out-half : (n : ℕ) → out_name n ≡ world.out_half (decimal n)
+pub out-half : (n : ℕ) → out_name n ≡ out_half (decimal n)
 unfolding out_name
 out-half n = refl
 
@@ -254,10 +255,6 @@ is-made ps n x g a (Some (PutOut y)) done sent i e q r = absurd (no q)
 is-made ps n x g a (Some (RemoveIn m)) done sent i e q r = absurd (no q)
 is-made ps n x g a (Some (RemoveOut m)) done sent i e q r = absurd (no q)
 
-or-falses : (a b : Bool) → (a || b) ≡ false → (a ≡ false) × (b ≡ false)
-or-falses true b e = absurd (no (sym e))
-or-falses false b e = (refl, e)
-
 or-case : (a b c : Bool) → (a ≡ true → c ≡ true) → (b ≡ true → c ≡ true) → (a || b) ≡ true → c ≡ true
 or-case true b c p q e = p refl
 or-case false b c p q e = q e
@@ -271,21 +268,21 @@ pub made-told : (ps : List Peer) (p : ℕ) (n : ℕ) (x : Association) (h : List
     → has_answer PuttingIn n h ≡ true → is_ended x h ≡ false → world.is_put_accepted (in_name n) (past_told ps h) ≡ true
 made-told ps p n x [] i e l names f q r = absurd (no q)
 made-told ps p n x (Opened g s ∷ h) i e l names f q r = made-told ps p n x h i e l.1 names f.1 q r
-made-told ps p n x (Cut g s ∷ h) i e l names f q r = made-told ps p n x h i e l.1 names f.1 q (or-falses _ (is_ended x h) r).1
+made-told ps p n x (Cut g s ∷ h) i e l names f q r = made-told ps p n x h i e l.1 names f.1 q (or_parts _ (is_ended x h) r).1
 made-told ps p n x (Answered g s k a ∷ h) i e l names f q r =
-    let d = or-falses (is_spoiled x g (oldest (queue g h)) a (has_answer PuttingIn x.serial h) (is_out_ordered x.serial h)) (is_ended x h) r in
+    let d = or_parts (is_spoiled x g (oldest (queue g h)) a (has_answer PuttingIn x.serial h) (is_out_ordered x.serial h)) (is_ended x h) r in
     let t = told-at ps p g s k a h l names f.1 f.0 in
     let m : Bool = world.is_put (in_name n) (sessions.order_at (peer_name ps g) s k (past_told ps h)) && nat_lt a.status 400 in
     or-case (is_answer_to PuttingIn n (oldest (queue g h))) (has_answer PuttingIn n h) (m || world.is_put_accepted (in_name n) (past_told ps h))
-    (λ w. or-left m (world.is_put_accepted (in_name n) (past_told ps h))
+    (λ w. or_left m (world.is_put_accepted (in_name n) (past_told ps h))
     (subst (λ (z : Option tree.Order.Order). (world.is_put (in_name n) z && nat_lt a.status 400) ≡ true) (sym t) (is-made ps n x g a (oldest (queue g h)) (has_answer PuttingIn x.serial h) (is_out_ordered x.serial h) i e w d.0)))
-    (λ w. or-true m (world.is_put_accepted (in_name n) (past_told ps h)) (made-told ps p n x h i e l.1 names f.1 w d.1)) q
+    (λ w. or_right m (world.is_put_accepted (in_name n) (past_told ps h)) (made-told ps p n x h i e l.1 names f.1 w d.1)) q
 made-told ps p n x (Heard g s t ∷ h) i e l names f q r = made-told ps p n x h i e l.1 names f.1 q r
 made-told ps p n x (Ordered g s k o ∷ h) i e l names f q r =
     let r2 : (not (is_kind PuttingIn n o) && is_ended x h) ≡ false = subst (λ (z : ℕ). (not (is_kind PuttingIn z o) && is_ended x h) ≡ false) e r in
     let b = kept-both (is_kind PuttingIn n o) (has_answer PuttingIn n h) (is_ended x h) q r2 in
     made-told ps p n x h i e l.1 names f.1 b.0 b.1
-made-told ps p n x (Accepted c ∷ h) i e l names f q r = made-told ps p n x h i e l.1 names f.1 q (or-falses _ (is_ended x h) r).1
+made-told ps p n x (Accepted c ∷ h) i e l names f q r = made-told ps p n x h i e l.1 names f.1 q (or_parts _ (is_ended x h) r).1
 made-told ps p n x (Refused w ∷ h) i e l names f q r = made-told ps p n x h i e l.1 names f.1 q r
 
 is-gone : (ps : List Peer) (n : ℕ) (o : Option ControllerOrder) → n < 2 ^ 64 → is_answer_to RemovingOut n o ≡ true → world.is_removal (out_name n) (option_map (order_told ps) o) ≡ true
@@ -313,9 +310,9 @@ left-told ps p n (Answered g s k a ∷ h) i l names f q =
     let t = told-at ps p g s k a h l names f.1 f.0 in
     let m : Bool = world.is_removal (out_name n) (sessions.order_at (peer_name ps g) s k (past_told ps h)) in
     or-case (is_answer_to RemovingOut n (oldest (queue g h))) (has_answer RemovingOut n h) (m || world.is_removal_answered (out_name n) (past_told ps h))
-    (λ w. or-left m (world.is_removal_answered (out_name n) (past_told ps h))
+    (λ w. or_left m (world.is_removal_answered (out_name n) (past_told ps h))
     (subst (λ (z : Option tree.Order.Order). world.is_removal (out_name n) z ≡ true) (sym t) (is-gone ps n (oldest (queue g h)) i w)))
-    (λ w. or-true m (world.is_removal_answered (out_name n) (past_told ps h)) (left-told ps p n h i l.1 names f.1 w)) q
+    (λ w. or_right m (world.is_removal_answered (out_name n) (past_told ps h)) (left-told ps p n h i l.1 names f.1 w)) q
 left-told ps p n (Heard g s t ∷ h) i l names f q = left-told ps p n h i l.1 names f.1 q
 left-told ps p n (Ordered g s k o ∷ h) i l names f q = left-told ps p n h i l.1 names f.1 (heard-kept (is_kind PuttingIn n o) (has_answer RemovingOut n h) q)
 left-told ps p n (Accepted c ∷ h) i l names f q = left-told ps p n h i l.1 names f.1 q

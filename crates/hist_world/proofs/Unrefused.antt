@@ -1,5 +1,6 @@
 -- No put of a history is refused.
 use Rattle.std.proofs.Common.{◌≡◌, ℕ, ◌+◌, ◌≤◌, Bool, true, false, nat_lt, max, length, List, [], ◌∷◌, ◌++◌, Option, Some, None, refl, sym, ◌∙◌, ap, subst, append-nil, if◌then◌else◌}
+use Rattle.std.proofs.lemmas.Bool.{and_from}
 use Rattle.std.specs.Prelude.{find}
 use Rattle.std.specs.List.{list_all}
 use Rattle.std.specs.Str.{bytes_eq}
@@ -26,7 +27,7 @@ use Rattle.hist_controller.specs.Halves.{PlainAnswers}
 use Rattle.hist_controller.specs.Past.{left}
 use Rattle.hist_controller.specs.Told.{all_told, told}
 use Rattle.hist_controller.proofs.Few.{few-left}
-use Rattle.hist_safety.proofs.Basics.{no, both, both-left, both-right}
+use Rattle.hist_safety.proofs.Basics.{no, both-left, both-right}
 use Rattle.hist_world.specs.Arrivals.{is_forged}
 use Rattle.hist_world.specs.Block.{Past, Shows, arrival_of, arrives_at, at_gateway, block, boots, by_arrival, controller_acts, gateway_acts, gateway_at, handles_at, history, looks, nothing, past_after, raised, took, unless_forged, with_peer, is_forged_event}
 use Rattle.hist_world.specs.Events.{AreEventsOf}
@@ -59,7 +60,7 @@ silent-made h (a ∷ xs) e m = silent-made (a ∷ h) xs (both-right (is_silent a
 
 joined : (xs ys : List Act) → are_silent xs ≡ true → are_silent ys ≡ true → are_silent (xs ++ ys) ≡ true
 joined [] ys p q = q
-joined (a ∷ xs) ys p q = both (is_silent a) (are_silent (xs ++ ys)) (both-left (is_silent a) (are_silent xs) p) (joined xs ys (both-right (is_silent a) (are_silent xs) p) q)
+joined (a ∷ xs) ys p q = and_from (is_silent a) (are_silent (xs ++ ys)) (both-left (is_silent a) (are_silent xs) p) (joined xs ys (both-right (is_silent a) (are_silent xs) p) q)
 
 follower-silent : (a : Act) → is_follower a ≡ true → is_silent a ≡ true
 follower-silent (acts.Handled f s k a) e = absurd (no e)
@@ -68,7 +69,7 @@ follower-silent a e = refl
 followers-silent : (xs : List Act) → are_followers xs ≡ true → are_silent xs ≡ true
 followers-silent [] e = refl
 followers-silent (a ∷ xs) e =
-    both (is_silent a) (are_silent xs) (follower-silent a (both-left (is_follower a) (are_followers xs) e)) (followers-silent xs (both-right (is_follower a) (are_followers xs) e))
+    and_from (is_silent a) (are_silent xs) (follower-silent a (both-left (is_follower a) (are_followers xs) e)) (followers-silent xs (both-right (is_follower a) (are_followers xs) e))
 
 let-silent : (g : List ℕ) (a : Act) → LetAnswer g a → is_silent a ≡ true
 let-silent g (acts.Handled f s k a) e = absurd e
@@ -79,7 +80,7 @@ arrive-silent g (acts.Handled f s k a) e = absurd e
 arrive-silent g a e = refl
 
 shaped-silent : (ok : Act → Type 0) (xs : List Act) → ((a : Act) → ok a → is_silent a ≡ true) → Shaped ok xs → are_silent xs ≡ true
-shaped-silent ok xs f s = ap are_silent s.parts ∙ both (is_silent s.first) (are_silent s.rest) (f s.first s.fits) (followers-silent s.rest s.follow)
+shaped-silent ok xs f s = ap are_silent s.parts ∙ and_from (is_silent s.first) (are_silent s.rest) (f s.first s.fits) (followers-silent s.rest s.follow)
 
 lets-silent : (o : List ℕ) (w : List Act) (c : Option node.Gateway) → are_silent (at_gateway w (node.Let o) c) ≡ true
 lets-silent o w None = refl

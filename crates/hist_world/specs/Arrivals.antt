@@ -9,9 +9,10 @@ use Rattle.esp_frame.specs.Open.{opened}
 use Rattle.replay_win.specs.declared.verdict.Verdict.{Verdict}
 use Rattle.replay_win.specs.declared.verdict.Verdict.TheVariants.{Fresh}
 use Rattle.replay_win.specs.Marks.{verdict_over}
+use Rattle.ikeless_tree.specs.Half.{other_half}
 use Rattle.hist_acts.specs.declared.act.Act.{Act}
 use Rattle.hist_acts.specs.declared.act.Act.TheVariants as acts
-use Rattle.hist_halves.specs.Sealed.{by_spi, number_of, other_half}
+use Rattle.hist_halves.specs.Sealed.{by_spi, number_of}
 use Rattle.hist_halves.specs.Halves.{is_sealed, live, numbers_taken}
 use Rattle.hist_gateway.specs.Arrive.{is_sealed_for}
 

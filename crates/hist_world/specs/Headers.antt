@@ -1,6 +1,6 @@
 -- The headers that a script can have: gateways with names and addresses of their own, of one family.
 use Rattle.std.specs.Prelude.{ℕ, ◌<◌, ◌^◌, length}
-use Rattle.ip_packet.specs.Outer.{AreOneFamily}
+use Rattle.ikl_base.specs.Address.{AreOneFamily}
 use Rattle.hist_acts.specs.declared.event.Header.{Header}
 use Rattle.hist_controller.specs.Told.{Named, peer_address}
 
