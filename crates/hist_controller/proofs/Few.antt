@@ -7,6 +7,7 @@ use Rattle.hist_controller.specs.Past.{oldest, queue, is_read, directions, new_w
 use Rattle.hist_controller.specs.Law.{has_tunnel, is_none, is_counted, tunnels}
 use Rattle.hist_controller.specs.Clauses.{Has, MayOrder, IsControllerPast, MayOrderInPut}
 use Rattle.hist_controller.specs.Halves.{PlainAnswers, is_at_gateway, half_count}
+use Rattle.hist_controller.specs.Left.{Ascend}
 use Rattle.hist_controller.proofs.Lists.{length-more}
 use Rattle.hist_controller.proofs.KeptState.{rising, made-no}
 use Rattle.hist_controller.proofs.Serials.{has-more, has-filter, put-one, put-serial, of-way, low, one-way, upto}
@@ -14,58 +15,54 @@ use Rattle.hist_controller.proofs.Befores.{any-yes}
 use Rattle.hist_controller.proofs.Removed.{neither}
 use Rattle.hist_controller.proofs.Accepts.{tunnel-passes}
 use Rattle.hist_controller.proofs.Homes.{own-way}
-use Rattle.hist_controller.proofs.Waits.{Waits, waits}
+use Rattle.hist_controller.proofs.Waits.{Awaited, awaited, Waits, waits}
 
--- ## serials climb
+-- ## serials ascend
 
-abbrev Climbs : List Association → Type 0
-Climbs [] = Unit {0}
-Climbs (x ∷ xs) = ((y : Association) → Has y xs → x.serial < y.serial) × Climbs xs
+ascend-keep : (q : Association → Bool) (x : Association) (xs : List Association) (b : Bool) → ((y : Association) → Has y xs → x.serial < y.serial) → Ascend (filter q xs) → Ascend (if b then x ∷ filter q xs else filter q xs)
+ascend-keep q x xs true f c = (λ y i. f y (has-filter q y xs i), c)
+ascend-keep q x xs false f c = c
 
-climbs-keep : (q : Association → Bool) (x : Association) (xs : List Association) (b : Bool) → ((y : Association) → Has y xs → x.serial < y.serial) → Climbs (filter q xs) → Climbs (if b then x ∷ filter q xs else filter q xs)
-climbs-keep q x xs true f c = (λ y i. f y (has-filter q y xs i), c)
-climbs-keep q x xs false f c = c
+ascend-filter : (q : Association → Bool) (xs : List Association) → Ascend xs → Ascend (filter q xs)
+ascend-filter q [] c = c
+ascend-filter q (x ∷ xs) c = ascend-keep q x xs (q x) c.0 (ascend-filter q xs c.1)
 
-climbs-filter : (q : Association → Bool) (xs : List Association) → Climbs xs → Climbs (filter q xs)
-climbs-filter q [] c = c
-climbs-filter q (x ∷ xs) c = climbs-keep q x xs (q x) c.0 (climbs-filter q xs c.1)
-
-climbs-more : (xs ys : List Association) → Climbs xs → Climbs ys → ((x y : Association) → Has x xs → Has y ys → x.serial < y.serial) → Climbs (xs ++ ys)
-climbs-more [] ys c d f = d
-climbs-more (x ∷ xs) ys c d f = (λ y i. both y (has-more y xs ys i), climbs-more xs ys c.1 d (λ z y i j. f z y (inr i) j))
+ascend-more : (xs ys : List Association) → Ascend xs → Ascend ys → ((x y : Association) → Has x xs → Has y ys → x.serial < y.serial) → Ascend (xs ++ ys)
+ascend-more [] ys c d f = d
+ascend-more (x ∷ xs) ys c d f = (λ y i. both y (has-more y xs ys i), ascend-more xs ys c.1 d (λ z y i j. f z y (inr i) j))
   where
     both : (y : Association) → Has y xs ⊎ Has y ys → x.serial < y.serial
     both y (inl i) = c.0 y i
     both y (inr j) = f x y (inl refl) j
 
-climbs-if : (b : Bool) (xs : List Association) → Climbs xs → Climbs (if b then [] else xs)
-climbs-if true xs c = tt
-climbs-if false xs c = c
+ascend-if : (b : Bool) (xs : List Association) → Ascend xs → Ascend (if b then [] else xs)
+ascend-if true xs c = tt
+ascend-if false xs c = c
 
-climbs-one : (b : Bool) (x : Association) → Climbs (if b then x ∷ [] else [])
-climbs-one true x = (λ y i. absurd i, tt)
-climbs-one false x = tt
+ascend-one : (b : Bool) (x : Association) → Ascend (if b then x ∷ [] else [])
+ascend-one true x = (λ y i. absurd i, tt)
+ascend-one false x = tt
 
-climbs-put : (d : Way) (o : ControllerOrder) → Climbs (inbound_put d o)
-climbs-put d Read = tt
-climbs-put d (Policy l) = tt
-climbs-put d (PutIn x) = climbs-one (d.id == x.way.id) x
-climbs-put d (PutOut x) = tt
-climbs-put d (RemoveIn n) = tt
-climbs-put d (RemoveOut n) = tt
+ascend-put : (d : Way) (o : ControllerOrder) → Ascend (inbound_put d o)
+ascend-put d Read = tt
+ascend-put d (Policy l) = tt
+ascend-put d (PutIn x) = ascend-one (d.id == x.way.id) x
+ascend-put d (PutOut x) = tt
+ascend-put d (RemoveIn n) = tt
+ascend-put d (RemoveOut n) = tt
 
-climbs : (p : ℕ) (h : List ControllerAct) → IsControllerPast p h → (d : Way) → Climbs (left d h)
-climbs p [] l d = tt
-climbs p (Opened g s ∷ h) l d = climbs p h l.1 d
-climbs p (Cut g s ∷ h) l d = climbs p h l.1 d
-climbs p (Answered g s n a ∷ h) l d = climbs-filter (λ x. not (is_answer_to RemovingIn x.serial (oldest (queue g h)))) (left d h) (climbs p h l.1 d)
-climbs p (Heard g s t ∷ h) l d = climbs p h l.1 d
-climbs p (Ordered g s n o ∷ h) l d = climbs-more (left d h) (inbound_put d o) (climbs p h l.1 d) (climbs-put d o) (λ x y i j.
+pub ascend : (p : ℕ) (h : List ControllerAct) → IsControllerPast p h → (d : Way) → Ascend (left d h)
+ascend p [] l d = tt
+ascend p (Opened g s ∷ h) l d = ascend p h l.1 d
+ascend p (Cut g s ∷ h) l d = ascend p h l.1 d
+ascend p (Answered g s n a ∷ h) l d = ascend-filter (λ x. not (is_answer_to RemovingIn x.serial (oldest (queue g h)))) (left d h) (ascend p h l.1 d)
+ascend p (Heard g s t ∷ h) l d = ascend p h l.1 d
+ascend p (Ordered g s n o ∷ h) l d = ascend-more (left d h) (inbound_put d o) (ascend p h l.1 d) (ascend-put d o) (λ x y i j.
     let a = low p h l.1 d x i in
     let b = put-serial h g o y l.0.3 (put-one d y o j).0 in
     omega arith)
-climbs p (Accepted c ∷ h) l d = climbs-if (is_made_by c (length (directions h)) d) (left d h) (climbs p h l.1 d)
-climbs p (Refused w ∷ h) l d = climbs p h l.1 d
+ascend p (Accepted c ∷ h) l d = ascend-if (is_made_by c (length (directions h)) d) (left d h) (ascend p h l.1 d)
+ascend p (Refused w ∷ h) l d = ascend p h l.1 d
 
 -- ## one at most where a new one is put
 
@@ -93,12 +90,15 @@ busy-there h d x g o y i (inl e) f = any-yes (is_own d (left d h)) (queue d.send
 busy-there h d x g o y i (inr e) f = any-yes (is_own d (left d h)) (queue d.receiver h) o (subst (λ z. Has o (queue z h)) e i) y (neither (list_any (is_own d (left d h)) (queue d.sender h)) (list_any (is_own d (left d h)) (queue d.receiver h)) f).1
 
 -- where a new one is put, each that is left is not ended and was put whole
-settled : (p : ℕ) (h : List ControllerAct) → IsControllerPast p h → Waits h → (g : ℕ) (z : Association) → MayOrderInPut h g z → (x : Association) → Has x (left z.way h) → (is_ended x h ≡ false) × (has_answer PuttingOut x.serial h ≡ true)
-settled p h l k g z m x i =
+pub settled : (p : ℕ) (h : List ControllerAct) → IsControllerPast p h → (g : ℕ) (z : Association) → MayOrderInPut h g z → (x : Association) → Has x (left z.way h) → (is_ended x h ≡ false) × (has_answer PuttingOut x.serial h ≡ true)
+settled p h l g z m x i =
     let r = ready-both (is_owed z.way h) (is_read z.way.sender h) (is_read z.way.receiver h) m.may in
     let e = not-over (is_ended x h) (is_out_ordered x.serial h) (has_answer RemovingOut x.serial h) (is_read z.way.sender h) (is_read z.way.receiver h) r.0 r.1 (m.no_out_remove x i) (m.no_in_remove x i) in
     (e, answered (has_answer PuttingOut x.serial h) refl r e)
   where
+    k : Awaited h
+    k = awaited p h l
+
     own : z.way ≡ x.way
     own = own-way p h l z.way x m.of i
 
@@ -115,15 +115,15 @@ settled p h l k g z m x i =
       | inr t ↦ waits-in e t
     ])
 
-single : (xs : List Association) → Climbs xs → ((x y : Association) → Has x xs → Has y xs → x.serial < y.serial → ⊥) → length xs ≤ 1
+single : (xs : List Association) → Ascend xs → ((x y : Association) → Has x xs → Has y xs → x.serial < y.serial → ⊥) → length xs ≤ 1
 single [] c f = omega arith
 single (x ∷ []) c f = omega arith
 single (x ∷ y ∷ xs) c f = absurd (f x y (inl refl) (inr (inl refl)) (c.0 y (inl refl)))
 
-one-left : (p : ℕ) (h : List ControllerAct) → IsControllerPast p h → Waits h → (g : ℕ) (z : Association) → MayOrderInPut h g z → length (left z.way h) ≤ 1
-one-left p h l k g z m = single (left z.way h) (climbs p h l z.way) (λ x y i j e.
-    let a = settled p h l k g z m x i in
-    let b = settled p h l k g z m y j in
+pub one-left : (p : ℕ) (h : List ControllerAct) → IsControllerPast p h → Waits h → (g : ℕ) (z : Association) → MayOrderInPut h g z → length (left z.way h) ≤ 1
+one-left p h l k g z m = single (left z.way h) (ascend p h l z.way) (λ x y i j e.
+    let a = settled p h l g z m x i in
+    let b = settled p h l g z m y j in
     let r = k.replaced z.way x y i j e b.1 b.0 in
     let u : true ≡ false = sym r ∙ a.0 in
     cc)
@@ -139,7 +139,7 @@ filter-length q (x ∷ xs) = kept (q x) (filter-length q xs)
     kept false e = grind arith
 
 -- what is left hangs on the id alone
-left-by-id : (h : List ControllerAct) (d e : Way) → d.id ≡ e.id → left d h ≡ left e h
+pub left-by-id : (h : List ControllerAct) (d e : Way) → d.id ≡ e.id → left d h ≡ left e h
 left-by-id [] d e q = refl
 left-by-id (Opened g s ∷ h) d e q = left-by-id h d e q
 left-by-id (Cut g s ∷ h) d e q = left-by-id h d e q

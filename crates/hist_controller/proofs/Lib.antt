@@ -28,3 +28,4 @@ pub mod WaitingOrders
 pub mod Choices
 pub mod OwnCauses
 pub mod WaitsFor
+pub mod Left

@@ -75,7 +75,7 @@ new-waits : (h : List ControllerAct) (g f s n : ℕ) (z : ControllerOrder) → f
 new-waits h g f s n z e = let b : (f == g) ≡ true = grind arith in rw b (last-has (queue f h) z)
 
 -- what waits was given
-queue-given : (h : List ControllerAct) (g : ℕ) (o : ControllerOrder) → Has o (queue g h) → WasOrdered o g h
+pub queue-given : (h : List ControllerAct) (g : ℕ) (o : ControllerOrder) → Has o (queue g h) → WasOrdered o g h
 queue-given [] g o i = i
 queue-given (Opened f s ∷ h) g o i = queue-given h g o (has-none (g == f) (queue g h) o i)
 queue-given (Cut f s ∷ h) g o i = queue-given h g o (has-none (g == f) (queue g h) o i)

@@ -14,3 +14,4 @@ pub mod Table
 pub mod Choice
 pub mod Causes
 pub mod Waiting
+pub mod Left
