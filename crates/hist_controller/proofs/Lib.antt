@@ -29,3 +29,4 @@ pub mod Choices
 pub mod OwnCauses
 pub mod WaitsFor
 pub mod Left
+pub mod KeysInTurn

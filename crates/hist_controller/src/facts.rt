@@ -1,7 +1,8 @@
 // Facts on which what a controller keeps in place of its past can rest: each is the contract of a function with an empty body.
-ghost use Rattle.std.specs.Prelude.{◌≡◌, ℕ, ◌<◌, ◌≤◌, true, List, ◌++◌, length};
+ghost use Rattle.std.specs.Prelude.{◌≡◌, ℕ, ◌+◌, ◌-◌, ◌<◌, ◌≤◌, true, List, ◌++◌, Some, ◌⊎◌, length, drop};
 ghost use Rattle.hist_controller.specs.Acts.{Way, Association, ControllerAct};
-ghost use Rattle.hist_controller.specs.Past.{left, serials, newest_serial, is_in_progress};
+ghost use Rattle.hist_controller.specs.Past.{is_open, orders, answered, queue, is_first_answered, keys, serials, spare, left, newest_serial, is_in_progress};
+ghost use Rattle.hist_controller.specs.Machine.{place};
 ghost use Rattle.hist_controller.specs.Clauses.{Has, IsControllerPast, MayOrderInPut};
 ghost use Rattle.hist_controller.specs.Halves.{PlainAnswers};
 ghost use Rattle.hist_controller.specs.Left.{Ascend, listed, older_left, newest_left};
@@ -17,4 +18,18 @@ pub fn orders_what_is_left()
     ensures one { (p : ℕ) (h : List ControllerAct) → IsControllerPast p h → (d : Way) (x y : Association) → Has x (left d h) → Has y (left d h) → is_in_progress h x ≡ true → is_in_progress h y ≡ true → x ≡ y }
     ensures pair { (p : ℕ) (h : List ControllerAct) → IsControllerPast p h → PlainAnswers h → (d : Way) → left d h ≡ listed (older_left d h) ++ listed (newest_left d h) }
     ensures room { (p : ℕ) (h : List ControllerAct) → IsControllerPast p h → PlainAnswers h → (g : ℕ) (x : Association) → MayOrderInPut h g x → length (left x.way h) ≤ 1 }
+{}
+
+/// Keys are used in the order in which they were accepted: those not used yet are all but the first, of which there are as many
+/// as serials, and the key of an association left is the one whose place its serial is, from 1 to 1,048,576.
+pub fn takes_keys_in_turn()
+    ensures spare { (p : ℕ) (h : List ControllerAct) → IsControllerPast p h → spare h ≡ drop (serials h) (keys h) }
+    ensures key { (p : ℕ) (h : List ControllerAct) → IsControllerPast p h → (d : Way) (x : Association) → Has x (left d h) → place (x.serial - 1) (keys h) ≡ Some x.key }
+    ensures serial { (p : ℕ) (h : List ControllerAct) → IsControllerPast p h → (d : Way) (x : Association) → Has x (left d h) → (0 < x.serial) × (x.serial ≤ 1048576) }
+{}
+
+/// What an open session was given was answered or waits; and its first reading is answered, or nothing yet.
+pub fn counts_what_waits()
+    ensures waiting { (p : ℕ) (h : List ControllerAct) → IsControllerPast p h → (g : ℕ) → is_open g h ≡ true → orders g h ≡ answered g h + length (queue g h) }
+    ensures first { (p : ℕ) (h : List ControllerAct) → IsControllerPast p h → (g : ℕ) → (is_first_answered g h ≡ true) ⊎ (answered g h ≡ 0) }
 {}
