@@ -227,7 +227,7 @@ no-put p h f n l m g = no-put-in (queue g h) n (λ y j. is-not (n == y.serial) (
 second-of-3 : (a b c : Bool) → (a && b && c) ≡ true → b ≡ true
 second-of-3 a b c e = grind arith
 
-third-of-5 : (a b c d e : Bool) → (a && b && c && d && e) ≡ true → c ≡ true
+pub third-of-5 : (a b c d e : Bool) → (a && b && c && d && e) ≡ true → c ≡ true
 third-of-5 a b c d e q = grind arith
 
 pub not-ended : (a b c d e f : Bool) → ((not a && b) && c && d && e && f) ≡ true → a ≡ false

@@ -132,7 +132,7 @@ by-oldest n (PutOut x ∷ q) e = cc
 by-oldest n (RemoveIn m ∷ q) e = let w : n ≡ m = grind arith in inl (ap RemoveIn w)
 by-oldest n (RemoveOut m ∷ q) e = cc
 
-filter-in : {A : Type 0} (p : A → Bool) (x : A) (xs : List A) → Has x xs → p x ≡ true → Has x (filter p xs)
+pub filter-in : {A : Type 0} (p : A → Bool) (x : A) (xs : List A) → Has x xs → p x ≡ true → Has x (filter p xs)
 filter-in p x [] i e = i
 filter-in p x (z ∷ xs) (inl q) e = let w : p z ≡ true = ap p (sym q) ∙ e in rw w (inl q)
 filter-in p x (z ∷ xs) (inr i) e = keep (p z) (filter-in p x xs i e)

@@ -30,3 +30,5 @@ pub mod OwnCauses
 pub mod WaitsFor
 pub mod Left
 pub mod KeysInTurn
+pub mod CountOrders
+pub mod Own

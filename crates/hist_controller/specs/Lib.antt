@@ -15,3 +15,4 @@ pub mod Choice
 pub mod Causes
 pub mod Waiting
 pub mod Left
+pub mod Own

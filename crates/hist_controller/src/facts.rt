@@ -1,11 +1,14 @@
 // Facts on which what a controller keeps in place of its past can rest: each is the contract of a function with an empty body.
 ghost use Rattle.std.specs.Prelude.{◌≡◌, ℕ, ◌+◌, ◌-◌, ◌<◌, ◌≤◌, true, List, ◌++◌, Some, ◌⊎◌, length, drop};
-ghost use Rattle.hist_controller.specs.Acts.{Way, Association, ControllerAct};
-ghost use Rattle.hist_controller.specs.Past.{is_open, orders, answered, queue, is_first_answered, keys, serials, spare, left, newest_serial, is_in_progress};
+ghost use Rattle.hist_controller.specs.Acts.{Way, Association, ControllerOrder, ControllerAct};
+ghost use Rattle.hist_controller.specs.Past.{is_open, orders, answered, queue, is_first_answered, keys, serials, spare, directions, left, newest_serial, is_in_progress, is_own, is_busy};
 ghost use Rattle.hist_controller.specs.Machine.{place};
+ghost use Rattle.hist_controller.specs.State.{association_of};
 ghost use Rattle.hist_controller.specs.Clauses.{Has, IsControllerPast, MayOrderInPut};
 ghost use Rattle.hist_controller.specs.Halves.{PlainAnswers};
 ghost use Rattle.hist_controller.specs.Left.{Ascend, listed, older_left, newest_left};
+ghost use Rattle.hist_controller.specs.Own.{own_orders, waiting_order, is_half_order, OwnWaits, Owner, IsOfLeft, is_in_order};
+ghost use Rattle.std.specs.Option.{is_some};
 
 /// The associations left of a direction ascend by their serials, each of which was given out. None is later than the one put
 /// last, and one that is in progress is that one. Where each put is answered with 201 or refused, they are an older one and
@@ -32,4 +35,18 @@ pub fn takes_keys_in_turn()
 pub fn counts_what_waits()
     ensures waiting { (p : ℕ) (h : List ControllerAct) → IsControllerPast p h → (g : ℕ) → is_open g h ≡ true → orders g h ≡ answered g h + length (queue g h) }
     ensures first { (p : ℕ) (h : List ControllerAct) → IsControllerPast p h → (g : ℕ) → (is_first_answered g h ≡ true) ⊎ (answered g h ≡ 0) }
+{}
+
+/// At most one put or removal of a direction's own waits, over the queues of both its gateways. Each that waits in any queue is
+/// of an association left of one direction, stands at the gateway of this direction that gets it, and says how far the
+/// association has come: an inbound put is not answered, nor anything of the outbound half ordered; an outbound put is not
+/// answered, its inbound one is; a removal is of an ended association, the outbound one before the inbound one. A put that
+/// waits is of the association put last.
+pub fn awaits_one_answer()
+    ensures one { (p : ℕ) (h : List ControllerAct) → IsControllerPast p h → (d : Way) → Has d (directions h) → length (own_orders d h) ≤ 1 }
+    ensures busy { (d : Way) (h : List ControllerAct) → is_busy d h ≡ is_some (waiting_order d h) }
+    ensures owned { (p : ℕ) (h : List ControllerAct) → IsControllerPast p h → (g : ℕ) (o : ControllerOrder) → Has o (queue g h) → is_half_order o ≡ true → Owner h g o }
+    ensures own { (p : ℕ) (h : List ControllerAct) → IsControllerPast p h → (d : Way) → Has d (directions h) → (g : ℕ) (o : ControllerOrder) → Has o (queue g h) → is_own d (left d h) o ≡ true → OwnWaits d h g o }
+    ensures home { (p : ℕ) (h : List ControllerAct) → IsControllerPast p h → (g : ℕ) (o : ControllerOrder) → Has o (queue g h) → IsOfLeft h g o }
+    ensures order { (p : ℕ) (h : List ControllerAct) → IsControllerPast p h → (d : Way) (x : Association) → Has x (left d h) → is_in_order (association_of h x) ≡ true }
 {}
