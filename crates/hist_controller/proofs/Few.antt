@@ -200,7 +200,7 @@ few-left p (Refused w ∷ h) l a d = few-left p h l.1 a d
 
 -- ## tunnels
 
-abbrev Pairs : List Way → Type 0
+abbrev pub Pairs : List Way → Type 0
 Pairs [] = Unit {0}
 Pairs (d ∷ []) = ⊥
 Pairs (d ∷ e ∷ ds) = Pairs ds
@@ -217,7 +217,7 @@ pairs-born n (End r) = tt
 pairs-born n (Rekey r) = tt
 pairs-born n (Keys k) = tt
 
-pairs : (h : List ControllerAct) → Pairs (directions h)
+pub pairs : (h : List ControllerAct) → Pairs (directions h)
 pairs [] = tt
 pairs (Opened g s ∷ h) = pairs h
 pairs (Cut g s ∷ h) = pairs h

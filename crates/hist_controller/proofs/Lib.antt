@@ -32,3 +32,4 @@ pub mod Left
 pub mod KeysInTurn
 pub mod CountOrders
 pub mod Own
+pub mod Spent

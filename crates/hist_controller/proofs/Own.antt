@@ -193,7 +193,7 @@ front p h l c g d x i k t = at (oldest (queue g h)) refl t
 same-id : (m n k : ℕ) → (m == k) ≡ true → (n == k) ≡ true → m ≡ n
 same-id m n k e t = grind arith
 
-equal : (m n : ℕ) → (m == n) ≡ true → m ≡ n
+pub equal : (m n : ℕ) → (m == n) ≡ true → m ≡ n
 equal m n e = grind arith
 
 -- it is no order of the association for which another one waits
@@ -353,10 +353,10 @@ orderly-refused h w c =
       sound = c.sound;
     }
 
-old-made : (h : List ControllerAct) (c : PlacedCommand) (d : Way) → Has d (directions h) → is_made_by c (length (directions h)) d ≡ false
+pub old-made : (h : List ControllerAct) (c : PlacedCommand) (d : Way) → Has d (directions h) → is_made_by c (length (directions h)) d ≡ false
 old-made h c d i = let u = upto 0 (directions h) d (rising h) i in made-no c (length (directions h)) d (omega arith)
 
-new-made : (c : PlacedCommand) (n : ℕ) (d : Way) → Has d (new_ways n c) → (is_made_by c n d ≡ true) × (n ≤ d.id)
+pub new-made : (c : PlacedCommand) (n : ℕ) (d : Way) → Has d (new_ways n c) → (is_made_by c n d ≡ true) × (n ≤ d.id)
 new-made (SetPolicy g l) n d i = absurd i
 new-made (Tunnel t) n d (inl e) = let w : d.id ≡ n = ap (λ (z : Way). z.id) e in (grind arith, omega arith)
 new-made (Tunnel t) n d (inr (inl e)) = let w : d.id ≡ n + 1 = ap (λ (z : Way). z.id) e in (grind arith, omega arith)

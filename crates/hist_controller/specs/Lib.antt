@@ -16,3 +16,4 @@ pub mod Causes
 pub mod Waiting
 pub mod Left
 pub mod Own
+pub mod Spent

@@ -1,10 +1,15 @@
 // Facts on which what a controller keeps in place of its past can rest: each is the contract of a function with an empty body.
-ghost use Rattle.std.specs.Prelude.{◌≡◌, ℕ, ◌+◌, ◌-◌, ◌<◌, ◌≤◌, true, List, ◌++◌, Some, ◌⊎◌, length, drop};
-ghost use Rattle.hist_controller.specs.Acts.{Way, Association, ControllerOrder, ControllerAct};
-ghost use Rattle.hist_controller.specs.Past.{is_open, orders, answered, queue, is_first_answered, keys, serials, spare, directions, left, newest_serial, is_in_progress, is_own, is_busy};
+ghost use Rattle.std.specs.Prelude.{◌≡◌, ℕ, ◌+◌, ◌-◌, ◌<◌, ◌≤◌, true, ◌==◌, ◌&&◌, not, List, ◌∷◌, ◌++◌, Some, ◌⊎◌, length, drop};
+ghost use Rattle.std.specs.List.{list_any};
+ghost use Rattle.ikeless_tree.specs.declared.command.Peer.{Peer};
+ghost use Rattle.hist_acts.specs.Past.{after};
+ghost use Rattle.hist_controller.specs.Acts.{Way, Association, ControllerOrder, ControllerAct, ControllerEvent};
+ghost use Rattle.hist_controller.specs.Past.{is_open, orders, answered, queue, is_first_answered, keys, serials, spare, directions, is_over, left, newest_serial, is_in_progress, is_own, is_busy};
 ghost use Rattle.hist_controller.specs.Machine.{place};
 ghost use Rattle.hist_controller.specs.State.{association_of};
-ghost use Rattle.hist_controller.specs.Clauses.{Has, IsControllerPast, MayOrderInPut};
+ghost use Rattle.hist_controller.specs.Clauses.{Has, IsControllerPast, ControllerMayActAll, MayOrderInPut};
+ghost use Rattle.hist_controller.specs.Law.{pass, has_tunnel, tunnels, block};
+ghost use Rattle.hist_controller.specs.Spent.{is_spent, StaysSpent, Forgets, added_ways, unspent};
 ghost use Rattle.hist_controller.specs.Halves.{PlainAnswers};
 ghost use Rattle.hist_controller.specs.Left.{Ascend, listed, older_left, newest_left};
 ghost use Rattle.hist_controller.specs.Own.{own_orders, waiting_order, is_half_order, OwnWaits, Owner, IsOfLeft, is_in_order};
@@ -49,4 +54,24 @@ pub fn awaits_one_answer()
     ensures own { (p : ℕ) (h : List ControllerAct) → IsControllerPast p h → (d : Way) → Has d (directions h) → (g : ℕ) (o : ControllerOrder) → Has o (queue g h) → is_own d (left d h) o ≡ true → OwnWaits d h g o }
     ensures home { (p : ℕ) (h : List ControllerAct) → IsControllerPast p h → (g : ℕ) (o : ControllerOrder) → Has o (queue g h) → IsOfLeft h g o }
     ensures order { (p : ℕ) (h : List ControllerAct) → IsControllerPast p h → (d : Way) (x : Association) → Has x (left d h) → is_in_order (association_of h x) ≡ true }
+{}
+
+/// A direction that is over and has nothing left stays so whatever happens: no order of it waits, and it is given none. So
+/// tunnels of which both directions are such may be forgotten at any time: the pass over the others is the pass over all, they
+/// have the same count of tunnels, and a reqid is in use among them where it is in use at all.
+pub fn forgets_what_is_spent()
+    ensures ever { (p : ℕ) (h xs : List ControllerAct) → IsControllerPast p h → ControllerMayActAll p h xs → (d : Way) → Has d (directions h) → is_spent d h ≡ true → StaysSpent d (after h xs) }
+    ensures none { (h : List ControllerAct) → Forgets h (directions h) (directions h) }
+    ensures more { (h : List ControllerAct) (ds ks : List Way) → Forgets h ds ks → Forgets h ds (unspent h ks) }
+    ensures act { (p : ℕ) (h : List ControllerAct) (a : ControllerAct) → IsControllerPast p (a ∷ h) → (ks : List Way) → Forgets h (directions h) ks → Forgets (a ∷ h) (directions (a ∷ h)) (ks ++ added_ways h a) }
+    ensures pass { (p : ℕ) (h : List ControllerAct) → IsControllerPast p h → (ks : List Way) → Forgets h (directions h) ks → pass h (directions h) ≡ pass h ks }
+    ensures tunnels { (h : List ControllerAct) (ds ks : List Way) → Forgets h ds ks → tunnels h ds ≡ tunnels h ks }
+    ensures has { (r : ℕ) (h : List ControllerAct) (ks : List Way) → Forgets h (directions h) ks → has_tunnel r h ≡ list_any (λ (d : Way). (d.tunnel.reqid == r) && not (is_over d h)) ks }
+{}
+
+/// The pass gives each direction one order at most, and a block has at most 2,051 acts: its own, two that belong to no
+/// direction, and one for each direction of a tunnel that counts.
+pub fn has_short_blocks()
+    ensures pass { (h : List ControllerAct) (ds : List Way) → length (pass h ds) ≤ length ds }
+    ensures block { (ps : List Peer) (h : List ControllerAct) (e : ControllerEvent) → IsControllerPast (length ps) h → length (block ps h e) ≤ 2051 }
 {}

@@ -5,7 +5,10 @@
 mod facts;
 mod laws;
 
-pub use facts::{awaits_one_answer, counts_what_waits, orders_what_is_left, takes_keys_in_turn};
+pub use facts::{
+    awaits_one_answer, counts_what_waits, forgets_what_is_spent, has_short_blocks,
+    orders_what_is_left, takes_keys_in_turn,
+};
 pub use laws::{
     accepts_fresh_keys, each_put_has_its_cause, fits_a_table, follows_the_clauses, has_few_halves,
     has_homes, is_never_idle, keeps, knows_its_gateways, leaves_no_choice, names_differ,
