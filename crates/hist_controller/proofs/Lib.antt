@@ -33,3 +33,4 @@ pub mod KeysInTurn
 pub mod CountOrders
 pub mod Own
 pub mod Spent
+pub mod Ends

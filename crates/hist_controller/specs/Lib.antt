@@ -17,3 +17,4 @@ pub mod Waiting
 pub mod Left
 pub mod Own
 pub mod Spent
+pub mod Ends

@@ -10,13 +10,14 @@ ghost use Rattle.ikeless_tree.specs.declared.command.Peer.{Peer};
 ghost use Rattle.ikeless_tree.specs.declared.order.Answer.{Answer};
 ghost use Rattle.hist_controller.specs.Acts.{Way, Association, ControllerOrder, PutIn, PutOut, RemoveIn, RemoveOut, ControllerAct, Answered, Cut, Ordered, Accepted, PlacedCommand, ControllerEvent};
 ghost use Rattle.hist_acts.specs.Past.{after};
-ghost use Rattle.hist_controller.specs.Past.{is_open, openings, orders, answered, is_read, directions, keys, serials, queue, oldest, is_in_progress, left, is_unseen, is_ended, is_made_by, is_over, is_owed, is_start, is_wanted, has_answer, PuttingIn, PuttingOut, RemovingIn, RemovingOut};
+ghost use Rattle.hist_controller.specs.Past.{is_open, openings, orders, answered, is_read, directions, keys, serials, queue, oldest, is_in_progress, left, is_unseen, is_ended, is_made_by, is_over, is_owed, is_start, is_wanted, has_answer, PuttingIn, PuttingOut, RemovingIn, RemovingOut, newest_serial};
 ghost use Rattle.hist_controller.specs.State.{state_of, did};
 ghost use Rattle.hist_controller.specs.Machine.{acts_of, next, run, place};
 ghost use Rattle.hist_controller.specs.Law.{peer_number, tunnels, block, history, event_refusal, one_or_none, refusals_in};
 ghost use Rattle.hist_controller.specs.Clauses.{Has, IsControllerPast, ControllerMayActAll, NotIdle};
 ghost use Rattle.hist_controller.specs.Causes.{CauseAmong, CauseStands, WasEnded};
 ghost use Rattle.hist_controller.specs.Choice.{IsBlock};
+ghost use Rattle.hist_controller.specs.Ends.{WasEndedBy, WasPutLast};
 ghost use Rattle.hist_controller.specs.Counts.{times, times_at, times_now, in_puts, out_puts, cause_count, KeysRight, ListsRight};
 ghost use Rattle.hist_controller.specs.Halves.{PlainAnswers, half_count};
 ghost use Rattle.hist_controller.specs.Numbers.{numbered};
@@ -159,8 +160,10 @@ pub fn has_few_halves()
 /// While a session is open the orders that wait are those of its numbers after the answered ones, and else none waits. An
 /// association is left exactly where its inbound half was ordered put and no removal of that was answered. A direction wants an
 /// association exactly where a cause of it stands since its command and its last inbound put, and its tunnel is over exactly
-/// where an end of it was accepted after its command. The causes that speak of the associations left say the same of all that
-/// were ever put.
+/// where an end of it was accepted after its command; it is owed one where it is wanted and not over. An association is ended
+/// exactly where an act that ends it stands since its inbound put was ordered, and the newest serial of a direction is that of the
+/// association put last in it since its command. The causes that speak of the associations left say the same of all that were ever
+/// put.
 pub fn reads_plainly()
     ensures waiting { (p : ℕ) (h : List ControllerAct) → IsControllerPast p h → (g : ℕ) → is_open g h ≡ true → (j : ℕ) → place j (queue g h) ≡ numbered g (openings g h) (answered g h + 1 + j) h }
     ensures shut { (p : ℕ) (h : List ControllerAct) (g : ℕ) → IsControllerPast p h → is_open g h ≡ false → queue g h ≡ [] }
@@ -170,6 +173,12 @@ pub fn reads_plainly()
     ensures stands { (d : Way) (h : List ControllerAct) → CauseStands d h → is_wanted d h ≡ true }
     ensures over { (d : Way) (h : List ControllerAct) → Has d (directions h) → is_over d h ≡ true → WasEnded d h }
     ensures ended { (d : Way) (h : List ControllerAct) → WasEnded d h → is_over d h ≡ true }
+    ensures owed { (d : Way) (h : List ControllerAct) → is_owed d h ≡ true → CauseStands d h × (WasEnded d h → ⊥) }
+    ensures owes { (d : Way) (h : List ControllerAct) → Has d (directions h) → CauseStands d h → (WasEnded d h → ⊥) → is_owed d h ≡ true }
+    ensures ended_by { (x : Association) (h : List ControllerAct) → is_ended x h ≡ true → WasEndedBy x h }
+    ensures ends { (x : Association) (h : List ControllerAct) → WasEndedBy x h → is_ended x h ≡ true }
+    ensures newest { (d : Way) (h : List ControllerAct) → 0 < newest_serial d h → (x : Association) × WasPutLast d x h × (newest_serial d h ≡ x.serial) }
+    ensures last { (d : Way) (x : Association) (h : List ControllerAct) → WasPutLast d x h → newest_serial d h ≡ x.serial }
     ensures number { (p g s n : ℕ) (a : Answer) (h : List ControllerAct) → IsControllerPast p (Answered g s n a ∷ h) → numbered g s n h ≡ oldest (queue g h) }
     ensures progress { (n : ℕ) (h : List ControllerAct) → IsControllerPast n h → (d : Way) → list_any (is_in_progress h) (made d h) ≡ list_any (is_in_progress h) (left d h) }
     ensures reading { (n : ℕ) (h : List ControllerAct) → IsControllerPast n h → (d : Way) (g : ℕ) (names : List (List ℕ)) → list_any (is_unseen h d g names) (made d h) ≡ list_any (is_unseen h d g names) (left d h) }

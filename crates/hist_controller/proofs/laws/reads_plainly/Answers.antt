@@ -3,6 +3,7 @@ use Rattle.hist_controller.proofs.Waits.{shut-queue}
 use Rattle.hist_controller.proofs.WaitsFor.{queue-numbered, left-stood, stood-left}
 use Rattle.hist_controller.proofs.Readings.{answers-number}
 use Rattle.hist_controller.proofs.Everything.{progress-all, lacks-all}
+use Rattle.hist_controller.proofs.Ends.{ended-by, by-ended, newest-put, put-newest, owed-stands, stands-owed}
 use Rattle.hist_controller.proofs.laws.reads_plainly.Goals as goal
 
 pub returns-clause-number : goal.returns-clause-number
@@ -37,3 +38,21 @@ returns-clause-over c = over-ended
 
 pub returns-clause-ended : goal.returns-clause-ended
 returns-clause-ended c = ended-over
+
+pub returns-clause-owed : goal.returns-clause-owed
+returns-clause-owed c = owed-stands
+
+pub returns-clause-owes : goal.returns-clause-owes
+returns-clause-owes c = stands-owed
+
+pub returns-clause-ended_by : goal.returns-clause-ended_by
+returns-clause-ended_by c = ended-by
+
+pub returns-clause-ends : goal.returns-clause-ends
+returns-clause-ends c = by-ended
+
+pub returns-clause-newest : goal.returns-clause-newest
+returns-clause-newest c = newest-put
+
+pub returns-clause-last : goal.returns-clause-last
+returns-clause-last c = put-newest
