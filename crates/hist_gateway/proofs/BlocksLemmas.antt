@@ -115,7 +115,7 @@ let-is g o q h = out-view g o q (acts.Let g o ∷ h) (view_of o)
 -- ---- a datagram from outside
 
 -- the acts after which a half is looked at
-abbrev UseAct : List ℕ → SadEntry → ℕ → Act → Type 0
+abbrev pub UseAct : List ℕ → SadEntry → ℕ → Act → Type 0
 UseAct g e n a = ((p : List ℕ) × (a ≡ acts.Gave g e.name n p)) ⊎ ((w : DropWhy) × (a ≡ acts.Drop g w) × (is_opened w ≡ true))
 
 look-after : (g o : List ℕ) (h : List Act) (e : SadEntry) (n : ℕ) (a : Act) → sessions.session_taken g (a ∷ h) ≡ sessions.session_taken g h → clock (a ∷ h) ≡ clock h →
@@ -167,7 +167,7 @@ use-dummy : (g : List ℕ) (e : SadEntry) (n : ℕ) (p : esp.InnerPacket) (b : B
 use-dummy g e n p true = inr (why.Dummy, refl, refl)
 use-dummy g e n p false = use-inner g p.octets e n p.next (view_of p.octets)
 
-use-packet : (g : List ℕ) (e : SadEntry) (n : ℕ) (p : Option esp.InnerPacket) → UseAct g e n (arrive.by_packet g e n p)
+pub use-packet : (g : List ℕ) (e : SadEntry) (n : ℕ) (p : Option esp.InnerPacket) → UseAct g e n (arrive.by_packet g e n p)
 use-packet g e n None = inr (why.Padding, refl, refl)
 use-packet g e n (Some p) = use-dummy g e n p (p.next == 59)
 

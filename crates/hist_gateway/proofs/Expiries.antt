@@ -36,7 +36,7 @@ goes-quiet : (p : Act → Bool) (g : List ℕ) (e : SadEntry) (rest : List Act) 
 goes-quiet p g e rest q true = ap (λ z. z || list_any p rest) q
 goes-quiet p g e rest q false = refl
 
-goings-quiet : (p : Act → Bool) (g : List ℕ) (h : List Act) → ((e : SadEntry) → p (acts.Gone g e.name gone.Hard) ≡ false) → (es : List SadEntry) → list_any p (goings g h es) ≡ false
+pub goings-quiet : (p : Act → Bool) (g : List ℕ) (h : List Act) → ((e : SadEntry) → p (acts.Gone g e.name gone.Hard) ≡ false) → (es : List SadEntry) → list_any p (goings g h es) ≡ false
 goings-quiet p g h q [] = refl
 goings-quiet p g h q (e ∷ es) = goes-quiet p g e (goings g h es) (q e) (is_reached e.hard (counts g e.name h)) ∙ goings-quiet p g h q es
 
@@ -89,7 +89,7 @@ look-hard g x h es = list_any-append (is_hard_expiry x) (goings g h es) (expirie
 pub look-soft : (g x : List ℕ) (h : List Act) (es : List SadEntry) → list_any (is_soft_expiry x) (look g h es) ≡ list_any (reaches_soft g h x) es
 look-soft g x h es = list_any-append (is_soft_expiry x) (goings g h es) (expiries g h es) ∙ (ap (λ z. z || list_any (is_soft_expiry x) (expiries g h es)) (goings-quiet (is_soft_expiry x) g h (λ e. refl) es) ∙ expiries-soft g x h es)
 
-clock-if : (p : Act → Bool) (g : List ℕ) (h : List Act) (r b : Bool) → list_any p (look g h (live g h)) ≡ r → list_any p (clock_acts g h b) ≡ (b && r)
+pub clock-if : (p : Act → Bool) (g : List ℕ) (h : List Act) (r b : Bool) → list_any p (look g h (live g h)) ≡ r → list_any p (clock_acts g h b) ≡ (b && r)
 clock-if p g h r true e = e
 clock-if p g h r false e = refl
 

@@ -12,6 +12,11 @@ pub mod TreeLemmas
 pub mod SessionsLemmas
 pub mod OwnLemmas
 pub mod Expiries
+pub mod Notices
+pub mod Reached
+pub mod Since
+pub mod Statuses
+pub mod ShownRoom
 pub mod PlacesLemmas
 pub mod BetweenLemmas
 pub mod LooksLemmas

@@ -46,25 +46,25 @@ use Rattle.hist_gateway.specs.Block.{Gateway, GatewayEvent, Let, Arrive, Clock, 
 abbrev a : List ℕ
 a = codes "a"
 
-abbrev b : List ℕ
+abbrev pub b : List ℕ
 b = codes "b"
 
-abbrev address_a : Addr
+abbrev pub address_a : Addr
 address_a = V4 (192 ∷ 0 ∷ 2 ∷ 1 ∷ [])
 
-abbrev address_b : Addr
+abbrev pub address_b : Addr
 address_b = V4 (198 ∷ 51 ∷ 100 ∷ 1 ∷ [])
 
 abbrev gateway_a : Gateway
 gateway_a = record { name = a; address = address_a; seq_last = 3 }
 
-abbrev gateway_b : Gateway
+abbrev pub gateway_b : Gateway
 gateway_b = record { name = b; address = address_b; seq_last = 4294967295 }
 
-abbrev first_site : Prefix
+abbrev pub first_site : Prefix
 first_site = record { addr = V6 (32 ∷ 1 ∷ 13 ∷ 184 ∷ 0 ∷ 1 ∷ 0 ∷ 0 ∷ 0 ∷ 0 ∷ 0 ∷ 0 ∷ 0 ∷ 0 ∷ 0 ∷ 0 ∷ []); len = 48; in_range = omega arith; cleared = refl }
 
-abbrev second_site : Prefix
+abbrev pub second_site : Prefix
 second_site = record { addr = V6 (32 ∷ 1 ∷ 13 ∷ 184 ∷ 0 ∷ 2 ∷ 0 ∷ 0 ∷ 0 ∷ 0 ∷ 0 ∷ 0 ∷ 0 ∷ 0 ∷ 0 ∷ 0 ∷ []); len = 48; in_range = omega arith; cleared = refl }
 
 abbrev ten_one : Prefix
@@ -73,16 +73,16 @@ ten_one = record { addr = V4 (10 ∷ 1 ∷ 0 ∷ 0 ∷ []); len = 16; in_range =
 abbrev ten_two : Prefix
 ten_two = record { addr = V4 (10 ∷ 2 ∷ 0 ∷ 0 ∷ []); len = 16; in_range = omega arith; cleared = refl }
 
-abbrev between : Prefix → Prefix → Selector
+abbrev pub between : Prefix → Prefix → Selector
 between p q = record { local = p; remote = q; proto = None; local_ports = []; remote_ports = [] }
 
-abbrev limits : ℕ → ℕ → ℕ → ℕ → Limits
+abbrev pub limits : ℕ → ℕ → ℕ → ℕ → Limits
 limits time bytes packets idle = record { time = time; bytes = bytes; packets = packets; idle = idle }
 
 abbrev policy : List ℕ → Direction → ℕ → Action → Selector → SpdEntry
 policy name d reqid act s = record { name = name; direction = d; reqid = reqid; window = 64; selector = s; action = act }
 
-abbrev half : List ℕ → ℕ → Selector → Addr → Addr → Limits → Limits → SadEntry
+abbrev pub half : List ℕ → ℕ → Selector → Addr → Addr → Limits → Limits → SadEntry
 half name spi s local remote hard soft = record {
   name = name;
   reqid = 10;
@@ -97,7 +97,7 @@ half name spi s local remote hard soft = record {
   soft = soft;
 }
 
-abbrev done : ℕ → Answer
+abbrev pub done : ℕ → Answer
 done status = record { status = status; tag = None; names = [] }
 
 -- a UDP packet from 10.1.0.5 to 10.2.0.9
@@ -346,7 +346,7 @@ shown_elsewhere = refl
 
 -- ---- requests
 
-abbrev refusal : ℕ → Tag → Answer
+abbrev pub refusal : ℕ → Tag → Answer
 refusal status tag = record { status = status; tag = Some tag; names = [] }
 
 shown_requests : gw_history gateway_b [] (Session_taken ∷ Handle (Ok (asks.PostSad in_1)) ∷ Handle (Ok (asks.PostSad in_1)) ∷ Handle (Ok (asks.PostSad (half (codes "in/9") 257 (between second_site first_site) address_a address_b (limits 0 0 0 0) (limits 0 0 0 0))))

@@ -13,4 +13,7 @@ pub mod Machine
 pub mod Safe
 pub mod Answers
 pub mod Expiries
+pub mod Notices
+pub mod Since
+pub mod Statuses
 pub mod Places

@@ -1,14 +1,14 @@
 // Laws for the crates above: each is the contract of a function with an empty body, or one that only calls such functions.
-ghost use Rattle.std.specs.Prelude.{◌≡◌, ℕ, true, false, List, [], ◌∷◌, ◌++◌, Some, Ok, Result, ◌&&◌, map, max, nat_le, nat_lt, slice_get, take};
-ghost use Rattle.std.specs.List.{list_any};
+ghost use Rattle.std.specs.Prelude.{◌≡◌, ℕ, true, false, List, [], ◌∷◌, ◌++◌, Some, Ok, Result, ◌&&◌, length, map, max, nat_le, nat_lt, slice_get, take};
+ghost use Rattle.std.specs.List.{list_all, list_any, sum};
 ghost use Rattle.std.specs.Str.{bytes_eq};
 ghost use Rattle.ikl_base.specs.Address.{AreOneFamily};
 ghost use Rattle.ip_packet.specs.Field.{next_header};
 ghost use Rattle.hist_acts.specs.declared.act.Act.{Act};
 ghost use Rattle.hist_acts.specs.Past.{after, clock};
-ghost use Rattle.hist_halves.specs.Halves.{live, is_live, numbers_taken, sent};
-ghost use Rattle.hist_gateway.specs.Stands.{does_acquire_stand, was_soft_given, does_soft_stand, was_overflow_given, does_overflow_stand};
-ghost use Rattle.hist_gateway.specs.Uses.{was_number_sent, was_taken};
+ghost use Rattle.hist_halves.specs.Halves.{is_half, live, is_live, numbers_taken, sent};
+ghost use Rattle.hist_gateway.specs.Stands.{is_acquire_of, is_overflow_of, does_acquire_stand, was_soft_given, does_soft_stand, was_overflow_given, does_overflow_stand, does_bad_spi_stand};
+ghost use Rattle.hist_gateway.specs.Uses.{counts, installed_at, is_use, last_used, octets_used, times_used, was_number_sent, was_taken};
 ghost use Rattle.replay_win.specs.Marks.{is_among};
 ghost use Rattle.hist_gateway.specs.Block.{Gateway, GatewayEvent, Let, Arrive, Clock, Handle, gw_block, gw_history, Session_taken};
 ghost use Rattle.hist_gateway.specs.Answers.{is_let_answer, is_arrival_answer, is_answer, has_one_answer, is_clock_reading};
@@ -18,13 +18,14 @@ ghost use Rattle.hist_acts.specs.Sessions as sessions;
 ghost use Rattle.reply_table.specs.declared.ask.Ask.{Ask};
 ghost use Rattle.reply_table.specs.Reply.{reply};
 ghost use Rattle.hist_gateway.specs.Rows.{tree_of};
-ghost use Rattle.hist_gateway.specs.State.{GatewayState, state_of, did, did_all, acquires, quiet, with_halves, note, sent_under, given_under, opened_under};
+ghost use Rattle.hist_gateway.specs.State.{GatewayState, half_of, state_of, did, did_all, acquires, quiet, with_halves, note, sent_under, given_under, opened_under};
 ghost use Rattle.hist_gateway.specs.Places.{names_reached, softly_told, without_all};
 ghost use Rattle.hist_gateway.specs.Uses.{octets_in};
 ghost use Rattle.sad_store.specs.declared.half.Half.{Half};
 ghost use Rattle.sad_store.specs.Halves.{changed, entries_of, look_at, names_of, send, take_number, with_overflow};
 ghost use Rattle.sad_store.specs.Kept.{are_names_apart};
 ghost use Rattle.esp_frame.specs.Esp.{spi_of};
+ghost use Rattle.life_count.specs.Lifetime.{counts_of};
 ghost use Rattle.ikeless_tree.specs.declared.sad.Limits.{Limits};
 ghost use Rattle.ikeless_tree.specs.declared.entry.Selector.{Selector};
 ghost use Rattle.ikeless_tree.specs.declared.order.Notice.TheVariants as notices;
@@ -32,6 +33,9 @@ ghost use Rattle.hist_gateway.specs.Machine.{acts_of, empty, look_of, next, run}
 ghost use Rattle.hist_gateway.specs.May.{has_half, IsNewHalf, GatewayMayActAll, IsGatewayPast, AreInstalled, AreNumbered, AreHalves, is_boot, IsHalfFor, IsHalfOf, IsDelivery};
 ghost use Rattle.hist_gateway.specs.Let.{newest};
 ghost use Rattle.hist_gateway.specs.Expiries.{is_hard_end, is_hard_expiry, is_soft_expiry, reaches_hard, reaches_soft};
+ghost use Rattle.hist_gateway.specs.Notices.{is_notice, is_bad_spi_of, LacksHalf, LacksNumber, LacksSpi, is_let, is_arrive, is_hard_reached_in, is_soft_reached_in};
+ghost use Rattle.hist_gateway.specs.Since.{is_put_at, uses_among, WasSpiTold};
+ghost use Rattle.hist_gateway.specs.Statuses.{MayCome, has_answer_status};
 ghost use Rattle.hist_gateway.specs.Look.{look};
 ghost use Rattle.hist_gateway.specs.Arrive.{use_acts};
 ghost use Rattle.hist_gateway.specs.Datagram.{datagram};
@@ -166,6 +170,9 @@ pub fn answers()
 
 /// A half is gone at a hard limit, and an expiry is told, exactly where the counts of a half that is looked at have reached a
 /// limit: at each look, which follows each use of a half, and at each reading that raises the clock, over all live halves.
+///
+/// So it is in every block: the half is gone, or the expiry told, exactly where a use of the half, or a reading that raises the clock
+/// while it is live, is among the block's acts and leaves it at the limit.
 pub fn expires_where_reached()
     ensures ends { (g x : List ℕ) (h : List Act) (es : List SadEntry) → list_any (is_hard_end x) (look g h es) ≡ list_any (reaches_hard g h x) es }
     ensures hard { (g x : List ℕ) (h : List Act) (es : List SadEntry) → list_any (is_hard_expiry x) (look g h es) ≡ list_any (reaches_hard g h x) es }
@@ -173,6 +180,60 @@ pub fn expires_where_reached()
     ensures clock_ends { (c : Gateway) (h : List Act) (t : ℕ) (x : List ℕ) → list_any (is_hard_end x) (gw_block c h (Clock t)) ≡ (nat_lt (clock h) t && list_any (reaches_hard c.name (acts.Now (max t (clock h)) ∷ h) x) (live c.name h)) }
     ensures clock_hard { (c : Gateway) (h : List Act) (t : ℕ) (x : List ℕ) → list_any (is_hard_expiry x) (gw_block c h (Clock t)) ≡ (nat_lt (clock h) t && list_any (reaches_hard c.name (acts.Now (max t (clock h)) ∷ h) x) (live c.name h)) }
     ensures clock_soft { (c : Gateway) (h : List Act) (t : ℕ) (x : List ℕ) → list_any (is_soft_expiry x) (gw_block c h (Clock t)) ≡ (nat_lt (clock h) t && list_any (reaches_soft c.name (acts.Now (max t (clock h)) ∷ h) x) (live c.name h)) }
+    ensures block_ends { (c : Gateway) (h : List Act) (e : GatewayEvent) (x : List ℕ) → AreInstalled c.name h → list_any (is_hard_end x) (gw_block c h e) ≡ is_hard_reached_in c.name x h (gw_block c h e) }
+    ensures block_hard { (c : Gateway) (h : List Act) (e : GatewayEvent) (x : List ℕ) → AreInstalled c.name h → list_any (is_hard_expiry x) (gw_block c h e) ≡ is_hard_reached_in c.name x h (gw_block c h e) }
+    ensures block_soft { (c : Gateway) (h : List Act) (e : GatewayEvent) (x : List ℕ) → AreInstalled c.name h → list_any (is_soft_expiry x) (gw_block c h e) ≡ is_soft_reached_in c.name x h (gw_block c h e) }
+{}
+
+/// The notices that may stand are given exactly where they are asked for and none stands: an acquire where a packet that a protect
+/// entry in force holds finds no live outbound half, an overflow where the newest one for it has sent its last number, and a bad
+/// SPI where no live inbound half has that of a datagram. No other event gives one.
+pub fn tells_where_none_stands()
+    ensures acquire { (c : Gateway) (h : List Act) (o name : List ℕ) → list_any (is_notice (is_acquire_of name)) (gw_block c h (Let o)) ≡ true →
+        LacksHalf c.name h o name × (does_acquire_stand c.name name h ≡ false) }
+    ensures no_half { (c : Gateway) (h : List Act) (o name : List ℕ) → LacksHalf c.name h o name → does_acquire_stand c.name name h ≡ false →
+        list_any (is_notice (is_acquire_of name)) (gw_block c h (Let o)) ≡ true }
+    ensures overflow { (c : Gateway) (h : List Act) (o x : List ℕ) → list_any (is_notice (is_overflow_of x)) (gw_block c h (Let o)) ≡ true →
+        LacksNumber c h o x × (does_overflow_stand c.name x h ≡ false) }
+    ensures no_number { (c : Gateway) (h : List Act) (o x : List ℕ) → LacksNumber c h o x → does_overflow_stand c.name x h ≡ false →
+        list_any (is_notice (is_overflow_of x)) (gw_block c h (Let o)) ≡ true }
+    ensures bad_spi { (c : Gateway) (h : List Act) (o : List ℕ) (spi : ℕ) → list_any (is_notice (is_bad_spi_of spi)) (gw_block c h (Arrive o)) ≡ true →
+        LacksSpi c h o spi × (does_bad_spi_stand c.name spi h ≡ false) }
+    ensures no_spi { (c : Gateway) (h : List Act) (o : List ℕ) (spi : ℕ) → LacksSpi c h o spi → does_bad_spi_stand c.name spi h ≡ false →
+        list_any (is_notice (is_bad_spi_of spi)) (gw_block c h (Arrive o)) ≡ true }
+    ensures else_acquire { (c : Gateway) (h : List Act) (e : GatewayEvent) (name : List ℕ) → is_let e ≡ false → list_any (is_notice (is_acquire_of name)) (gw_block c h e) ≡ false }
+    ensures else_overflow { (c : Gateway) (h : List Act) (e : GatewayEvent) (x : List ℕ) → is_let e ≡ false → list_any (is_notice (is_overflow_of x)) (gw_block c h e) ≡ false }
+    ensures else_bad_spi { (c : Gateway) (h : List Act) (e : GatewayEvent) (spi : ℕ) → is_arrive e ≡ false → list_any (is_notice (is_bad_spi_of spi)) (gw_block c h e) ≡ false }
+{}
+
+/// An SPI stands exactly where it was told at the gateway, fewer than 64 were told there after it, and since then no session was
+/// taken there and it has not restarted.
+pub fn keeps_told_spis()
+    ensures stands { (g : List ℕ) (spi : ℕ) (h : List Act) → does_bad_spi_stand g spi h ≡ true → WasSpiTold g spi 64 h }
+    ensures told { (g : List ℕ) (spi : ℕ) (h : List Act) → WasSpiTold g spi 64 h → does_bad_spi_stand g spi h ≡ true }
+{}
+
+/// What is counted of a half is counted since its last installation: its age from the clock then, the octets of its uses and how
+/// many they were, and its idle time from the clock at its last use, or at its installation where it was not used. What is kept of
+/// a half has these counts.
+pub fn counts_uses()
+    ensures installed { (g x f : List ℕ) (e : SadEntry) (recent old : List Act) → is_half f e.name g x ≡ true → list_any (is_put_at g x) recent ≡ false →
+        installed_at g x (recent ++ acts.Put f e ∷ old) ≡ clock old }
+    ensures octets { (g x f : List ℕ) (e : SadEntry) (recent old : List Act) → is_half f e.name g x ≡ true → list_any (is_put_at g x) recent ≡ false →
+        octets_used g x (recent ++ acts.Put f e ∷ old) ≡ sum (uses_among g x recent (acts.Put f e ∷ old)) }
+    ensures packets { (g x f : List ℕ) (e : SadEntry) (recent old : List Act) → is_half f e.name g x ≡ true → list_any (is_put_at g x) recent ≡ false →
+        times_used g x (recent ++ acts.Put f e ∷ old) ≡ length (uses_among g x recent (acts.Put f e ∷ old)) }
+    ensures unused { (g x f : List ℕ) (e : SadEntry) (recent old : List Act) → is_half f e.name g x ≡ true → list_any (is_put_at g x) recent ≡ false →
+        uses_among g x recent (acts.Put f e ∷ old) ≡ [] → last_used g x (recent ++ acts.Put f e ∷ old) ≡ clock old }
+    ensures used { (g x : List ℕ) (a : Act) (recent old : List Act) → is_use g x a old ≡ true → list_any (is_put_at g x) recent ≡ false →
+        uses_among g x recent (a ∷ old) ≡ [] → last_used g x (recent ++ a ∷ old) ≡ clock old }
+    ensures kept { (g : List ℕ) (h : List Act) (e : SadEntry) → counts_of (clock h) (half_of g h e).life ≡ counts g e.name h }
+{}
+
+/// A request is answered with 200, 201 or 204 and no tag, or with a refusal's status and its tag, where one that can't be read has
+/// such a fault. No other status comes.
+pub fn answers_with_statuses()
+    ensures { (c : Gateway) (h : List Act) (request : Result Ask Fault) → MayCome (Handle request) → list_all has_answer_status (gw_block c h (Handle request)) ≡ true }
 {}
 
 /// What acts make of the halves, by the place of the half: no two have one name, and the half that an act names stands at that place.

@@ -4,7 +4,8 @@
 mod laws;
 
 pub use laws::{
-    answers, between, blocks_follow, counts_requests, delivers, expires_where_reached, goes_on,
-    halves, is_every_history_safe, keeps, looks_at_places, places, readings, requests_change,
-    sealed, stays_elsewhere, steps,
+    answers, answers_with_statuses, between, blocks_follow, counts_requests, counts_uses, delivers,
+    expires_where_reached, goes_on, halves, is_every_history_safe, keeps, keeps_told_spis,
+    looks_at_places, places, readings, requests_change, sealed, stays_elsewhere, steps,
+    tells_where_none_stands,
 };

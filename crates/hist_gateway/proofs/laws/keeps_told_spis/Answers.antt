@@ -1,0 +1,8 @@
+use Rattle.hist_gateway.proofs.Since.{stands-told, told-stands}
+use Rattle.hist_gateway.proofs.laws.keeps_told_spis.Goals as goal
+
+pub returns-clause-stands : goal.returns-clause-stands
+returns-clause-stands c = stands-told
+
+pub returns-clause-told : goal.returns-clause-told
+returns-clause-told c = told-stands
