@@ -34,3 +34,4 @@ pub mod CountOrders
 pub mod Own
 pub mod Spent
 pub mod Ends
+pub mod Entries

@@ -60,7 +60,7 @@ put-once p h l n = let k = once p n h l in (k.few_in, k.few_out)
 
 -- ## serial n has the n-th key
 
-place-stays : {A : Type 0} (i : ℕ) (xs ys : List A) (x : A) → place i xs ≡ Some x → place i (xs ++ ys) ≡ Some x
+pub place-stays : {A : Type 0} (i : ℕ) (xs ys : List A) (x : A) → place i xs ≡ Some x → place i (xs ++ ys) ≡ Some x
 place-stays i [] ys x e = cc
 place-stays i (z ∷ xs) ys x e = let ih = place-stays (i - 1) xs ys x in grind (arith, ih)
 

@@ -18,3 +18,4 @@ pub mod Left
 pub mod Own
 pub mod Spent
 pub mod Ends
+pub mod Entries

@@ -1,14 +1,21 @@
 // Facts on which what a controller keeps in place of its past can rest: each is the contract of a function with an empty body.
-ghost use Rattle.std.specs.Prelude.{◌≡◌, ℕ, ◌+◌, ◌-◌, ◌<◌, ◌≤◌, true, ◌==◌, ◌&&◌, not, List, ◌∷◌, ◌++◌, Some, ◌⊎◌, length, drop};
+ghost use Rattle.std.specs.Prelude.{◌≡◌, ℕ, ◌+◌, ◌-◌, ◌<◌, ◌≤◌, true, ◌==◌, ◌&&◌, not, List, ◌∷◌, ◌++◌, Some, None, ◌⊎◌, length, drop};
 ghost use Rattle.std.specs.List.{list_any};
+ghost use Rattle.ikeless_tree.specs.Check.{is_key_length, is_sad_name, sad_fault, spd_fault};
+ghost use Rattle.ikeless_tree.specs.Half.{in_name, out_name, aes_part};
 ghost use Rattle.ikeless_tree.specs.declared.command.Peer.{Peer};
+ghost use Rattle.ikeless_tree.specs.declared.command.Refusal.TheVariants as refusals;
+ghost use Rattle.ikeless_tree.specs.declared.entry.SpdEntry.{SpdEntry};
 ghost use Rattle.hist_acts.specs.Past.{after};
-ghost use Rattle.hist_controller.specs.Acts.{Way, Association, ControllerOrder, ControllerAct, ControllerEvent};
+ghost use Rattle.hist_controller.specs.Acts.{Way, Association, ControllerOrder, Policy, PutIn, PutOut, RemoveIn, RemoveOut, ControllerAct, ControllerEvent, Keys};
 ghost use Rattle.hist_controller.specs.Past.{is_open, orders, answered, queue, is_first_answered, keys, serials, spare, directions, is_over, left, newest_serial, is_in_progress, is_own, is_busy};
 ghost use Rattle.hist_controller.specs.Machine.{place};
 ghost use Rattle.hist_controller.specs.State.{association_of};
 ghost use Rattle.hist_controller.specs.Clauses.{Has, IsControllerPast, ControllerMayActAll, MayOrderInPut};
-ghost use Rattle.hist_controller.specs.Law.{pass, has_tunnel, tunnels, block};
+ghost use Rattle.hist_controller.specs.Law.{refusal, pass, has_tunnel, tunnels, block};
+ghost use Rattle.hist_controller.specs.Entries.{SoundCommands, OneFamily, aes_parts};
+ghost use Rattle.hist_controller.specs.Orders.{WasOrdered};
+ghost use Rattle.hist_controller.specs.Told.{in_entry, out_entry};
 ghost use Rattle.hist_controller.specs.Spent.{is_spent, StaysSpent, Forgets, added_ways, unspent};
 ghost use Rattle.hist_controller.specs.Halves.{PlainAnswers};
 ghost use Rattle.hist_controller.specs.Left.{Ascend, listed, older_left, newest_left};
@@ -74,4 +81,21 @@ pub fn forgets_what_is_spent()
 pub fn has_short_blocks()
     ensures pass { (h : List ControllerAct) (ds : List Way) → length (pass h ds) ≤ length ds }
     ensures block { (ps : List Peer) (h : List ControllerAct) (e : ControllerEvent) → IsControllerPast (length ps) h → length (block ps h e) ≤ 2051 }
+{}
+
+/// What is ordered has no fault, where each accepted list of policies has none, the window of each accepted tunnel is from 32 to
+/// 4,096, and the addresses of all peers are of one family: the entries put, of which the SPIs are from 257 to 1,048,832; the
+/// lists; and the names removed.
+pub fn orders_without_fault()
+    ensures inbound { (ps : List Peer) (h : List ControllerAct) → IsControllerPast (length ps) h → SoundCommands h → OneFamily ps → (g : ℕ) (x : Association) → WasOrdered (PutIn x) g h → (sad_fault (in_entry ps x) ≡ None) × (257 ≤ (in_entry ps x).spi) × ((in_entry ps x).spi ≤ 1048832) }
+    ensures outbound { (ps : List Peer) (h : List ControllerAct) → IsControllerPast (length ps) h → SoundCommands h → OneFamily ps → (g : ℕ) (x : Association) → WasOrdered (PutOut x) g h → (sad_fault (out_entry ps x) ≡ None) × (257 ≤ (out_entry ps x).spi) × ((out_entry ps x).spi ≤ 1048832) }
+    ensures list { (p : ℕ) (h : List ControllerAct) → IsControllerPast p h → SoundCommands h → (g : ℕ) (l : List SpdEntry) → WasOrdered (Policy l) g h → spd_fault l ≡ None }
+    ensures in_name { (p : ℕ) (h : List ControllerAct) → IsControllerPast p h → (g n : ℕ) → WasOrdered (RemoveIn n) g h → is_sad_name (in_name n) ≡ true }
+    ensures out_name { (p : ℕ) (h : List ControllerAct) → IsControllerPast p h → (g n : ℕ) → WasOrdered (RemoveOut n) g h → is_sad_name (out_name n) ≡ true }
+{}
+
+/// A key of a right length is refused as seen exactly where its AES key is among those of all keys accepted, used or not.
+pub fn refuses_seen_keys()
+    ensures seen { (p : ℕ) (h : List ControllerAct) (k : List ℕ) → is_key_length (length k) ≡ true → Has (aes_part k) (aes_parts h) → refusal p h (Keys k) ≡ Some refusals.KeySeen }
+    ensures only { (p : ℕ) (h : List ControllerAct) (k : List ℕ) → refusal p h (Keys k) ≡ Some refusals.KeySeen → (is_key_length (length k) ≡ true) × Has (aes_part k) (aes_parts h) }
 {}
