@@ -99,7 +99,7 @@ way d o w n xs = record { way = d; over = o; wanted = w; newest = n; association
 same-way : (d : Way) (o w : Bool) (n : ℕ) (xs ys : List KeptAssociation) → xs ≡ ys → way d o w n xs ≡ way d o w n ys
 same-way d o w n xs ys e = ap (way d o w n) e
 
-way-told : (h : List ControllerAct) (c : PlacedCommand) (d : Way) → is_made_by c (length (directions h)) d ≡ false → way_of (Accepted c ∷ h) d ≡ way_told c (way_of h d)
+pub way-told : (h : List ControllerAct) (c : PlacedCommand) (d : Way) → is_made_by c (length (directions h)) d ≡ false → way_of (Accepted c ∷ h) d ≡ way_told c (way_of h d)
 way-told h c d e = rw e (same-way d _ _ _ _ _ (map-via (association_of (Accepted c ∷ h)) (association_of h) (kept_told c) (λ x. refl) (left d h)))
 
 told-ways : (h : List ControllerAct) (c : PlacedCommand) (m : ℕ) (ds : List Way) → Rising m ds → m + length ds ≤ length (directions h) → map (way_of (Accepted c ∷ h)) ds ≡ map (way_told c) (map (way_of h) ds)
@@ -121,7 +121,7 @@ fresh-ways h (End r) = refl
 fresh-ways h (Rekey r) = refl
 fresh-ways h (Keys k) = refl
 
-way-cut : (h : List ControllerAct) (g s : ℕ) (d : Way) → way_of (Cut g s ∷ h) d ≡ way_cut (queue g h) (way_of h d)
+pub way-cut : (h : List ControllerAct) (g s : ℕ) (d : Way) → way_of (Cut g s ∷ h) d ≡ way_cut (queue g h) (way_of h d)
 way-cut h g s d = same-way d _ _ _ _ _ (map-via (association_of (Cut g s ∷ h)) (association_of h) (kept_cut (queue g h)) (λ x. refl) (left d h))
 
 same-misses : (h : List ControllerAct) (d : Way) (g : ℕ) (o : Option ControllerOrder) (a : Answer) → is_cause_reading h d g o a ≡ is_cause_reading_of (way_of h d) g o a
@@ -133,7 +133,7 @@ same-misses h d g (Some (PutOut x)) a = refl
 same-misses h d g (Some (RemoveIn n)) a = refl
 same-misses h d g (Some (RemoveOut n)) a = refl
 
-way-answered : (h : List ControllerAct) (g s n : ℕ) (a : Answer) (d : Way) → way_of (Answered g s n a ∷ h) d ≡ way_answered g (oldest (queue g h)) a (way_of h d)
+pub way-answered : (h : List ControllerAct) (g s n : ℕ) (a : Answer) (d : Way) → way_of (Answered g s n a ∷ h) d ≡ way_answered g (oldest (queue g h)) a (way_of h d)
 way-answered h g s n a d =
     let o : Option ControllerOrder = oldest (queue g h) in
     rw (same-misses h d g (oldest (queue g h)) a)
@@ -150,7 +150,7 @@ same-calls h d g (notices.Expire m b c) = same-newest h d g m
 same-calls h d g (notices.SeqOverflow m) = same-newest h d g m
 same-calls h d g (notices.BadSpi s) = refl
 
-way-heard : (h : List ControllerAct) (g s : ℕ) (t : Notice) (d : Way) → way_of (Heard g s t ∷ h) d ≡ way_heard (newest_list g h) g t (way_of h d)
+pub way-heard : (h : List ControllerAct) (g s : ℕ) (t : Notice) (d : Way) → way_of (Heard g s t ∷ h) d ≡ way_heard (newest_list g h) g t (way_of h d)
 way-heard h g s t d = rw (same-calls h d g t) (same-way d _ _ _ _ _ refl)
 
 fresh-if : (h : List ControllerAct) (g s n : ℕ) (x : Association) (b : Bool) → map (association_of (Ordered g s n (PutIn x) ∷ h)) (if b then x ∷ [] else []) ≡ map fresh (if b then x ∷ [] else [])

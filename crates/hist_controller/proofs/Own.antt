@@ -25,7 +25,7 @@ use Rattle.hist_controller.proofs.Few.{busy-there}
 use Rattle.hist_controller.proofs.Left.{progress-newest}
 use Rattle.hist_controller.proofs.CountOrders.{count, length-count, count-none, none-count, rest-less, none-less, grown-count, front-and}
 
-abbrev kept : Association → Bool → Bool → Bool → Bool → Bool → KeptAssociation
+abbrev pub kept : Association → Bool → Bool → Bool → Bool → Bool → KeptAssociation
 kept x i s d r e = record { association = x; in_done = i; out_sent = s; out_done = d; out_gone = r; ended = e }
 
 -- ## whose order it is
@@ -145,7 +145,7 @@ pub record Front (h : List ControllerAct) (g : ℕ) (x : Association) (k : Kind)
   pub waits : OwnWaits way h g order
   pub same : waits.association ≡ x
 
-kind-half : (k : Kind) (n : ℕ) (o : ControllerOrder) → is_kind k n o ≡ true → is_half_order o ≡ true
+pub kind-half : (k : Kind) (n : ℕ) (o : ControllerOrder) → is_kind k n o ≡ true → is_half_order o ≡ true
 kind-half PuttingIn n Read e = cc
 kind-half PuttingOut n Read e = cc
 kind-half RemovingIn n Read e = cc
@@ -159,7 +159,7 @@ kind-half k n (PutOut x) e = refl
 kind-half k n (RemoveIn m) e = refl
 kind-half k n (RemoveOut m) e = refl
 
-kind-serial : (k : Kind) (n : ℕ) (o : ControllerOrder) (y : Association) → is_kind k n o ≡ true → IsOf y o → n ≡ y.serial
+pub kind-serial : (k : Kind) (n : ℕ) (o : ControllerOrder) (y : Association) → is_kind k n o ≡ true → IsOf y o → n ≡ y.serial
 kind-serial k n Read y e w = absurd w
 kind-serial k n (Policy l) y e w = absurd w
 kind-serial PuttingIn n (PutIn x) y e w = let q = ap (λ (z : Association). z.serial) w in grind arith
@@ -190,7 +190,7 @@ front p h l c g d x i k t = at (oldest (queue g h)) refl t
         let s = kind-serial k x.serial z w.waits.association t w.waits.of in
         record { order = z; oldest = e; kind = t; way = w.way; of = w.of; waits = w.waits; same = one p h l w.way d w.waits.association x w.waits.left i (sym s) }
 
-same-id : (m n k : ℕ) → (m == k) ≡ true → (n == k) ≡ true → m ≡ n
+pub same-id : (m n k : ℕ) → (m == k) ≡ true → (n == k) ≡ true → m ≡ n
 same-id m n k e t = grind arith
 
 pub equal : (m n : ℕ) → (m == n) ≡ true → m ≡ n
@@ -565,7 +565,7 @@ ordered-each p h g s n z l m c f o (inr i) t =
     subst (λ y. Owner (Ordered g s n z ∷ h) f y) (sym i.0) (subst (λ y. Owner (Ordered g s n z ∷ h) y z) (sym e) w)
 
 -- what is its own stays so
-any-one : (p : Association → Bool) (xs : List Association) (x : Association) → p x ≡ false → list_any p (xs ++ x ∷ []) ≡ list_any p xs
+pub any-one : {A : Type 0} (p : A → Bool) (xs : List A) (x : A) → p x ≡ false → list_any p (xs ++ x ∷ []) ≡ list_any p xs
 any-one p [] x e = rw e refl
 any-one p (y ∷ ys) x e = ap (λ b. p y || b) (any-one p ys x e)
 

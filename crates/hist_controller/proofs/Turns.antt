@@ -54,7 +54,7 @@ own-turn h d _ (in_was_put k ks f s m n1 n2 n3) = inl (busy-receiver h (openings
 
 -- ## the turn of another direction
 
-used-none : (o : ControllerOrder) → keys_after o [] ≡ []
+pub used-none : (o : ControllerOrder) → keys_after o [] ≡ []
 used-none Read = refl
 used-none (Policy l) = refl
 used-none (PutIn x) = refl

@@ -19,3 +19,4 @@ pub mod Own
 pub mod Spent
 pub mod Ends
 pub mod Entries
+pub mod Touch

@@ -1,5 +1,5 @@
 // Facts on which what a controller keeps in place of its past can rest: each is the contract of a function with an empty body.
-ghost use Rattle.std.specs.Prelude.{◌≡◌, ℕ, ◌+◌, ◌-◌, ◌<◌, ◌≤◌, true, ◌==◌, ◌&&◌, not, List, ◌∷◌, ◌++◌, Some, None, ◌⊎◌, length, drop};
+ghost use Rattle.std.specs.Prelude.{◌≡◌, ℕ, ◌+◌, ◌-◌, ◌<◌, ◌≤◌, true, false, ◌==◌, ◌&&◌, not, List, [], ◌∷◌, ◌++◌, Some, None, ◌⊎◌, length, drop};
 ghost use Rattle.std.specs.List.{list_any};
 ghost use Rattle.ikeless_tree.specs.Check.{is_key_length, is_sad_name, sad_fault, spd_fault};
 ghost use Rattle.ikeless_tree.specs.Half.{in_name, out_name, aes_part};
@@ -10,12 +10,13 @@ ghost use Rattle.hist_acts.specs.Past.{after};
 ghost use Rattle.hist_controller.specs.Acts.{Way, Association, ControllerOrder, Policy, PutIn, PutOut, RemoveIn, RemoveOut, ControllerAct, ControllerEvent, Keys};
 ghost use Rattle.hist_controller.specs.Past.{is_open, orders, answered, queue, is_first_answered, keys, serials, spare, directions, is_over, left, newest_serial, is_in_progress, is_own, is_busy};
 ghost use Rattle.hist_controller.specs.Machine.{place};
-ghost use Rattle.hist_controller.specs.State.{association_of};
+ghost use Rattle.hist_controller.specs.State.{association_of, gateway_of, way_of};
 ghost use Rattle.hist_controller.specs.Clauses.{Has, IsControllerPast, ControllerMayActAll, MayOrderInPut};
-ghost use Rattle.hist_controller.specs.Law.{refusal, pass, has_tunnel, tunnels, block};
+ghost use Rattle.hist_controller.specs.Law.{refusal, give, pass, has_tunnel, tunnels, block};
 ghost use Rattle.hist_controller.specs.Entries.{SoundCommands, OneFamily, aes_parts};
 ghost use Rattle.hist_controller.specs.Orders.{WasOrdered};
 ghost use Rattle.hist_controller.specs.Told.{in_entry, out_entry};
+ghost use Rattle.hist_controller.specs.Touch.{next_order, acts_for, does_touch, does_bring_key, did_way};
 ghost use Rattle.hist_controller.specs.Spent.{is_spent, StaysSpent, Forgets, added_ways, unspent};
 ghost use Rattle.hist_controller.specs.Halves.{PlainAnswers};
 ghost use Rattle.hist_controller.specs.Left.{Ascend, listed, older_left, newest_left};
@@ -98,4 +99,16 @@ pub fn orders_without_fault()
 pub fn refuses_seen_keys()
     ensures seen { (p : ℕ) (h : List ControllerAct) (k : List ℕ) → is_key_length (length k) ≡ true → Has (aes_part k) (aes_parts h) → refusal p h (Keys k) ≡ Some refusals.KeySeen }
     ensures only { (p : ℕ) (h : List ControllerAct) (k : List ℕ) → refusal p h (Keys k) ≡ Some refusals.KeySeen → (is_key_length (length k) ≡ true) × Has (aes_part k) (aes_parts h) }
+{}
+
+/// What is kept of a direction hangs on the act and on that part alone, and an order is of one direction at most. What a
+/// direction is given is its next order, but for the key. An act that doesn't touch the direction leaves its next order as it
+/// is: only a cut, an answer or a notice at one of its gateways, an order of its own, and the end or the rekey of its tunnel
+/// touch it. So one that is given nothing is given nothing until an act touches it or a key comes.
+pub fn leaves_others_alone()
+    ensures part { (h : List ControllerAct) (a : ControllerAct) (d : Way) → Has d (directions h) → way_of (a ∷ h) d ≡ did_way (gateway_of h) a (way_of h d) }
+    ensures one { (p : ℕ) (h : List ControllerAct) → IsControllerPast p h → (d e : Way) (o : ControllerOrder) → Has d (directions h) → Has e (directions h) → is_own d (left d h) o ≡ true → is_own e (left e h) o ≡ true → d ≡ e }
+    ensures gives { (h : List ControllerAct) (d : Way) → give h d ≡ acts_for h d (next_order h d) }
+    ensures untouched { (p : ℕ) (h : List ControllerAct) (a : ControllerAct) → IsControllerPast p (a ∷ h) → (d : Way) → Has d (directions h) → does_touch d a h ≡ false → next_order (a ∷ h) d ≡ next_order h d }
+    ensures nothing { (p : ℕ) (h : List ControllerAct) (a : ControllerAct) → IsControllerPast p (a ∷ h) → (d : Way) → Has d (directions h) → does_touch d a h ≡ false → does_bring_key a ≡ false → give h d ≡ [] → give (a ∷ h) d ≡ [] }
 {}

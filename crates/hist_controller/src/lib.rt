@@ -7,7 +7,8 @@ mod laws;
 
 pub use facts::{
     awaits_one_answer, counts_what_waits, forgets_what_is_spent, has_short_blocks,
-    orders_what_is_left, orders_without_fault, refuses_seen_keys, takes_keys_in_turn,
+    leaves_others_alone, orders_what_is_left, orders_without_fault, refuses_seen_keys,
+    takes_keys_in_turn,
 };
 pub use laws::{
     accepts_fresh_keys, each_put_has_its_cause, fits_a_table, follows_the_clauses, has_few_halves,
