@@ -25,7 +25,7 @@ key-passes true false true e = cc
 key-passes true true c e = cc
 key-passes false b c e = cc
 
-same-bytes : (xs ys : List ℕ) → xs ≡ ys → bytes_eq xs ys ≡ true
+pub same-bytes : (xs ys : List ℕ) → xs ≡ ys → bytes_eq xs ys ≡ true
 same-bytes xs ys e = (bytes_eq-Decides xs ys).1 e
 
 -- a key that stands has its AES key

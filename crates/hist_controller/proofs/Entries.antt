@@ -1,7 +1,8 @@
 -- The entries that are put, and the lists and names that are ordered, have no fault.
-use Rattle.std.proofs.Common.{◌≡◌, ℕ, ◌+◌, ◌-◌, ◌^◌, ◌%◌, ◌<◌, ◌≤◌, Bool, true, false, ◌==◌, not, ◌&&◌, ◌||◌, nat_le, nat_lt, List, [], ◌∷◌, ◌++◌, codes, decimal, Option, Some, None, inl, inr, length, map, refl, sym, subst, ◌∙◌, ap, arith, if◌then◌else◌, bytes_eq}
+use Rattle.std.proofs.Common.{◌≡◌, ℕ, ◌+◌, ◌-◌, ◌^◌, ◌%◌, ◌<◌, ◌≤◌, Bool, true, false, ◌==◌, not, ◌||◌, nat_le, nat_lt, List, [], ◌∷◌, ◌++◌, codes, decimal, Option, Some, None, inl, inr, length, map, refl, sym, subst, ◌∙◌, ap, arith, if◌then◌else◌, bytes_eq}
 use Rattle.std.proofs.lemmas.Grind.{common_steps}
 use Rattle.std.proofs.lemmas.Fmt.{decimal_by_steps, decimal_nonempty, length-decimal-le}
+use Rattle.std.proofs.lemmas.Bool.{and_parts}
 use Rattle.std.proofs.lemmas.Slice.Eq.{bytes_eq-Decides}
 use Rattle.std.specs.List.{list_all}
 use Rattle.ikl_base.specs.Address.{is_one_family}
@@ -24,7 +25,7 @@ use Rattle.hist_controller.proofs.Lists.{length-both}
 use Rattle.hist_controller.proofs.Bools.{or-right}
 use Rattle.hist_controller.proofs.Serials.{has-more, put-serial}
 use Rattle.hist_controller.proofs.Often.{keyed, place-stays}
-use Rattle.hist_controller.proofs.Accepts.{few-keys, few-serials, long-keys, placings}
+use Rattle.hist_controller.proofs.Accepts.{same-bytes, few-keys, few-serials, long-keys, placings}
 use Rattle.hist_controller.proofs.Homes.{in-home, out-home, in-removal, out-removal}
 
 -- ## names
@@ -70,12 +71,8 @@ out-name-read n e =
 
 all-at : (p : List ℕ → Bool) (i : ℕ) (ks : List (List ℕ)) (k : List ℕ) → place i ks ≡ Some k → list_all p ks ≡ true → p k ≡ true
 all-at p i [] k e t = cc
-all-at p i (x ∷ ks) k e t = at (i == 0) e (both (p x) (list_all p ks) t) (all-at p (i - 1) ks k)
+all-at p i (x ∷ ks) k e t = at (i == 0) e (and_parts (p x) (list_all p ks) t) (all-at p (i - 1) ks k)
   where
-    both : (a b : Bool) → (a && b) ≡ true → (a ≡ true) × (b ≡ true)
-    both true b e = (refl, e)
-    both false b e = cc
-
     at : (b : Bool) → (if b then Some x else place (i - 1) ks) ≡ Some k → (p x ≡ true) × (list_all p ks ≡ true) → (place (i - 1) ks ≡ Some k → list_all p ks ≡ true → p k ≡ true) → p k ≡ true
     at true e q f = let w : x ≡ k = cc in ap p (sym w) ∙ q.0
     at false e q f = f e q.1
@@ -237,9 +234,6 @@ out-removed-name p h l g n i =
 
 -- ## AES keys
 
-bytes-same : (xs ys : List ℕ) → xs ≡ ys → bytes_eq xs ys ≡ true
-bytes-same xs ys e = (bytes_eq-Decides xs ys).1 e
-
 bytes-equal : (xs ys : List ℕ) → bytes_eq xs ys ≡ true → xs ≡ ys
 bytes-equal xs ys e = (bytes_eq-Decides xs ys).0 e
 
@@ -253,7 +247,7 @@ seen-has k (x ∷ ks) e = at (bytes_eq (aes_part x) (aes_part k)) refl e (seen-h
 
 has-seen : (k : List ℕ) (ks : List (List ℕ)) → Has (aes_part k) (map aes_part ks) → is_seen k ks ≡ true
 has-seen k [] i = absurd i
-has-seen k (x ∷ ks) (inl e) = rw (bytes-same (aes_part x) (aes_part k) (sym e)) refl
+has-seen k (x ∷ ks) (inl e) = rw (same-bytes (aes_part x) (aes_part k) (sym e)) refl
 has-seen k (x ∷ ks) (inr i) = or-right (bytes_eq (aes_part x) (aes_part k)) (is_seen k ks) (has-seen k ks i)
 
 key-refused : (a b c : Bool) → (if not a then Some refusals.KeyLength else if b then Some refusals.KeySeen else if c then Some refusals.KeyLimit else None) ≡ Some refusals.KeySeen → (a ≡ true) × (b ≡ true)

@@ -31,8 +31,12 @@ pub mod WaitsFor
 pub mod Left
 pub mod KeysInTurn
 pub mod CountOrders
+pub mod Owners
+pub mod OwnAnswers
+pub mod OwnOrders
 pub mod Own
 pub mod Spent
 pub mod Ends
 pub mod Entries
+pub mod NextOrders
 pub mod Touch

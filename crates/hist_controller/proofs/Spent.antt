@@ -1,5 +1,6 @@
 -- A direction that is over with nothing left stays so and is given nothing, so it may be forgotten; and a block is short.
 use Rattle.std.proofs.Common.{◌≡◌, ℕ, ◌+◌, ◌*◌, ◌≤◌, Bool, true, false, ◌==◌, not, ◌&&◌, ◌||◌, List, [], ◌∷◌, ◌++◌, Option, Some, None, inl, inr, length, refl, sym, subst, ◌∙◌, ap, arith, if◌then◌else◌, append-nil}
+use Rattle.std.proofs.lemmas.Bool.{and_parts}
 use Rattle.std.specs.List.{filter, list_any}
 use Rattle.ikeless_tree.specs.declared.command.Peer.{Peer}
 use Rattle.ikeless_tree.specs.declared.command.Refusal.{Refusal}
@@ -20,11 +21,8 @@ use Rattle.hist_controller.proofs.Befores.{is-not}
 use Rattle.hist_controller.proofs.Gives.{Given, nothing, out_removed, in_removed, out_was_put, in_was_put, given, ways-give}
 use Rattle.hist_controller.proofs.Clauses.{may-given, may-command, may-read-put, may-notice, past-after}
 use Rattle.hist_controller.proofs.Few.{Pairs, pairs, few-tunnels}
-use Rattle.hist_controller.proofs.Own.{found, old-made, own-waits, equal}
-
-both-true : (a b : Bool) → (a && b) ≡ true → (a ≡ true) × (b ≡ true)
-both-true true b e = (refl, e)
-both-true false b e = cc
+use Rattle.hist_controller.proofs.Owners.{found, equal}
+use Rattle.hist_controller.proofs.Own.{old-made, own-waits}
 
 none-empty : (xs : List Association) → is_none xs ≡ true → xs ≡ []
 none-empty [] e = refl
@@ -35,7 +33,7 @@ record Over (d : Way) (h : List ControllerAct) : Type 0 where
   pub left : left d h ≡ []
 
 over-of : (d : Way) (h : List ControllerAct) → is_spent d h ≡ true → Over d h
-over-of d h e = let q = both-true (is_over d h) (is_none (left d h)) e in record { over = q.0; left = none-empty (left d h) q.1 }
+over-of d h e = let q = and_parts (is_over d h) (is_none (left d h)) e in record { over = q.0; left = none-empty (left d h) q.1 }
 
 spent-of : (d : Way) (h : List ControllerAct) → Over d h → is_spent d h ≡ true
 spent-of d h k = let o = k.over in let e = k.left in rw (o, e) refl

@@ -1,4 +1,5 @@
-use Rattle.hist_controller.proofs.Touch.{part-did, own-one, gives-next, next-untouched, none-untouched}
+use Rattle.hist_controller.proofs.NextOrders.{gives-next}
+use Rattle.hist_controller.proofs.Touch.{part-did, own-one, next-untouched, none-untouched}
 use Rattle.hist_controller.proofs.facts.leaves_others_alone.Goals as goal
 
 pub returns-clause-part : goal.returns-clause-part
