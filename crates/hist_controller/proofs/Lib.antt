@@ -1,6 +1,7 @@
 pub mod Bools
 pub mod Lists
 pub mod Shown
+pub mod ShownFacts
 pub mod KeptState
 pub mod Gives
 pub mod Blocks

@@ -28,10 +28,10 @@ use Rattle.hist_controller.specs.Past.{directions, keys}
 use Rattle.hist_controller.specs.Told.{between, all_told}
 
 -- 2001:db8:1::/48 behind a, 2001:db8:2::/48 behind b
-behind_a : Prefix
+pub behind_a : Prefix
 behind_a = record { addr = V6 (32 ∷ 1 ∷ 13 ∷ 184 ∷ 0 ∷ 1 ∷ 0 ∷ 0 ∷ 0 ∷ 0 ∷ 0 ∷ 0 ∷ 0 ∷ 0 ∷ 0 ∷ 0 ∷ []); len = 48; in_range = lit≤ tt; cleared = refl }
 
-behind_b : Prefix
+pub behind_b : Prefix
 behind_b = record { addr = V6 (32 ∷ 1 ∷ 13 ∷ 184 ∷ 0 ∷ 2 ∷ 0 ∷ 0 ∷ 0 ∷ 0 ∷ 0 ∷ 0 ∷ 0 ∷ 0 ∷ 0 ∷ 0 ∷ []); len = 48; in_range = lit≤ tt; cleared = refl }
 
 abbrev peers : List Peer
@@ -49,32 +49,32 @@ list_b = entry (between behind_b behind_a) ∷ []
 abbrev limits : ℕ → Limits
 limits seconds = record { time = seconds; bytes = 0; packets = 0; idle = 0 }
 
-abbrev spent : Limits
+abbrev pub spent : Limits
 spent = record { time = 3600; bytes = 88; packets = 1; idle = 3600 }
 
 -- a tunnel between two gateways, of a lifetime of 3600 seconds
-abbrev spec : Bool → List ℕ → List ℕ → TunnelSpec
+abbrev pub spec : Bool → List ℕ → List ℕ → TunnelSpec
 spec now first second = record { reqid = 10; now = now; first = first; second = second; first_prefix = behind_a; second_prefix = behind_b; window = 64; hard = limits 0; soft = limits 3600 }
 
-abbrev t : TunnelSpec
+abbrev pub t : TunnelSpec
 t = spec true (codes "a") (codes "b")
 
-abbrev at : TunnelSpec → PlacedTunnel
+abbrev pub at : TunnelSpec → PlacedTunnel
 at s = record { spec = s; first = 0; second = 1 }
 
-k1 : List ℕ
+unfoldable pub k1 : List ℕ
 k1 = 0 ∷ 1 ∷ 2 ∷ 3 ∷ 4 ∷ 5 ∷ 6 ∷ 7 ∷ 8 ∷ 9 ∷ 10 ∷ 11 ∷ 12 ∷ 13 ∷ 14 ∷ 15 ∷ 160 ∷ 161 ∷ 162 ∷ 163 ∷ []
 
-k2 : List ℕ
+unfoldable pub k2 : List ℕ
 k2 = 16 ∷ 17 ∷ 18 ∷ 19 ∷ 20 ∷ 21 ∷ 22 ∷ 23 ∷ 24 ∷ 25 ∷ 26 ∷ 27 ∷ 28 ∷ 29 ∷ 30 ∷ 31 ∷ 176 ∷ 177 ∷ 178 ∷ 179 ∷ []
 
-k3 : List ℕ
+unfoldable pub k3 : List ℕ
 k3 = 32 ∷ 33 ∷ 34 ∷ 35 ∷ 36 ∷ 37 ∷ 38 ∷ 39 ∷ 40 ∷ 41 ∷ 42 ∷ 43 ∷ 44 ∷ 45 ∷ 46 ∷ 47 ∷ 192 ∷ 193 ∷ 194 ∷ 195 ∷ []
 
 k4 : List ℕ
 k4 = 48 ∷ 49 ∷ 50 ∷ 51 ∷ 52 ∷ 53 ∷ 54 ∷ 55 ∷ 56 ∷ 57 ∷ 58 ∷ 59 ∷ 60 ∷ 61 ∷ 62 ∷ 63 ∷ 208 ∷ 209 ∷ 210 ∷ 211 ∷ []
 
-abbrev plain : ℕ → Answer
+abbrev pub plain : ℕ → Answer
 plain n = record { status = n; tag = None; names = [] }
 
 abbrev reading : List (List ℕ) → Answer
@@ -105,16 +105,16 @@ setup : List ControllerEvent
 unfolding start
 setup = start ++ Answers 0 (reading []) ∷ Answers 0 (plain 204) ∷ Answers 1 (reading []) ∷ Answers 1 (plain 204) ∷ Answers 1 (plain 201) ∷ Answers 0 (plain 201) ∷ []
 
-abbrev ab : Way
+abbrev pub ab : Way
 ab = record { id = 0; tunnel = t; sender = 0; receiver = 1; near = behind_a; far = behind_b }
 
-abbrev ba : Way
+abbrev pub ba : Way
 ba = record { id = 1; tunnel = t; sender = 1; receiver = 0; near = behind_b; far = behind_a }
 
-abbrev half : ℕ → List ℕ → Way → Association
+abbrev pub half : ℕ → List ℕ → Way → Association
 half n k d = record { serial = n; key = k; way = d }
 
-begun : List ControllerAct
+unfoldable pub begun : List ControllerAct
 begun =
     Accepted (SetPolicy 0 list_a) ∷ Accepted (SetPolicy 1 list_b) ∷ Accepted (Keys k1) ∷ Accepted (Keys k2) ∷ Accepted (Tunnel (at t))
     ∷ Opened 0 1 ∷ Ordered 0 1 1 Read ∷ Ordered 0 1 2 (Policy list_a)
