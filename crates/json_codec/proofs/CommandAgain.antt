@@ -9,12 +9,12 @@ use Rattle.ikeless_tree.specs.Check.{is_window, spd_fault, is_gateway}
 use Rattle.yang_values.specs.HexText.{hex_colons}
 use Rattle.yang_values.specs.Prefixes.{prefix_text}
 use Rattle.json_values.specs.Written.{count, wide, word}
-use Rattle.json_tree.specs.Associations.{limits_members, has_no_limits}
-use Rattle.json_values.specs.Words.{mode_word}
-use Rattle.json_codec.specs.Commands.{policy_input, with_first, with_second, tunnel_input, input_of, command_data, IsLawful}
-use Rattle.json_codec.specs.Operations.{operation_of, HasWindow, command_fault}
+use Rattle.json_tree.specs.SadEntryWritten.{limits_members, has_no_limits}
+use Rattle.ikeless_tree.specs.Words.{mode_text}
+use Rattle.json_codec.specs.CommandWritten.{policy_input, with_first, with_second, tunnel_input, input_of, command_data, IsLawful}
+use Rattle.json_codec.specs.CommandRead.{operation_of, HasWindow, command_fault}
 use Rattle.json_values.specs.Json.{IsListInput, IsTunnelInput, IsInput, IsCommand}
-use Rattle.json_tree.specs.Typed.{AreTypedPolicies, IsTypedTunnel, IsTypedCommand}
+use Rattle.ikeless_tree.specs.Typed.{AreTypedPolicies, IsTypedTunnel, IsTypedCommand}
 use Rattle.json_tree.proofs.PolicyAgain.{wide_again, prefix_text_again, window_again, entries_again}
 use Rattle.json_tree.proofs.HalfAgain.{CanHex, limits_again, none_is}
 
@@ -27,7 +27,7 @@ abbrev tunnel_where : (h s : Bool) → TunnelSpec → Data
 tunnel_where h s t =
     let soft = if s then no_members else put (codes "soft") (object (limits_members t.soft)) no_members in
     let second = put (codes "reqid") (wide t.reqid) (put (codes "second") (string t.second) (put (codes "second-prefix") (string (prefix_text t.second_prefix)) soft)) in
-    let mode = put (codes "mode") (word (mode_word t.now)) second in
+    let mode = put (codes "mode") (word (mode_text t.now)) second in
     let hard = if h then mode else put (codes "hard") (object (limits_members t.hard)) mode in
     object (put (codes "anti-replay-window-size") (count t.window) (put (codes "first") (string t.first) (put (codes "first-prefix") (string (prefix_text t.first_prefix)) hard)))
 

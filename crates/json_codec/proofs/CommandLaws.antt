@@ -1,50 +1,29 @@
 -- Commands that are read, and what they stand for.
-use Rattle.std.proofs.Common.{◌≡◌, ℕ, ◌||◌, Bool, true, false, List, [], ◌∷◌, codes, if◌then◌else◌, Option, Some, None, Result, Ok, Err, refl, sym, ap, subst, ◌∙◌}
+use Rattle.std.proofs.Common.{◌≡◌, ℕ, ◌||◌, Bool, true, false, List, [], ◌∷◌, codes, if◌then◌else◌, Option, Some, None, Ok, refl, sym, subst, ◌∙◌}
 use Rattle.std.specs.List.{list_any}
 use Rattle.std.specs.Str.{bytes_eq}
-use Rattle.serde_json.specs.Data.{Data, string}
+use Rattle.std.proofs.lemmas.Slice.Eq.{bytes_eq-Decides}
+use Rattle.serde_json.specs.Data.{Data}
 use Rattle.serde_json.specs.Find.{get}
 use Rattle.ikeless_tree.specs.declared.command.Command.{Command}
 use Rattle.ikeless_tree.specs.declared.command.Command.TheVariants as commands
 use Rattle.ikeless_tree.specs.declared.command.TunnelSpec.{TunnelSpec}
 use Rattle.ikeless_tree.specs.declared.entry.SpdEntry.{SpdEntry}
-use Rattle.json_values.specs.declared.fault.Kind.{Kind}
-use Rattle.json_values.specs.declared.fault.Kind.TheVariants as kinds
-use Rattle.json_codec.specs.declared.operations.FirstEnd.{FirstEnd}
-use Rattle.json_codec.specs.declared.operations.SecondEnd.{SecondEnd}
+use Rattle.json_codec.specs.declared.command_read.FirstEnd.{FirstEnd}
+use Rattle.json_codec.specs.declared.command_read.SecondEnd.{SecondEnd}
 use Rattle.json_values.specs.Shapes.{lacks}
-use Rattle.json_values.specs.Words.{mode_word}
+use Rattle.ikeless_tree.specs.Words.{mode_text}
 use Rattle.ikeless_tree.specs.Check.{is_gateway}
-use Rattle.json_values.specs.Leaves.{text_in, mode_from, mode_leaf, needed_wide, octets_leaf, name_in}
+use Rattle.json_values.specs.Leaves.{needed_wide, octets_leaf, name_in}
 use Rattle.json_values.specs.Members.{list_input_shape, tunnel_needs, tunnel_input_shape}
-use Rattle.json_tree.specs.Policies.{spd_entry_in, entries_in, entries_of}
-use Rattle.json_tree.specs.Halves.{limits_of}
-use Rattle.json_codec.specs.Operations.{is_operation, prefix_in, needed_window, needed_reqid, mode_in, list_command, first_in, second_in, tunnel_command, only_reqid, only_key, end_command, rekey_command, keys_command, input_in, inputs_in, command_fault, command_in}
+use Rattle.json_tree.specs.PolicyRead.{spd_entry_in, entries_in, entries_of}
+use Rattle.json_tree.specs.SadEntryRead.{limits_of}
+use Rattle.json_codec.specs.CommandRead.{is_operation, prefix_in, needed_window, needed_reqid, mode_in, list_command, first_in, second_in, tunnel_command, only_reqid, only_key, end_command, rekey_command, keys_command, input_in, inputs_in, command_fault, command_in}
 use Rattle.json_values.specs.Json.{Needed, Optional, IsNumber, IsWord, IsWide, IsPrefix, IsHex, IsName, IsListOf, IsOnly, IsSpdEntry, IsLimits, no_limits, IsListInput, IsTunnelInput, IsInput, IsCommand}
-use Rattle.json_values.proofs.LeafLaws.{ok_is, bind_ok, within_ok, within_of, member_ok, text_ok, same, wide_ok, wide_of, needed_number_ok, needed_number_of, needed_prefix_ok, needed_prefix_of, name_ok, name_of}
+use Rattle.json_values.proofs.LeafLaws.{ok_is, bind_ok, within_ok, within_of, member_ok, mode_ok, mode_back, wide_ok, wide_of, needed_number_ok, needed_number_of, needed_prefix_ok, needed_prefix_of, name_ok, name_of}
 use Rattle.json_values.proofs.ShapeLaws.{shape_ok, shape_of, there, only_ok, only_of, only_kept_ok, only_kept_of, list_ok, list_of}
 use Rattle.json_tree.proofs.PolicyLaws.{spd_entry_ok, spd_entry_back, checked_ok}
 use Rattle.json_tree.proofs.HalfLaws.{octets_ok, octets_back, limits_of_ok, limits_of_back}
-
-mode_by : (t : List ℕ) (p q : Bool) (x : Bool) → bytes_eq t (mode_word true) ≡ p → bytes_eq t (mode_word false) ≡ q →
-    (let r : Result Bool Kind = if p then Ok true else if q then Ok false else Err kinds.Unsupported in r) ≡ Ok x → t ≡ mode_word x
-mode_by t true q x e f h = same t _ e ∙ ap mode_word (ok_is true x h)
-mode_by t false true x e f h = same t _ f ∙ ap mode_word (ok_is false x h)
-mode_by t false false x e f h = absurd (let no : ⊥ = cc in no)
-
-mode_again : (x : Bool) → mode_from (mode_word x) ≡ Ok x
-mode_again true = refl
-mode_again false = refl
-
-mode_ok : (x : Bool) (leaf : Option Data) → mode_leaf leaf ≡ Ok x → Needed (IsWord (mode_word x)) leaf
-mode_ok x None h = absurd (let no : ⊥ = cc in no)
-mode_ok x (Some d) h =
-    let step = bind_ok (text_in d) mode_from x h in
-    text_ok d step.0 step.1 ∙ ap string (mode_by step.0 _ _ x refl refl step.2)
-
-mode_back : (x : Bool) (leaf : Option Data) → Needed (IsWord (mode_word x)) leaf → mode_leaf leaf ≡ Ok x
-mode_back x None h = absurd h
-mode_back x (Some d) h = rw h (mode_again x)
 
 wide_leaf_ok : (n : ℕ) (leaf : Option Data) → needed_wide leaf ≡ Ok n → Needed (IsWide n) leaf
 wide_leaf_ok n None h = absurd (let no : ⊥ = cc in no)
@@ -123,7 +102,7 @@ first_back f d h =
     ) refl
 
 record IsSecond (s : SecondEnd) (d : Data) : Type 0 where
-  mode : Needed (IsWord (mode_word s.now)) (get (codes "mode") d)
+  mode : Needed (IsWord (mode_text s.now)) (get (codes "mode") d)
   reqid : Needed (IsWide s.reqid) (get (codes "reqid") d)
   name : Needed (IsName is_gateway s.name) (get (codes "second") d)
   prefix : Needed (IsPrefix s.prefix) (get (codes "second-prefix") d)
@@ -240,12 +219,12 @@ last_by p q r s t h a b c e = let k : (p || q || r || s || t) ≡ t = rw (a, b, 
 input_by : (op : List ℕ) (c : Command) (d : Data) (p q r s : Bool) → is_operation op ≡ true →
     bytes_eq op (codes "policy") ≡ p → bytes_eq op (codes "tunnel") ≡ q → bytes_eq op (codes "end") ≡ r → bytes_eq op (codes "rekey") ≡ s →
     (if p then list_command d else if q then tunnel_command d else if r then end_command d else if s then rekey_command d else keys_command d) ≡ Ok c → IsInput op c d
-input_by op c d true q r s lawful a b e f h = list_command_ok op c d (same op _ a) h
-input_by op c d false true r s lawful a b e f h = tunnel_command_ok op c d (same op _ b) h
-input_by op c d false false true s lawful a b e f h = end_ok op c d (same op _ e) h
-input_by op c d false false false true lawful a b e f h = rekey_ok op c d (same op _ f) h
+input_by op c d true q r s lawful a b e f h = list_command_ok op c d ((bytes_eq-Decides op (codes "policy")).0 a) h
+input_by op c d false true r s lawful a b e f h = tunnel_command_ok op c d ((bytes_eq-Decides op (codes "tunnel")).0 b) h
+input_by op c d false false true s lawful a b e f h = end_ok op c d ((bytes_eq-Decides op (codes "end")).0 e) h
+input_by op c d false false false true lawful a b e f h = rekey_ok op c d ((bytes_eq-Decides op (codes "rekey")).0 f) h
 input_by op c d false false false false lawful a b e f h =
-    keys_ok op c d (same op _ (last_by _ _ _ _ (bytes_eq op (codes "keys")) lawful a b e f)) h
+    keys_ok op c d ((bytes_eq-Decides op (codes "keys")).0 (last_by _ _ _ _ (bytes_eq op (codes "keys")) lawful a b e f)) h
 
 input_ok : (op : List ℕ) (c : Command) (d : Data) → is_operation op ≡ true → input_in op d ≡ Ok c → IsInput op c d
 unfolding input_in

@@ -5,7 +5,7 @@ use Rattle.ikeless_tree.specs.declared.command.Command.{Command}
 use Rattle.ikeless_tree.specs.declared.command.Command.TheVariants as commands
 use Rattle.ikeless_tree.specs.declared.command.TunnelSpec.{TunnelSpec}
 use Rattle.ikeless_tree.specs.declared.entry.SpdEntry.{SpdEntry}
-use Rattle.json_codec.specs.Commands.{policy_input, with_first, with_second, tunnel_input, input_of, command_data}
+use Rattle.json_codec.specs.CommandWritten.{policy_input, with_first, with_second, tunnel_input, input_of, command_data}
 use Rattle.json_tree.proofs.Flat.{IsFlat, flat_put, flat_none, flat_object, flat_string, flat_count, flat_only, flat_spd_entries}
 use Rattle.json_tree.proofs.FlatRows.{flat_lifetime}
 

@@ -3,3 +3,4 @@ pub mod FlatCommand
 pub mod BodyLaws
 pub mod CommandLaws
 pub mod CommandAgain
+pub mod WrittenBodies

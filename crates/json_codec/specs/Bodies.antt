@@ -11,9 +11,9 @@ use Rattle.ikeless_tree.specs.declared.command.Command.{Command}
 use Rattle.json_values.specs.declared.fault.Fault.{Fault}
 use Rattle.json_values.specs.declared.fault.CodecFault.{CodecFault}
 use Rattle.json_values.specs.Faults.{no_json, told}
-use Rattle.json_tree.specs.Policies.{spd_in, one_spd_entry_in}
-use Rattle.json_tree.specs.Halves.{one_sad_entry_in}
-use Rattle.json_codec.specs.Operations.{command_in}
+use Rattle.json_tree.specs.PolicyRead.{spd_in, one_spd_entry_in}
+use Rattle.json_tree.specs.SadEntryRead.{one_sad_entry_in}
+use Rattle.json_codec.specs.CommandRead.{command_in}
 
 -- the value of octets that are JSON in UTF-8
 unfoldable pub json_of : List ℕ → Option Data
@@ -36,7 +36,7 @@ spd_of body = body_read spd_in (json_of body)
 abbrev pub spd_entry_of : List ℕ → Result SpdEntry CodecFault
 spd_entry_of body = body_read one_spd_entry_in (json_of body)
 
--- the one association of a body
+-- the one half of a body
 abbrev pub sad_entry_of : List ℕ → Result SadEntry CodecFault
 sad_entry_of body = body_read one_sad_entry_in (json_of body)
 

@@ -1,3 +1,3 @@
-pub mod Commands
-pub mod Operations
+pub mod CommandWritten
+pub mod CommandRead
 pub mod Bodies

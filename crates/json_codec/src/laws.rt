@@ -1,16 +1,16 @@
 // What is accepted, said apart from how it is read.
-ghost use Rattle.std.specs.Prelude.{◌≡◌, ◌<◌, ◌∷◌, [], ℕ, List, All, Some, Ok, None, IsTrue, IsUtf8};
+ghost use Rattle.std.specs.Prelude.{◌≡◌, ◌∷◌, [], ℕ, List, Some, Ok, None, IsTrue, IsUtf8};
 ghost use Rattle.ikeless_tree.specs.declared.entry.SpdEntry.{SpdEntry};
 ghost use Rattle.ikeless_tree.specs.declared.sad.SadEntry.{SadEntry};
 ghost use Rattle.ikeless_tree.specs.declared.command.Command.{Command};
 ghost use Rattle.ikeless_tree.specs.Check.{spd_fault, sad_fault};
-ghost use Rattle.json_codec.specs.Operations.{is_operation, operation_of, HasWindow, command_fault};
+ghost use Rattle.json_codec.specs.CommandRead.{is_operation, operation_of, HasWindow, command_fault};
 ghost use Rattle.json_codec.specs.Bodies.{spd_of, spd_entry_of, sad_entry_of, command_of};
 ghost use Rattle.serde_json.specs.Read.{read};
 ghost use Rattle.json_values.specs.Written.{one_policy, all_policies};
-ghost use Rattle.json_tree.specs.Associations.{one_association};
-ghost use Rattle.json_codec.specs.Commands.{command_data, IsLawful};
-ghost use Rattle.json_tree.specs.Typed.{IsTypedPolicy, AreTypedPolicies, IsTypedAssociation, IsTypedCommand};
+ghost use Rattle.json_tree.specs.SadEntryWritten.{one_sad_entry};
+ghost use Rattle.json_codec.specs.CommandWritten.{command_data, IsLawful};
+ghost use Rattle.ikeless_tree.specs.Typed.{IsTypedPolicy, AreTypedPolicies, IsTypedHalf, IsTypedCommand};
 ghost use Rattle.json_values.specs.Json.{StandsFor, IsSpd, IsOneSpdEntry, IsOneSadEntry, IsCommand};
 
 /// A body is read as a list of policies exactly where it stands for that list, and the list has no fault.
@@ -29,8 +29,8 @@ pub fn one_policy_is_accepted()
         → StandsFor body (λ d. IsOneSpdEntry e d × (spd_fault (e ∷ []) ≡ None)) → spd_entry_of body ≡ Ok e }
 {}
 
-/// A body is read as one association exactly where it stands for that association, which has no fault.
-pub fn one_association_is_accepted()
+/// A body is read as one half exactly where it stands for that half, which has no fault.
+pub fn one_sad_entry_is_accepted()
     ensures sound { (body : List ℕ) (e : SadEntry) → sad_entry_of body ≡ Ok e
         → StandsFor body (λ d. IsOneSadEntry e d × (sad_fault e ≡ None)) }
     ensures complete { (body : List ℕ) (e : SadEntry)
@@ -57,10 +57,10 @@ pub fn one_policy_reads_again()
         → IsUtf8 text → read text ≡ Some (one_policy e) → spd_entry_of text ≡ Ok e }
 {}
 
-/// What is written for one association is read as it.
-pub fn one_association_reads_again()
-    ensures { (text : List ℕ) (e : SadEntry) → IsTypedAssociation e → sad_fault e ≡ None
-        → IsUtf8 text → read text ≡ Some (one_association e) → sad_entry_of text ≡ Ok e }
+/// What is written for one half is read as it.
+pub fn one_sad_entry_reads_again()
+    ensures { (text : List ℕ) (e : SadEntry) → IsTypedHalf e → sad_fault e ≡ None
+        → IsUtf8 text → read text ≡ Some (one_sad_entry e) → sad_entry_of text ≡ Ok e }
 {
     yang_values::hex_read_again();
 }

@@ -11,7 +11,7 @@ const POLICIES: &str =
 const POLICY: &str =
     r#" { "ietf-i2nsf-ikeless:spd-entry" : [ { "reqid" : "1", "name" : "p1", "ipsec-policy-config" : { "traffic-selector" : { "remote-prefix" : "10.2.0.0/16", "local-prefix" : "10.1.9.9/16" }, "processing-info" : { "action" : "bypass" } }, "direction" : "outbound" } ] } "#;
 
-const ASSOCIATION: &str =
+const SAD_ENTRY: &str =
     r#"{"ietf-i2nsf-ikeless:sad-entry":[{"name":"in/1","reqid":"10","ipsec-sa-config":{"spi":256,"ext-seq-num":false,"seq-overflow":false,"anti-replay-window-size":64,"traffic-selector":{"local-prefix":"10.1.0.0/16","remote-prefix":"10.2.0.0/16"},"protocol-parameters":"esp","mode":"tunnel","esp-sa":{"encryption":{"encryption-algorithm":20,"key":"00:01:02:03:04:05:06:07:08:09:0a:0b:0c:0d:0e:0f:10:11:12:13"}},"sa-lifetime-hard":{"time":3600,"packets":5,"idle":6,"bytes":"7"},"sa-lifetime-soft":{"time":600,"action":"replace"},"tunnel":{"local":"192.0.2.1","remote":"192.0.2.2","df-bit":"copy"}}}]}"#;
 
 const LIST: &str = r#"{"ikl-control:input":{"gateway":"a","spd-entry":[]}}"#;
@@ -167,7 +167,7 @@ fn base(call: &str) -> &'static str {
     match call {
         "p" => POLICIES,
         "e" => POLICY,
-        "a" => ASSOCIATION,
+        "a" => SAD_ENTRY,
         "l" => LIST,
         _ => TUNNEL,
     }

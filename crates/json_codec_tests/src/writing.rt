@@ -117,15 +117,15 @@ fn half_text(alloc: Global, half: &SadEntry) -> Result<Octets, NoMemory> {
     }
 }
 
-const ASSOCIATION_TEXT: &str =
+const SAD_ENTRY_TEXT: &str =
     r#"{"ietf-i2nsf-ikeless:sad-entry":[{"ipsec-sa-config":{"anti-replay-window-size":64,"esp-sa":{"encryption":{"encryption-algorithm":20,"key":"40:61:62:63:64:65:66:67:68:69:6a:6b:6c:6d:6e:6f:70:71:72:73"}},"ext-seq-num":false,"mode":"tunnel","protocol-parameters":"esp","sa-lifetime-hard":{"time":3600},"sa-lifetime-soft":{"action":"replace","bytes":"7"},"seq-overflow":false,"spi":256,"traffic-selector":{"inner-protocol":"any","local-prefix":"10.1.0.0/16","remote-prefix":"10.2.0.0/16"},"tunnel":{"df-bit":"copy","local":"192.0.2.1","remote":"192.0.2.2"}},"name":"in/1","reqid":"10"}]}"#;
 
 #[test]
-fn one_association_is_written(rt: HostRuntime) -> Result<(), Fail> {
+fn one_sad_entry_is_written(rt: HostRuntime) -> Result<(), Fail> {
     let alloc = rt.alloc();
     let half = half(alloc)?;
     let text = half_text(alloc, &half)?;
-    assert!(rt; text.as_slice() == ASSOCIATION_TEXT.as_bytes());
+    assert!(rt; text.as_slice() == SAD_ENTRY_TEXT.as_bytes());
     Ok(())
 }
 

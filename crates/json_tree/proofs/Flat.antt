@@ -1,6 +1,7 @@
 -- What is written has no floats, and nests a few levels deep.
-use Rattle.std.proofs.Common.{◌≡◌, ◌≤◌, ℕ, suc, max, Bool, true, false, ◌||◌, List, [], ◌∷◌, Option, Some, None, Ordering, Less, Equal, Greater, refl, arith, codes}
+use Rattle.std.proofs.Common.{◌≡◌, ◌≤◌, ℕ, suc, max, false, List, [], ◌∷◌, Option, Some, None, Ordering, Less, Equal, Greater, refl, arith, codes}
 use Rattle.std.specs.Ordering.{nat_cmp, match_ordering}
+use Rattle.std.proofs.lemmas.Bool.{or_from, or_parts}
 use Rattle.std.specs.Cmp.Lexicographic.{slice_cmp}
 use Rattle.serde_json.specs.Data.{Data, string, array, object, Items, no_items, item, Members, no_members, member, put, depth, items_depth, members_depth}
 use Rattle.serde_json.specs.Written.{has_float, items_have_float, members_have_float}
@@ -21,18 +22,11 @@ pub record AreFlatItems (n : ℕ) (ds : Items) : Type 0 where
   pub plain : items_have_float ds ≡ false
   pub shallow : items_depth ds ≤ n
 
-or_no : (a b : Bool) → a ≡ false → b ≡ false → (a || b) ≡ false
-or_no a b p q = rw (p, q) refl
-
-or_parts : (a b : Bool) → (a || b) ≡ false → (a ≡ false) × (b ≡ false)
-or_parts true b h = absurd (let e : ⊥ = cc in e)
-or_parts false b h = (refl, h)
-
 both_small : (a b n : ℕ) → a ≤ n → b ≤ n → max a b ≤ n
 both_small a b n p q = omega arith
 
 flat_member : (n : ℕ) (k : List ℕ) (d : Data) (ms : Members) → IsFlat n d → AreFlat n ms → AreFlat n (member k d ms)
-flat_member n k d ms f m = record { plain = or_no _ _ f.plain m.plain; shallow = both_small _ _ n f.shallow m.shallow }
+flat_member n k d ms f m = record { plain = or_from _ _ f.plain m.plain; shallow = both_small _ _ n f.shallow m.shallow }
 
 member_flat : (n : ℕ) (k : List ℕ) (d : Data) (ms : Members) → AreFlat n (member k d ms) → IsFlat n d × AreFlat n ms
 member_flat n k d ms h =
@@ -72,7 +66,7 @@ pub flat_count : (n c : ℕ) → IsFlat n (count c)
 flat_count n c = record { plain = refl; shallow = omega arith }
 
 pub flat_item : (n : ℕ) (d : Data) (ds : Items) → IsFlat n d → AreFlatItems n ds → AreFlatItems n (item d ds)
-flat_item n d ds f m = record { plain = or_no _ _ f.plain m.plain; shallow = both_small _ _ n f.shallow m.shallow }
+flat_item n d ds f m = record { plain = or_from _ _ f.plain m.plain; shallow = both_small _ _ n f.shallow m.shallow }
 
 pub flat_no_items : (n : ℕ) → AreFlatItems n no_items
 flat_no_items n = record { plain = refl; shallow = omega arith }

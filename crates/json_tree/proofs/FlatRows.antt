@@ -1,4 +1,4 @@
--- What is written for associations has no floats, and nests a few levels deep.
+-- What is written for halves has no floats, and nests a few levels deep.
 use Rattle.std.proofs.Common.{◌==◌, ℕ, Bool, true, false, if◌then◌else◌, List, [], ◌∷◌, Option, Some, None, refl, arith, codes, decimal}
 use Rattle.serde_json.specs.Data.{string, boolean, object, Members, no_members, put}
 use Rattle.ikeless_tree.specs.declared.sad.Limits.{Limits}
@@ -6,14 +6,14 @@ use Rattle.ikeless_tree.specs.declared.sad.SadEntry.{SadEntry}
 use Rattle.ikeless_tree.specs.declared.sad.SadRow.{SadRow}
 use Rattle.ikeless_tree.specs.declared.sad.SaState.{SaState}
 use Rattle.json_values.specs.Written.{count, wide, only}
-use Rattle.json_tree.specs.Associations.{with_count, with_wide, limits_members, has_no_limits, with_lifetime, with_soft, tunnel_data, encryption_data, with_key, with_sealing, with_fixed, with_ends, config_data, sad_entry_data, counts_data, state_data, with_state, row_data, row_items, one_association, all_rows}
+use Rattle.json_tree.specs.SadEntryWritten.{with_count, with_wide, limits_members, has_no_limits, with_lifetime, with_soft, tunnel_data, encryption_data, with_key, with_sealing, with_fixed, with_ends, config_data, sad_entry_data, counts_data, state_data, with_state, row_data, row_items, one_sad_entry, all_rows}
 use Rattle.json_tree.proofs.Flat.{IsFlat, AreFlat, AreFlatItems, flat_put, flat_none, flat_object, flat_array, flat_string, flat_count, flat_item, flat_no_items, flat_only, flat_selector}
 
 flat_if : (n : ℕ) (b : Bool) (x y : Members) → AreFlat n x → AreFlat n y → AreFlat n (if b then x else y)
 flat_if n true x y f g = f
 flat_if n false x y f g = g
 
-flat_bool : (n : ℕ) (b : Bool) → IsFlat n (boolean b)
+pub flat_bool : (n : ℕ) (b : Bool) → IsFlat n (boolean b)
 flat_bool n b = record { plain = refl; shallow = omega arith }
 
 flat_with_count : (n : ℕ) (name : List ℕ) (c : ℕ) (ms : Members) → AreFlat n ms → AreFlat n (with_count name c ms)
@@ -79,7 +79,7 @@ unfolding sad_entry_data
 flat_sad_entry e = flat_object 4 _ (flat_put 4 (codes "ipsec-sa-config") _ _ (flat_config e (Some e.key))
     (flat_put 4 (codes "name") _ _ (flat_string 4 e.name) (flat_put 4 (codes "reqid") _ _ (flat_string 4 _) (flat_none 4))))
 
-flat_counts : (l : Limits) → IsFlat 3 (counts_data l)
+pub flat_counts : (l : Limits) → IsFlat 3 (counts_data l)
 flat_counts l = flat_object 2 _ (flat_put 2 (codes "bytes") _ _ (flat_string 2 _) (flat_put 2 (codes "idle") _ _ (flat_count 2 l.idle)
     (flat_put 2 (codes "packets") _ _ (flat_count 2 l.packets) (flat_put 2 (codes "time") _ _ (flat_count 2 l.time) (flat_none 2)))))
 
@@ -98,8 +98,8 @@ flat_rows : (rs : List SadRow) → AreFlatItems 5 (row_items rs)
 flat_rows [] = flat_no_items 5
 flat_rows (r ∷ rs) = flat_item 5 _ _ (flat_row r) (flat_rows rs)
 
-pub flat_one_association : (e : SadEntry) → IsFlat 7 (one_association e)
-flat_one_association e = flat_only 6 (codes "ietf-i2nsf-ikeless:sad-entry") _ (flat_array 5 _ (flat_item 5 _ _ (flat_sad_entry e) (flat_no_items 5)))
+pub flat_one_sad_entry : (e : SadEntry) → IsFlat 7 (one_sad_entry e)
+flat_one_sad_entry e = flat_only 6 (codes "ietf-i2nsf-ikeless:sad-entry") _ (flat_array 5 _ (flat_item 5 _ _ (flat_sad_entry e) (flat_no_items 5)))
 
 pub flat_all_rows : (rs : List SadRow) → IsFlat 8 (all_rows rs)
 flat_all_rows rs = flat_only 7 (codes "ietf-i2nsf-ikeless:sad") _ (flat_only 6 (codes "sad-entry") _ (flat_array 5 _ (flat_rows rs)))

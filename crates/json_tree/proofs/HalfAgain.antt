@@ -1,7 +1,7 @@
--- What is written for an association stands for it.
+-- What is written for a half stands for it.
 use Rattle.std.proofs.Common.{◌≡◌, ℕ, ◌<◌, ◌≤◌, ◌^◌, ◌-◌, ◌==◌, ◌&&◌, nat_lt, if◌then◌else◌, Bool, true, false, List, codes, length, Some, None, Ok, refl, arith}
 use Rattle.std.specs.List.{All}
-use Rattle.std.proofs.lemmas.Bool.{and_parts}
+use Rattle.std.proofs.lemmas.Bool.{and_parts, not-false}
 use Rattle.std.proofs.lemmas.Bool.Decides.{nat_tests}
 use Rattle.serde_json.specs.Data.{Data, Members, no_members, string, object, put}
 use Rattle.ikl_base.specs.declared.address.Addr.{Addr}
@@ -12,10 +12,10 @@ use Rattle.yang_values.specs.HexText.{hex_of, hex_colons}
 use Rattle.yang_values.specs.Addresses.{IsAddress, address_text}
 use Rattle.yang_values.proofs.AddressText.{address_again}
 use Rattle.json_values.specs.Written.{count, wide, word}
-use Rattle.json_tree.specs.Associations.{limits_members, has_no_limits, tunnel_data, encryption_data, with_ends, with_fixed, with_sealing, config_data, sad_entry_data, one_association}
+use Rattle.json_tree.specs.SadEntryWritten.{limits_members, has_no_limits, tunnel_data, encryption_data, with_ends, with_fixed, with_sealing, config_data, sad_entry_data, one_sad_entry}
 use Rattle.json_values.specs.Json.{IsAddressText, no_limits, IsLimits, IsSoft, IsEncryption, IsTunnel, IsHalfConfig, IsSadEntry, IsOneSadEntry}
-use Rattle.json_tree.specs.Typed.{IsTypedLimits, IsTypedAssociation}
-use Rattle.json_tree.proofs.Passed.{no_fault, holds}
+use Rattle.ikeless_tree.specs.Typed.{IsTypedLimits, IsTypedHalf}
+use Rattle.json_tree.proofs.Passed.{no_fault}
 use Rattle.json_tree.proofs.PolicyAgain.{number_again, wide_again, selector_again, window_again}
 
 abbrev pub CanHex : Type 0
@@ -27,7 +27,7 @@ address_text_again a is = (address_text a, refl, address_again a is)
 zero_is : (n : ℕ) → (n == 0) ≡ true → n ≡ 0
 zero_is n h = grind (arith, nat_tests, h)
 
-small : (n : ℕ) → n < 2 ^ 32 → n ≤ 2 ^ 32 - 1
+pub small : (n : ℕ) → n < 2 ^ 32 → n ≤ 2 ^ 32 - 1
 small n h = omega arith
 
 -- the members of limits, by which of them are zero
@@ -103,12 +103,12 @@ none_is l h =
 encryption_again : CanHex → (key : List ℕ) → All (λ o. o < 256) key → is_key_length (length key) ≡ true → IsEncryption key (encryption_data (Some key))
 encryption_again hex key octets long = record { members = refl; algorithm = refl; key = ((hex_colons key, refl, hex key octets), long) }
 
-tunnel_again : (e : SadEntry) → IsTypedAssociation e → IsTunnel e (tunnel_data e)
+tunnel_again : (e : SadEntry) → IsTypedHalf e → IsTunnel e (tunnel_data e)
 unfolding tunnel_data
 tunnel_again e typed = record { members = refl; df = refl; local = address_text_again e.local typed.local; remote = address_text_again e.remote typed.remote }
 
 record IsGood (e : SadEntry) : Type 0 where
-  typed : IsTypedAssociation e
+  typed : IsTypedHalf e
   name : is_sad_name e.name ≡ true
   spi : 256 ≤ e.spi
   key : is_key_length (length e.key) ≡ true
@@ -193,7 +193,7 @@ entry_again hex e good = record {
   reqid = wide_again e.reqid good.typed.reqid;
 }
 
-good_half : (e : SadEntry) → IsTypedAssociation e → sad_fault e ≡ None → IsGood e
+good_half : (e : SadEntry) → IsTypedHalf e → sad_fault e ≡ None → IsGood e
 unfolding sad_fault
 good_half e typed h =
     let named = no_fault _ _ _ h in
@@ -203,11 +203,11 @@ good_half e typed h =
     let high : nat_lt e.spi 256 ≡ false = numbered.0 in
     record {
       typed = typed;
-      name = holds _ named.0;
+      name = not-false _ named.0;
       spi = grind (arith, nat_tests, high);
-      key = holds _ keyed.0;
-      window = holds _ windowed.0;
+      key = not-false _ keyed.0;
+      window = not-false _ windowed.0;
     }
 
-pub one_half_again : CanHex → (e : SadEntry) → IsTypedAssociation e → sad_fault e ≡ None → IsOneSadEntry e (one_association e)
+pub one_half_again : CanHex → (e : SadEntry) → IsTypedHalf e → sad_fault e ≡ None → IsOneSadEntry e (one_sad_entry e)
 one_half_again hex e typed h = (refl, (sad_entry_data e, refl, entry_again hex e (good_half e typed h)))

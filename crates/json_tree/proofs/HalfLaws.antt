@@ -1,13 +1,11 @@
--- Associations that are read, and what they stand for.
+-- Halves that are read, and what they stand for.
 use Rattle.std.proofs.Common.{◌≡◌, ℕ, ◌-◌, ◌^◌, ◌==◌, Bool, true, false, List, [], ◌∷◌, codes, length, if◌then◌else◌, Option, Some, None, option_and_then, Result, Ok, Err, refl, sym, ap, subst, ◌∙◌, arith}
 use Rattle.std.specs.Bool.{⊤}
 use Rattle.std.specs.List.{list_any}
-use Rattle.std.specs.Str.{bytes_eq}
 use Rattle.std.proofs.lemmas.Bool.Decides.{nat_tests}
-use Rattle.serde_json.specs.Data.{Data, number, string, unsigned}
+use Rattle.serde_json.specs.Data.{Data, number, unsigned}
 use Rattle.serde_json.specs.Find.{get, as_number, as_u64}
 use Rattle.ikl_base.specs.declared.address.Addr.{Addr}
-use Rattle.ikeless_tree.specs.declared.sad.Df.{Df}
 use Rattle.ikeless_tree.specs.declared.sad.Df.TheVariants as bits
 use Rattle.ikeless_tree.specs.declared.sad.Limits.{Limits}
 use Rattle.ikeless_tree.specs.declared.sad.SadEntry.{SadEntry}
@@ -16,47 +14,25 @@ use Rattle.yang_values.specs.Addresses.{address_of}
 use Rattle.yang_values.specs.HexText.{hex_of}
 use Rattle.json_values.specs.declared.fault.Kind.{Kind}
 use Rattle.json_values.specs.declared.fault.Kind.TheVariants as kinds
-use Rattle.json_tree.specs.declared.halves.Sealing.{Sealing}
-use Rattle.json_tree.specs.declared.halves.Lifetimes.{Lifetimes}
-use Rattle.json_tree.specs.declared.halves.TunnelEnds.{TunnelEnds}
-use Rattle.json_tree.specs.declared.halves.Traffic.{Traffic}
-use Rattle.json_tree.specs.declared.halves.HalfConfig.{HalfConfig}
+use Rattle.json_tree.specs.declared.sad_entry_read.Sealing.{Sealing}
+use Rattle.json_tree.specs.declared.sad_entry_read.Lifetimes.{Lifetimes}
+use Rattle.json_tree.specs.declared.sad_entry_read.TunnelEnds.{TunnelEnds}
+use Rattle.json_tree.specs.declared.sad_entry_read.Traffic.{Traffic}
+use Rattle.json_tree.specs.declared.sad_entry_read.HalfConfig.{HalfConfig}
 use Rattle.json_values.specs.Faults.{at_member}
 use Rattle.json_values.specs.Shapes.{lacks}
-use Rattle.json_values.specs.Words.{df_word}
-use Rattle.json_values.specs.Leaves.{or_form, text_in, df_from, df_leaf, address_from, address_leaf, octets_from, octets_leaf, keying, key_leaf, fixed_number, this_number, count_or, wide_or, name_in}
+use Rattle.ikeless_tree.specs.Words.{df_text}
+use Rattle.json_values.specs.Leaves.{or_form, text_in, address_from, address_leaf, octets_from, octets_leaf, keying, key_leaf, fixed_number, this_number, count_or, wide_or, name_in}
 use Rattle.json_values.specs.Members.{limits_names, limits_shape, soft_shape, encryption_shape, tunnel_shape, config_names, config_shape, sad_entry_shape}
-use Rattle.json_tree.specs.Selectors.{limits_from, selector_of}
-use Rattle.json_tree.specs.Policies.{unset_in, word_in, window_in, reqid_in}
-use Rattle.json_tree.specs.Halves.{algorithm_in, key_in, encryption_in, suite_key, suite_key_of, sealing_in, limits_in, limits_of, soft_in, soft_of, lifetimes_in, df_in, address_in, tunnel_in, tunnel_of, spi_in, traffic_in, config_in, config_of, half_of, sad_entry_in, one_half, one_sad_entry_in}
+use Rattle.json_tree.specs.SelectorRead.{limits_from, selector_of}
+use Rattle.json_tree.specs.PolicyRead.{unset_in, word_in, window_in, reqid_in}
+use Rattle.json_tree.specs.SadEntryRead.{algorithm_in, key_in, encryption_in, suite_key, suite_key_of, sealing_in, limits_in, limits_of, soft_in, soft_of, lifetimes_in, df_in, address_in, tunnel_in, tunnel_of, spi_in, traffic_in, config_in, config_of, half_of, sad_entry_in, one_half, one_sad_entry_in}
 use Rattle.json_values.specs.Json.{HasOnly, Needed, Optional, IsNumber, IsWord, IsFalse, IsHex, IsKey, IsAddressText, IsOnly, HasLimits, no_limits, IsLimits, IsSoft, IsAlgorithm, IsEncryption, IsTunnel, IsHalfConfig, IsSadEntry, IsOneSadEntry}
-use Rattle.json_values.proofs.LeafLaws.{ok_is, bind_ok, within_ok, within_of, member_ok, member_of, text_ok, u64_ok, kind_ok, kind_of, same, needed_number_ok, needed_number_of, number_or_ok, number_or_of, wide_or_ok, wide_or_of, name_ok, name_of}
+use Rattle.json_values.proofs.LeafLaws.{ok_is, bind_ok, within_ok, within_of, member_ok, member_of, text_ok, u64_ok, kind_ok, kind_of, df_ok, df_back, needed_number_ok, needed_number_of, number_or_ok, number_or_of, wide_or_ok, wide_or_of, name_ok, name_of}
 use Rattle.json_values.proofs.ShapeLaws.{shape_ok, shape_of, there, only_ok, only_of, one_ok, one_of}
 use Rattle.json_tree.proofs.PolicyLaws.{unset_in_ok, unset_in_of, word_in_ok, word_in_of, selector_of_ok, selector_of_back, checked_ok}
 
 -- ---- leaves
-
-df_by : (t : List ℕ) (p q r : Bool) (x : Df) → bytes_eq t (df_word bits.Clear) ≡ p → bytes_eq t (df_word bits.Set) ≡ q → bytes_eq t (df_word bits.Copy) ≡ r →
-    (let s : Result Df Kind = if p then Ok bits.Clear else if q then Ok bits.Set else if r then Ok bits.Copy else Err kinds.Unsupported in s) ≡ Ok x → t ≡ df_word x
-df_by t true q r x e f g h = same t _ e ∙ ap df_word (ok_is bits.Clear x h)
-df_by t false true r x e f g h = same t _ f ∙ ap df_word (ok_is bits.Set x h)
-df_by t false false true x e f g h = same t _ g ∙ ap df_word (ok_is bits.Copy x h)
-df_by t false false false x e f g h = absurd (let no : ⊥ = cc in no)
-
-df_again : (x : Df) → df_from (df_word x) ≡ Ok x
-df_again bits.Clear = refl
-df_again bits.Set = refl
-df_again bits.Copy = refl
-
-df_ok : (x : Df) (leaf : Option Data) → df_leaf leaf ≡ Ok x → Optional (IsWord (df_word x)) (x ≡ bits.Copy) leaf
-df_ok x None h = sym (ok_is bits.Copy x h)
-df_ok x (Some d) h =
-    let step = bind_ok (text_in d) df_from x h in
-    text_ok d step.0 step.1 ∙ ap string (df_by step.0 _ _ _ x refl refl refl step.2)
-
-df_back : (x : Df) (leaf : Option Data) → Optional (IsWord (df_word x)) (x ≡ bits.Copy) leaf → df_leaf leaf ≡ Ok x
-df_back x None h = ap Ok (sym h)
-df_back x (Some d) h = rw h (df_again x)
 
 address_ok : (a : Addr) (leaf : Option Data) → address_leaf leaf ≡ Ok a → Needed (IsAddressText a) leaf
 address_ok a None h = absurd (let no : ⊥ = cc in no)
@@ -105,7 +81,7 @@ algorithm_back (Some d) h = rw h refl
 
 -- ---- lifetimes
 
-limits_ok : (l : Limits) (d : Data) → limits_from d ≡ Ok l → HasLimits l d
+pub limits_ok : (l : Limits) (d : Data) → limits_from d ≡ Ok l → HasLimits l d
 unfolding limits_from
 limits_ok l d h =
     let a = bind_ok (at_member (codes "bytes") (wide_or 0 (get (codes "bytes") d))) _ l h in
@@ -119,7 +95,7 @@ limits_ok l d h =
       time = number_or_ok 0 0 (2 ^ 32 - 1) e.0 (get (codes "time") d) (member_ok (codes "time") _ e.0 e.1);
     })
 
-limits_back : (l : Limits) (d : Data) → HasLimits l d → limits_from d ≡ Ok l
+pub limits_back : (l : Limits) (d : Data) → HasLimits l d → limits_from d ≡ Ok l
 unfolding limits_from
 limits_back l d h =
     rw (
@@ -162,7 +138,7 @@ soft_of_back l (Some d) h =
     let read : soft_in d ≡ Ok l = rw (shape_of (codes "action" ∷ limits_names) [] d h.members refl, word_in_of (codes "action") (codes "replace") d h.action) (limits_back l d h.limits) in
     within_of (codes "sa-lifetime-soft") (soft_in d) l read
 
--- ---- associations
+-- ---- halves
 
 encryption_ok : (key : List ℕ) (d : Data) → encryption_in d ≡ Ok key → IsEncryption key d
 unfolding encryption_in encryption_shape
@@ -257,7 +233,7 @@ lifetimes_back l d h =
 
 record AreEnds (t : TunnelEnds) (d : Data) : Type 0 where
   members : HasOnly (codes "df-bit" ∷ codes "local" ∷ codes "remote" ∷ []) d
-  df : Optional (IsWord (df_word t.df)) (t.df ≡ bits.Copy) (get (codes "df-bit") d)
+  df : Optional (IsWord (df_text t.df)) (t.df ≡ bits.Copy) (get (codes "df-bit") d)
   local : Needed (IsAddressText t.local) (get (codes "local") d)
   remote : Needed (IsAddressText t.remote) (get (codes "remote") d)
 

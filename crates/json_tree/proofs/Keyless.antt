@@ -1,4 +1,4 @@
--- What is written for all associations has no member `key`, at any depth.
+-- What is written for all halves has no member `key`, at any depth.
 use Rattle.std.proofs.Common.{◌≡◌, ◌==◌, ◌&&◌, not, ℕ, Bool, true, false, if◌then◌else◌, List, [], ◌∷◌, Option, Some, None, Ordering, Less, Equal, Greater, refl, codes}
 use Rattle.std.specs.Str.{bytes_eq}
 use Rattle.std.specs.Ordering.{nat_cmp, match_ordering}
@@ -12,7 +12,7 @@ use Rattle.ikeless_tree.specs.declared.sad.SadEntry.{SadEntry}
 use Rattle.ikeless_tree.specs.declared.sad.SadRow.{SadRow}
 use Rattle.ikeless_tree.specs.declared.sad.SaState.{SaState}
 use Rattle.json_values.specs.Written.{count, wide, only, range_data, range_items, with_ports, proto_data, selector_data}
-use Rattle.json_tree.specs.Associations.{with_count, with_wide, limits_members, has_no_limits, with_lifetime, with_soft, tunnel_data, encryption_data, with_sealing, with_fixed, with_ends, config_data, counts_data, state_data, with_state, row_data, row_items, all_rows, is_free_of, are_free_of, have_not}
+use Rattle.json_tree.specs.SadEntryWritten.{with_count, with_wide, limits_members, has_no_limits, with_lifetime, with_soft, tunnel_data, encryption_data, with_sealing, with_fixed, with_ends, config_data, counts_data, state_data, with_state, row_data, row_items, all_rows, is_free_of, are_free_of, have_not}
 
 pub record IsFree (d : Data) : Type 0 where
   pub free : is_free_of (codes "key") d ≡ true

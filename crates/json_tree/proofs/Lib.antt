@@ -8,3 +8,4 @@ pub mod PolicyAgain
 pub mod HalfAgain
 pub mod OneRow
 pub mod RowTexts
+pub mod Writable

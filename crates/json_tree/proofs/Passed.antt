@@ -1,7 +1,7 @@
--- What is known of policies and associations in which no fault was found.
-use Rattle.std.proofs.Common.{◌≡◌, ℕ, Bool, true, false, not, ◌&&◌, ◌++◌, if◌then◌else◌, nat_le, List, [], ◌∷◌, length, Option, Some, None, refl}
+-- What is known of policies and halves in which no fault was found.
+use Rattle.std.proofs.Common.{◌≡◌, ℕ, Bool, true, false, ◌&&◌, ◌++◌, if◌then◌else◌, nat_le, List, [], ◌∷◌, length, Option, Some, None, refl}
 use Rattle.std.specs.List.{list_all}
-use Rattle.std.proofs.lemmas.Bool.{and_from, and_parts, or_left, or_cases}
+use Rattle.std.proofs.lemmas.Bool.{and_from, and_parts, not-false, or_left, or_cases}
 use Rattle.std.proofs.lemmas.List.Folds.{list_all-append}
 use Rattle.std.proofs.lemmas.List.{take-append-drop}
 use Rattle.std.proofs.lemmas.Slice.Eq.{bytes_eq-Decides}
@@ -9,7 +9,7 @@ use Rattle.std.specs.Str.{bytes_eq}
 use Rattle.std.proofs.Common.{codes, ◌==◌, ◌∙◌, take, drop, inl, inr}
 use Rattle.ikeless_tree.specs.declared.sad.SadEntry.{SadEntry}
 use Rattle.ikeless_tree.specs.declared.sad.SadRow.{SadRow}
-use Rattle.json_tree.specs.Associations.{is_row_named, ArePassed}
+use Rattle.json_tree.specs.SadEntryWritten.{is_row_named, ArePassed}
 use Rattle.ikeless_tree.specs.Check.{is_sad_name, is_serial, has_front, is_word_octet, sad_fault, is_path_octet, is_spd_name, entry_fault, entries_fault, first_of, spd_fault}
 use Rattle.ikeless_tree.specs.declared.reply.TreeFault.{TreeFault}
 use Rattle.ikeless_tree.specs.declared.entry.SpdEntry.{SpdEntry}
@@ -23,10 +23,6 @@ pub first_none : (a b : Option TreeFault) → first_of a b ≡ None → (a ≡ N
 first_none None b h = (refl, h)
 first_none (Some x) b h = absurd (let e : ⊥ = cc in e)
 
-pub holds : (b : Bool) → not b ≡ false → b ≡ true
-holds true h = refl
-holds false h = cc
-
 third : (a b c : Bool) → (a && b && c) ≡ true → c ≡ true
 third true true c h = h
 third true false c h = cc
@@ -37,7 +33,7 @@ path_octets name h = third (nat_le 1 (length name)) (nat_le (length name) 64) (l
 
 named : (before : List SpdEntry) (e : SpdEntry) → entry_fault before e ≡ None → is_spd_name e.name ≡ true
 unfolding entry_fault
-named before e h = holds _ (no_fault _ _ _ (no_fault _ _ _ h).1).0
+named before e h = not-false _ (no_fault _ _ _ (no_fault _ _ _ h).1).0
 
 all_named : (before es : List SpdEntry) → entries_fault before es ≡ None → list_all is_named_well es ≡ true
 all_named before [] h = refl
@@ -49,16 +45,12 @@ pub passed_names : (es : List SpdEntry) → spd_fault es ≡ None → list_all i
 unfolding spd_fault
 passed_names es h = all_named [] es (no_fault _ _ _ h).1
 
-alone : (b : Bool) → (b && true) ≡ true → b ≡ true
-alone true h = refl
-alone false h = h
-
 pub passed_name : (e : SpdEntry) → spd_fault (e ∷ []) ≡ None → is_spd_name e.name ≡ true
-passed_name e h = alone (is_spd_name e.name) (passed_names (e ∷ []) h)
+passed_name e h = (and_parts (is_spd_name e.name) true (passed_names (e ∷ []) h)).0
 
 pub passed_half : (e : SadEntry) → sad_fault e ≡ None → is_sad_name e.name ≡ true
 unfolding sad_fault
-passed_half e h = holds _ (no_fault _ _ _ h).0
+passed_half e h = not-false _ (no_fault _ _ _ h).0
 
 pub passed_rows : (rs : List SadRow) → ArePassed rs → list_all is_row_named rs ≡ true
 passed_rows [] h = refl

@@ -1,7 +1,7 @@
 -- What is written for policies stands for them.
 use Rattle.std.proofs.Common.{◌≡◌, ℕ, ◌<◌, ◌≤◌, ◌^◌, ◌++◌, nat_le, true, List, [], ◌∷◌, codes, map, Option, Some, None, refl, arith, decimal}
 use Rattle.std.specs.List.{All, AllByRecursion}
-use Rattle.std.proofs.lemmas.Bool.{and_parts}
+use Rattle.std.proofs.lemmas.Bool.{and_parts, not-false}
 use Rattle.std.proofs.lemmas.Bool.Decides.{nat_tests}
 use Rattle.std.proofs.lemmas.List.Elements.{recursion_from_All}
 use Rattle.serde_json.specs.Data.{Data, string, array}
@@ -17,11 +17,11 @@ use Rattle.yang_values.specs.Prefixes.{prefix_text}
 use Rattle.yang_values.proofs.ValueText.{number_of-decimal}
 use Rattle.yang_values.proofs.AddressText.{address_again}
 use Rattle.yang_values.proofs.PrefixText.{prefix_again}
-use Rattle.json_values.specs.Words.{action_word}
+use Rattle.ikeless_tree.specs.Words.{action_text}
 use Rattle.json_values.specs.Written.{count, wide, word, only, range_data, range_items, proto_data, selector_data, policy_data, spd_entry_data, spd_entry_items, spd_entries_data, one_policy, all_policies}
 use Rattle.json_values.specs.Json.{IsNumber, IsWide, IsPrefix, IsProtocol, Each, IsListOf, IsRange, ArePorts, IsSelector, IsProcessing, IsPolicy, IsSpdEntry, IsSpd, IsOneSpdEntry}
-use Rattle.json_tree.specs.Typed.{IsTypedRange, IsTypedProtocol, IsTypedSelector, IsTypedPolicy, AreTypedPolicies}
-use Rattle.json_tree.proofs.Passed.{no_fault, first_none, holds}
+use Rattle.ikeless_tree.specs.Typed.{IsTypedRange, IsTypedProtocol, IsTypedSelector, IsTypedPolicy, AreTypedPolicies}
+use Rattle.json_tree.proofs.Passed.{no_fault, first_none}
 
 pub number_again : (least most n : ℕ) → least ≤ n → n ≤ most → IsNumber least most n (count n)
 number_again least most n low high = (refl, low, high)
@@ -89,7 +89,7 @@ selector_by l r p (a ∷ as') (b ∷ bs) tl tr tp tlp trp = record {
 pub selector_again : (s : Selector) → IsTypedSelector s → IsSelector s (selector_data s)
 selector_again s typed = selector_by s.local s.remote s.proto s.local_ports s.remote_ports typed.local typed.remote typed.proto typed.local_ports typed.remote_ports
 
-processing_again : (x : Action) → IsProcessing x (only (codes "action") (word (action_word x)))
+processing_again : (x : Action) → IsProcessing x (only (codes "action") (word (action_text x)))
 processing_again x = record { members = refl; action = refl; suite = tt }
 
 pub window_again : (n : ℕ) → is_window n ≡ true → IsNumber 32 4096 n (count n)
@@ -127,7 +127,7 @@ unfolding entry_fault
 good_entry before e typed h =
     let named = no_fault _ _ _ h in
     let windowed = no_fault _ _ _ named.1 in
-    record { typed = typed; name = holds _ windowed.0; window = holds _ (no_fault _ _ _ windowed.1).0 }
+    record { typed = typed; name = not-false _ windowed.0; window = not-false _ (no_fault _ _ _ windowed.1).0 }
 
 good_entries : (before es : List SpdEntry) → AllByRecursion IsTypedPolicy es → entries_fault before es ≡ None → AllByRecursion IsGood es
 good_entries before [] typed h = tt
@@ -135,7 +135,7 @@ good_entries before (e ∷ es) typed h =
     let parts = first_none (entry_fault before e) (entries_fault (before ++ e ∷ []) es) h in
     (good_entry before e typed.0 parts.0, good_entries (before ++ e ∷ []) es typed.1 parts.1)
 
-unfaulted : (es : List SpdEntry) → spd_fault es ≡ None → entries_fault [] es ≡ None
+pub unfaulted : (es : List SpdEntry) → spd_fault es ≡ None → entries_fault [] es ≡ None
 unfolding spd_fault
 unfaulted es h = (no_fault _ _ _ h).1
 

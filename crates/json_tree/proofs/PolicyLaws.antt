@@ -11,16 +11,16 @@ use Rattle.ikeless_tree.specs.declared.entry.Selector.{Selector}
 use Rattle.ikeless_tree.specs.declared.entry.SpdEntry.{SpdEntry}
 use Rattle.ikeless_tree.specs.declared.reply.TreeFault.{TreeFault}
 use Rattle.ikeless_tree.specs.Check.{is_spd_name, spd_fault}
-use Rattle.json_tree.specs.declared.selectors.Side.{Side}
-use Rattle.json_tree.specs.declared.entries.PolicyConfig.{PolicyConfig}
+use Rattle.json_tree.specs.declared.selector_read.Side.{Side}
+use Rattle.json_tree.specs.declared.policy_read.PolicyConfig.{PolicyConfig}
 use Rattle.json_values.specs.Faults.{at_member, checked}
 use Rattle.json_values.specs.Shapes.{lacks, items_read}
 use Rattle.json_values.specs.Leaves.{needed_number, prefix_leaf, protocol_leaf, direction_leaf, action_leaf, fixed_word, unset_leaf, name_in}
 use Rattle.json_values.specs.Members.{range_names, range_shape, selector_names, selector_shape, suite_shape, processing_shape, policy_shape, spd_entry_shape}
-use Rattle.json_tree.specs.Selectors.{range_in, ports_in, side_in, selector_in, selector_of}
-use Rattle.json_tree.specs.Policies.{unset_in, word_in, window_in, reqid_in, suite_front, suite_back, suite_in, suite_of, processing_in, processing_of, policy_in, policy_of, spd_entry_in, entries_in, database_in, all_entries, spd_in, one_entry, one_spd_entry_in}
+use Rattle.json_tree.specs.SelectorRead.{range_in, ports_in, side_in, selector_in, selector_of}
+use Rattle.json_tree.specs.PolicyRead.{unset_in, word_in, window_in, reqid_in, suite_front, suite_back, suite_in, suite_of, processing_in, processing_of, policy_in, policy_of, spd_entry_in, entries_in, database_in, all_entries, spd_in, one_entry, one_spd_entry_in}
 use Rattle.json_values.specs.Json.{HasOnly, Needed, Optional, IsNumber, IsWord, IsFalse, IsPrefix, IsRange, ArePorts, IsSelector, IsSuite, IsProcessing, IsPolicy, IsSpdEntry, IsSpd, IsOneSpdEntry}
-use Rattle.json_values.proofs.LeafLaws.{ok_is, bind_ok, within_ok, within_of, member_ok, member_of, needed_number_ok, needed_number_of, number_or_ok, number_or_of, wide_or_ok, wide_or_of, needed_prefix_ok, needed_prefix_of, protocol_ok, protocol_of, direction_ok, direction_of, action_ok, action_of, fixed_ok, fixed_of, unset_ok, unset_of, name_ok, name_of}
+use Rattle.json_values.proofs.LeafLaws.{ok_is, bind_ok, within_ok, within_of, member_ok, member_of, needed_number_ok, needed_number_of, number_or_ok, number_or_of, wide_or_ok, wide_or_of, needed_prefix_ok, needed_prefix_of, protocol_ok, protocol_of, direction_ok, direction_back, action_ok, action_back, fixed_ok, fixed_of, unset_ok, unset_of, name_ok, name_of}
 use Rattle.json_values.proofs.ShapeLaws.{shape_ok, shape_of, there, only_ok, only_of, list_ok, list_of, one_ok, one_of}
 
 -- ---- ranges
@@ -183,7 +183,7 @@ processing_ok x d h =
 processing_back : (x : Action) (d : Data) → IsProcessing x d → processing_in d ≡ Ok x
 unfolding processing_in processing_shape
 processing_back x d h =
-    rw (shape_of _ [] d h.members refl, action_of x (get (codes "action") d) h.action, suite_of_back (get (codes "ipsec-sa-cfg") d) h.suite) refl
+    rw (shape_of _ [] d h.members refl, action_back x (get (codes "action") d) h.action, suite_of_back (get (codes "ipsec-sa-cfg") d) h.suite) refl
 
 processing_of_ok : (x : Action) (leaf : Option Data) → processing_of leaf ≡ Ok x → Optional (IsProcessing x) (x ≡ actions.Discard) leaf
 processing_of_ok x None h = sym (ok_is actions.Discard x h)
@@ -265,7 +265,7 @@ spd_entry_back e d h =
     let lacking : list_any (lacks d) needs ≡ false = rw (there _ _ h.direction, there _ _ h.policy, there _ _ h.name) refl in
     rw (
       shape_of _ needs d h.members lacking,
-      direction_of e.direction (get (codes "direction") d) h.direction,
+      direction_back e.direction (get (codes "direction") d) h.direction,
       policy_of_back e (get (codes "ipsec-policy-config") d) h.policy,
       name_of is_spd_name e.name (get (codes "name") d) h.name,
       wide_or_of e.reqid (get (codes "reqid") d) h.reqid,

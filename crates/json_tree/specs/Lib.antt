@@ -1,7 +1,4 @@
-pub mod Selectors
-pub mod Associations
-pub mod Policies
-pub mod Halves
-pub mod Typed
-pub mod OneRow
-pub mod ReadAgain
+pub mod SelectorRead
+pub mod PolicyRead
+pub mod SadEntryRead
+pub mod SadEntryWritten

@@ -1,17 +1,19 @@
 -- What a leaf is read as, and what it stands for.
-use Rattle.std.proofs.Common.{◌≡◌, ℕ, ◌≤◌, ◌&&◌, nat_le, if◌then◌else◌, Bool, true, false, List, codes, Option, Some, None, option_and_then, Result, Ok, Err, refl, sym, ap, subst, ◌∙◌, arith}
+use Rattle.std.proofs.Common.{◌≡◌, ℕ, ◌≤◌, ◌&&◌, nat_le, if◌then◌else◌, Bool, true, false, List, codes, Option, Some, None, option_and_then, Result, Ok, Err, refl, sym, ap, subst, ◌∙◌}
 use Rattle.std.specs.Bool.{⊤}
 use Rattle.std.specs.Str.{bytes_eq}
 use Rattle.std.proofs.lemmas.Slice.Eq.{bytes_eq-Decides}
-use Rattle.std.proofs.lemmas.Bool.{and_parts}
-use Rattle.std.proofs.lemmas.Bool.Decides.{nat_tests}
+use Rattle.std.proofs.lemmas.Bool.{and_parts, leb-true, le-leb}
 use Rattle.serde_json.specs.Data.{unsigned, negative, float, Data, null, boolean, number, string, array, object}
 use Rattle.serde_json.specs.Find.{as_number, as_u64, as_str, as_bool}
 use Rattle.ikl_base.specs.declared.address.Prefix.{Prefix}
 use Rattle.ikeless_tree.specs.declared.entry.Direction.{Direction}
-use Rattle.ikeless_tree.specs.declared.entry.Direction.TheVariants as directions
 use Rattle.ikeless_tree.specs.declared.entry.Action.{Action}
 use Rattle.ikeless_tree.specs.declared.entry.Action.TheVariants as actions
+use Rattle.ikeless_tree.specs.declared.sad.Df.{Df}
+use Rattle.ikeless_tree.specs.declared.sad.Df.TheVariants as bits
+use Rattle.ikeless_tree.specs.Words.{direction_word, direction_of_word, action_text, action_of, df_text, df_of, mode_text, mode_of}
+use Rattle.ikeless_tree.proofs.WordLemmas.{direction_word_again, direction_word_is, action_again, action_is, df_again, df_is, mode_again, mode_is}
 use Rattle.yang_values.specs.declared.value.BadValue.{BadValue}
 use Rattle.yang_values.specs.Numbers.{u64_of}
 use Rattle.yang_values.specs.Prefixes.{prefix_of}
@@ -19,8 +21,7 @@ use Rattle.json_values.specs.declared.fault.Kind.{Kind}
 use Rattle.json_values.specs.declared.fault.Kind.TheVariants as kinds
 use Rattle.json_values.specs.declared.fault.Fault.{Fault}
 use Rattle.json_values.specs.Faults.{◌>>=◌, or_kind, within, at_member}
-use Rattle.json_values.specs.Words.{direction_word, action_word}
-use Rattle.json_values.specs.Leaves.{or_form, text_in, in_range, number_in, wide_from, wide_in, needed_number, number_or, wide_or, prefix_from, prefix_leaf, protocol_leaf, protocol_from, direction_from, direction_leaf, action_from, action_leaf, this_word, fixed_word, not_set, unset_leaf, name_where, name_leaf}
+use Rattle.json_values.specs.Leaves.{or_form, text_in, in_range, number_in, wide_from, wide_in, needed_number, number_or, wide_or, prefix_from, prefix_leaf, protocol_leaf, protocol_from, or_unsupported, direction_from, direction_leaf, action_from, action_leaf, df_from, df_leaf, mode_from, mode_leaf, this_word, fixed_word, not_set, unset_leaf, name_where, name_leaf}
 use Rattle.json_values.specs.Json.{Needed, Optional, IsNumber, IsWord, IsFalse, IsWide, IsPrefix, IsName, IsProtocol}
 
 -- ---- steps
@@ -90,20 +91,14 @@ range_by : (t : Bool) (m n : ℕ) → (let r : Result ℕ Kind = if t then Ok m 
 range_by true m n h = (refl, ok_is m n h)
 range_by false m n h = absurd (let no : ⊥ = cc in no)
 
-le_from : (a b : ℕ) → nat_le a b ≡ true → a ≤ b
-le_from a b h = grind (arith, nat_tests, h)
-
-le_to : (a b : ℕ) → a ≤ b → nat_le a b ≡ true
-le_to a b h = grind (arith, nat_tests, h)
-
 range_ok : (least most m n : ℕ) → in_range least most m ≡ Ok n → (m ≡ n) × (least ≤ n) × (n ≤ most)
 range_ok least most m n h =
     let parts = range_by (nat_le least m && nat_le m most) m n h in
     let both = and_parts (nat_le least m) (nat_le m most) parts.0 in
-    (parts.1, subst (λ k. least ≤ k) parts.1 (le_from least m both.0), subst (λ k. k ≤ most) parts.1 (le_from m most both.1))
+    (parts.1, subst (λ k. least ≤ k) parts.1 (leb-true least m both.0), subst (λ k. k ≤ most) parts.1 (leb-true m most both.1))
 
 range_of : (least most n : ℕ) → least ≤ n → n ≤ most → in_range least most n ≡ Ok n
-range_of least most n low high = rw (le_to least n low, le_to n most high) refl
+range_of least most n low high = rw (le-leb least n low, le-leb n most high) refl
 
 pub number_ok : (least most n : ℕ) (d : Data) → number_in least most d ≡ Ok n → IsNumber least most n d
 number_ok least most n d h =
@@ -132,14 +127,8 @@ needed_prefix_of p (Some d) h = rw h.1 (kind_of (prefix_of h.0) p h.2)
 
 -- ---- words
 
-pub same : (a b : List ℕ) → bytes_eq a b ≡ true → a ≡ b
-same a b h = (bytes_eq-Decides a b).0 h
-
-itself : (a : List ℕ) → bytes_eq a a ≡ true
-itself a = (bytes_eq-Decides a a).1 refl
-
 this_by : (word t : List ℕ) (p : Bool) (u : ⊤) → bytes_eq t word ≡ p → (let r : Result ⊤ Kind = if p then Ok tt else Err kinds.Unsupported in r) ≡ Ok u → t ≡ word
-this_by word t true u e h = same t word e
+this_by word t true u e h = (bytes_eq-Decides t word).0 e
 this_by word t false u e h = absurd (let no : ⊥ = cc in no)
 
 pub fixed_ok : (word : List ℕ) (leaf : Option Data) (u : ⊤) → fixed_word word leaf ≡ Ok u → Optional (IsWord word) (Unit {0}) leaf
@@ -150,7 +139,7 @@ fixed_ok word (Some d) u h =
 
 pub fixed_of : (word : List ℕ) (leaf : Option Data) → Optional (IsWord word) (Unit {0}) leaf → fixed_word word leaf ≡ Ok tt
 fixed_of word None h = refl
-fixed_of word (Some d) h = rw h (rw (itself word) refl)
+fixed_of word (Some d) h = rw h (rw ((bytes_eq-Decides word word).1 refl) refl)
 
 pub unset_ok : (leaf : Option Data) (u : ⊤) → unset_leaf leaf ≡ Ok u → Optional IsFalse (Unit {0}) leaf
 unset_ok None u h = tt
@@ -166,50 +155,52 @@ pub unset_of : (leaf : Option Data) → Optional IsFalse (Unit {0}) leaf → uns
 unset_of None h = refl
 unset_of (Some d) h = rw h refl
 
-direction_by : (t : List ℕ) (p q : Bool) (x : Direction) → bytes_eq t (direction_word directions.In) ≡ p → bytes_eq t (direction_word directions.Out) ≡ q →
-    (let r : Result Direction Kind = if p then Ok directions.In else if q then Ok directions.Out else Err kinds.Unsupported in r) ≡ Ok x → t ≡ direction_word x
-direction_by t true q x e f h = same t _ e ∙ ap direction_word (ok_is directions.In x h)
-direction_by t false true x e f h = same t _ f ∙ ap direction_word (ok_is directions.Out x h)
-direction_by t false false x e f h = absurd (let no : ⊥ = cc in no)
-
-direction_again : (x : Direction) → direction_from (direction_word x) ≡ Ok x
-direction_again directions.In = refl
-direction_again directions.Out = refl
+word_ok : {A : Type 0} → (o : Option A) (x : A) → or_unsupported o ≡ Ok x → o ≡ Some x
+word_ok None x h = absurd (let no : ⊥ = cc in no)
+word_ok (Some y) x h = ap Some (ok_is y x h)
 
 pub direction_ok : (x : Direction) (leaf : Option Data) → direction_leaf leaf ≡ Ok x → Needed (IsWord (direction_word x)) leaf
 direction_ok x None h = absurd (let no : ⊥ = cc in no)
 direction_ok x (Some d) h =
     let step = bind_ok (text_in d) direction_from x h in
-    text_ok d step.0 step.1 ∙ ap string (direction_by step.0 _ _ x refl refl step.2)
+    text_ok d step.0 step.1 ∙ ap string (direction_word_is step.0 x (word_ok (direction_of_word step.0) x step.2))
 
-pub direction_of : (x : Direction) (leaf : Option Data) → Needed (IsWord (direction_word x)) leaf → direction_leaf leaf ≡ Ok x
-direction_of x None h = absurd h
-direction_of x (Some d) h = rw h (direction_again x)
+pub direction_back : (x : Direction) (leaf : Option Data) → Needed (IsWord (direction_word x)) leaf → direction_leaf leaf ≡ Ok x
+direction_back x None h = absurd h
+direction_back x (Some d) h = rw (h, direction_word_again x) refl
 
-action_by : (t : List ℕ) (p q r : Bool) (x : Action) → bytes_eq t (action_word actions.Protect) ≡ p → bytes_eq t (action_word actions.Bypass) ≡ q → bytes_eq t (action_word actions.Discard) ≡ r →
-    (let s : Result Action Kind = if p then Ok actions.Protect else if q then Ok actions.Bypass else if r then Ok actions.Discard else Err kinds.Unsupported in s) ≡ Ok x → t ≡ action_word x
-action_by t true q r x e f g h = same t _ e ∙ ap action_word (ok_is actions.Protect x h)
-action_by t false true r x e f g h = same t _ f ∙ ap action_word (ok_is actions.Bypass x h)
-action_by t false false true x e f g h = same t _ g ∙ ap action_word (ok_is actions.Discard x h)
-action_by t false false false x e f g h = absurd (let no : ⊥ = cc in no)
-
-action_again : (x : Action) → action_from (action_word x) ≡ Ok x
-action_again actions.Protect = refl
-action_again actions.Bypass = refl
-action_again actions.Discard = refl
-
-pub action_ok : (x : Action) (leaf : Option Data) → action_leaf leaf ≡ Ok x → Optional (IsWord (action_word x)) (x ≡ actions.Discard) leaf
+pub action_ok : (x : Action) (leaf : Option Data) → action_leaf leaf ≡ Ok x → Optional (IsWord (action_text x)) (x ≡ actions.Discard) leaf
 action_ok x None h = sym (ok_is actions.Discard x h)
 action_ok x (Some d) h =
     let step = bind_ok (text_in d) action_from x h in
-    text_ok d step.0 step.1 ∙ ap string (action_by step.0 _ _ _ x refl refl refl step.2)
+    text_ok d step.0 step.1 ∙ ap string (action_is step.0 x (word_ok (action_of step.0) x step.2))
 
-pub action_of : (x : Action) (leaf : Option Data) → Optional (IsWord (action_word x)) (x ≡ actions.Discard) leaf → action_leaf leaf ≡ Ok x
-action_of x None h = ap Ok (sym h)
-action_of x (Some d) h = rw h (action_again x)
+pub action_back : (x : Action) (leaf : Option Data) → Optional (IsWord (action_text x)) (x ≡ actions.Discard) leaf → action_leaf leaf ≡ Ok x
+action_back x None h = ap Ok (sym h)
+action_back x (Some d) h = rw (h, action_again x) refl
+
+pub df_ok : (x : Df) (leaf : Option Data) → df_leaf leaf ≡ Ok x → Optional (IsWord (df_text x)) (x ≡ bits.Copy) leaf
+df_ok x None h = sym (ok_is bits.Copy x h)
+df_ok x (Some d) h =
+    let step = bind_ok (text_in d) df_from x h in
+    text_ok d step.0 step.1 ∙ ap string (df_is step.0 x (word_ok (df_of step.0) x step.2))
+
+pub df_back : (x : Df) (leaf : Option Data) → Optional (IsWord (df_text x)) (x ≡ bits.Copy) leaf → df_leaf leaf ≡ Ok x
+df_back x None h = ap Ok (sym h)
+df_back x (Some d) h = rw (h, df_again x) refl
+
+pub mode_ok : (x : Bool) (leaf : Option Data) → mode_leaf leaf ≡ Ok x → Needed (IsWord (mode_text x)) leaf
+mode_ok x None h = absurd (let no : ⊥ = cc in no)
+mode_ok x (Some d) h =
+    let step = bind_ok (text_in d) mode_from x h in
+    text_ok d step.0 step.1 ∙ ap string (mode_is step.0 x (word_ok (mode_of step.0) x step.2))
+
+pub mode_back : (x : Bool) (leaf : Option Data) → Needed (IsWord (mode_text x)) leaf → mode_leaf leaf ≡ Ok x
+mode_back x None h = absurd h
+mode_back x (Some d) h = rw (h, mode_again x) refl
 
 any_by : (t : List ℕ) (q : Bool) (p : Option ℕ) → bytes_eq t (codes "any") ≡ q → (let r : Result (Option ℕ) Kind = if q then Ok None else Err kinds.Unsupported in r) ≡ Ok p → (t ≡ codes "any") × (None ≡ p)
-any_by t true p e h = (same t _ e, ok_is None p h)
+any_by t true p e h = ((bytes_eq-Decides t (codes "any")).0 e, ok_is None p h)
 any_by t false p e h = absurd (let no : ⊥ = cc in no)
 
 str_is : (d : Data) (t : List ℕ) → as_str d ≡ Some t → d ≡ string t

@@ -3,3 +3,4 @@ pub mod Lists
 pub mod ItemLemmas
 pub mod LeafLaws
 pub mod ShapeLaws
+pub mod ReadAgain

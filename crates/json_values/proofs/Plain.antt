@@ -1,5 +1,5 @@
 -- The texts that are written are ASCII.
-use Rattle.std.proofs.Common.{◌≡◌, ◌<◌, ◌^◌, ℕ, zero, suc, Bool, true, List, [], ◌∷◌, IsUtf8, arith}
+use Rattle.std.proofs.Common.{◌≡◌, ◌<◌, ◌^◌, ℕ, Bool, true, List, [], ◌∷◌, IsUtf8, arith}
 use Rattle.std.specs.List.{list_all}
 use Rattle.std.specs.Fmt.{decimal}
 use Rattle.std.specs.Str.{IsAscii}
@@ -7,7 +7,7 @@ use Rattle.std.proofs.lemmas.Bool.{and_parts}
 use Rattle.std.proofs.lemmas.Bool.Decides.{nat_tests}
 use Rattle.std.proofs.lemmas.Fmt.{IsAscii-decimal}
 use Rattle.std.proofs.lemmas.Str.{IsUtf8-from_ascii}
-use Rattle.std.proofs.lemmas.Str.Ascii.{IsAscii-nil}
+use Rattle.std.proofs.lemmas.Str.Ascii.{IsAscii-nil, IsAscii-cons}
 use Rattle.ikeless_tree.specs.Check.{is_path_octet, is_gateway, is_gateway_octet}
 use Rattle.std.specs.List.{All}
 use Rattle.std.specs.Char.{is_ascii_hexdigit}
@@ -21,15 +21,11 @@ use Rattle.yang_values.proofs.ValueText.{pair_digits}
 use Rattle.yang_values.specs.Prefixes.{is_value_octet}
 use Rattle.std.proofs.Common.{nat_le, length, ◌&&◌}
 
-ascii_more : (c : ℕ) (cs : List ℕ) → c < 128 → IsAscii cs → IsAscii (c ∷ cs)
-ascii_more c cs here there zero = here
-ascii_more c cs here there (suc i) = there i
-
 plain : (q : ℕ → Bool) → ((c : ℕ) → q c ≡ true → c < 128) → (t : List ℕ) → list_all q t ≡ true → IsAscii t
 plain q f [] all = IsAscii-nil
 plain q f (c ∷ cs) all =
     let parts = and_parts (q c) (list_all q cs) all in
-    ascii_more c cs (f c parts.0) (plain q f cs parts.1)
+    IsAscii-cons c cs (f c parts.0) (plain q f cs parts.1)
 
 value_small : (c : ℕ) → is_value_octet c ≡ true → c < 128
 value_small c h = grind (arith, nat_tests, h)

@@ -1,15 +1,20 @@
 -- Objects and lists that are read, and what they stand for.
-use Rattle.std.proofs.Common.{◌≡◌, ℕ, ◌+◌, Bool, true, false, List, [], ◌∷◌, is_none, Option, Some, None, Result, Ok, Err, refl, sym, ap, subst, if◌then◌else◌, decimal}
+use Rattle.std.proofs.Common.{◌≡◌, ℕ, ◌+◌, Bool, true, false, not, List, [], ◌∷◌, is_none, Option, Some, None, Result, Ok, Err, Ordering, Less, Equal, Greater, refl, sym, ap, subst, ◌∙◌, if◌then◌else◌, decimal}
 use Rattle.std.specs.Bool.{⊤}
 use Rattle.std.specs.List.{list_any}
-use Rattle.serde_json.specs.Data.{Data, null, boolean, number, string, array, object, Items, no_items, item}
-use Rattle.serde_json.specs.Find.{get, as_array}
+use Rattle.std.specs.Ordering.{nat_cmp, match_ordering, is_eq}
+use Rattle.std.specs.Cmp.Lexicographic.{slice_cmp}
+use Rattle.std.proofs.lemmas.Bool.{or_parts, not-false, both_ways}
+use Rattle.std.proofs.lemmas.Map.Text.{is_eq-slice_cmp}
+use Rattle.std.proofs.lemmas.Slice.Eq.{bytes_eq-Decides}
+use Rattle.serde_json.specs.Data.{Data, null, boolean, number, string, array, object, Items, no_items, item, Members, no_members, member}
+use Rattle.serde_json.specs.Find.{get, get_member, as_array}
 use Rattle.json_values.specs.declared.fault.Kind.{Kind}
 use Rattle.json_values.specs.declared.fault.Kind.TheVariants as kinds
 use Rattle.json_values.specs.declared.fault.Fault.{Fault}
 use Rattle.json_values.specs.Faults.{here, within, at_member, ◌>>=◌}
-use Rattle.json_values.specs.Shapes.{has_unknown, lacks, shape, needed_data, only_in, each_item, items_read, one_read}
-use Rattle.json_values.specs.Json.{HasOnly, Needed, Each, IsListOf, IsOne, IsOnly}
+use Rattle.json_values.specs.Shapes.{is_among, has_unknown, lacks, shape, needed_data, only_in, each_item, items_read, one_read}
+use Rattle.json_values.specs.Json.{HasOnly, Needed, Optional, Each, IsListOf, IsOne, IsOnly}
 use Rattle.json_values.proofs.LeafLaws.{ok_is, bind_ok, within_ok, within_of, member_ok, member_of}
 
 shape_by : (t u : Bool) (v : ⊤) → (let r : Result ⊤ Fault = if t then Err (here kinds.Unknown) else if u then Err (here kinds.Missing) else Ok tt in r) ≡ Ok v → t ≡ false
@@ -33,6 +38,52 @@ shape_of names needed (number n) h k = absurd h
 shape_of names needed (string s) h k = absurd h
 shape_of names needed (array ds) h k = absurd h
 shape_of names needed (object ms) h k = rw (h, k) refl
+
+shape_needs_by : (t u : Bool) (v : ⊤) → (let r : Result ⊤ Fault = if t then Err (here kinds.Unknown) else if u then Err (here kinds.Missing) else Ok tt in r) ≡ Ok v → u ≡ false
+shape_needs_by true u v h = absurd (let no : ⊥ = cc in no)
+shape_needs_by false true v h = absurd (let no : ⊥ = cc in no)
+shape_needs_by false false v h = refl
+
+-- no needed member is absent
+pub shape_needs : (names needed : List (List ℕ)) (d : Data) (v : ⊤) → shape names needed d ≡ Ok v → list_any (lacks d) needed ≡ false
+unfolding shape
+shape_needs names needed null v h = absurd (let no : ⊥ = cc in no)
+shape_needs names needed (boolean b) v h = absurd (let no : ⊥ = cc in no)
+shape_needs names needed (number n) v h = absurd (let no : ⊥ = cc in no)
+shape_needs names needed (string s) v h = absurd (let no : ⊥ = cc in no)
+shape_needs names needed (array ds) v h = absurd (let no : ⊥ = cc in no)
+shape_needs names needed (object ms) v h = shape_needs_by (has_unknown names ms) (list_any (lacks (object ms)) needed) v h
+
+pub needed_from : (P : Data → Type 0) (absent : Type 0) (leaf : Option Data) → is_none leaf ≡ false → Optional P absent leaf → Needed P leaf
+needed_from P absent None h k = absurd (let no : ⊥ = cc in no)
+needed_from P absent (Some d) h k = k
+
+pub optional_from : (P : Data → Type 0) (absent : Type 0) (leaf : Option Data) → Needed P leaf → Optional P absent leaf
+optional_from P absent None h = absurd h
+optional_from P absent (Some d) h = h
+
+-- a name that isn't among these has no member
+member_absent : (names : List (List ℕ)) (name : List ℕ) (ms : Members) → is_among names name ≡ false → has_unknown names ms ≡ false → get_member name ms ≡ None
+member_absent names name no_members other h = refl
+member_absent names name (member l e ms) other h =
+    let parts = or_parts (not (is_among names l)) (has_unknown names ms) h in
+    by_order (slice_cmp nat_cmp name l) refl (not-false (is_among names l) parts.0) (member_absent names name ms other parts.1)
+  where
+    by_order : (o : Ordering) → slice_cmp nat_cmp name l ≡ o → is_among names l ≡ true → get_member name ms ≡ None → match_ordering o (get_member name ms) (Some e) (get_member name ms) ≡ None
+    by_order Less c known rest = rest
+    by_order Equal c known rest =
+        let same : name ≡ l = (bytes_eq-Decides name l).0 (sym (is_eq-slice_cmp name l) ∙ ap is_eq c) in
+        let here : is_among names name ≡ true = ap (is_among names) same ∙ known in
+        absurd (both_ways (is_among names name) other here)
+    by_order Greater c known rest = rest
+
+pub absent : (names : List (List ℕ)) (name : List ℕ) (d : Data) → is_among names name ≡ false → HasOnly names d → get name d ≡ None
+absent names name null other h = refl
+absent names name (boolean b) other h = refl
+absent names name (number n) other h = refl
+absent names name (string s) other h = refl
+absent names name (array ds) other h = refl
+absent names name (object ms) other h = member_absent names name ms other h
 
 pub there : (P : Data → Type 0) (leaf : Option Data) → Needed P leaf → is_none leaf ≡ false
 there P None h = absurd h

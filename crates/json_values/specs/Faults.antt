@@ -37,7 +37,7 @@ abbrev pub value_kind : BadValue → Kind
 value_kind values.Form = kinds.Form
 value_kind values.Range = kinds.Range
 
--- the kind of what is wrong with a list of policies or an association as a whole
+-- the kind of what is wrong with a list of policies or a half as a whole
 abbrev pub tree_kind : TreeFault → Kind
 tree_kind faults.TooMany = kinds.Full
 tree_kind faults.DuplicateName = kinds.Name

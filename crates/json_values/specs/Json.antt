@@ -23,7 +23,7 @@ use Rattle.yang_values.specs.Numbers.{u64_of}
 use Rattle.yang_values.specs.Addresses.{address_of}
 use Rattle.yang_values.specs.Prefixes.{prefix_of}
 use Rattle.yang_values.specs.HexText.{hex_of}
-use Rattle.json_values.specs.Words.{direction_word, action_word, df_word, mode_word}
+use Rattle.ikeless_tree.specs.Words.{direction_word, action_text, df_text, mode_text}
 use Rattle.json_values.specs.Members.{range_names, selector_names, limits_names, config_names, tunnel_needs}
 use Rattle.json_values.specs.Shapes.{has_unknown}
 
@@ -133,7 +133,7 @@ pub record IsSuite (d : Data) : Type 0 where
 
 pub record IsProcessing (x : Action) (d : Data) : Type 0 where
   pub members : HasOnly (codes "action" ∷ codes "ipsec-sa-cfg" ∷ []) d
-  pub action : Optional (IsWord (action_word x)) (x ≡ actions.Discard) (get (codes "action") d)
+  pub action : Optional (IsWord (action_text x)) (x ≡ actions.Discard) (get (codes "action") d)
   pub suite : Optional IsSuite (Unit {0}) (get (codes "ipsec-sa-cfg") d)
 
 pub record IsPolicy (e : SpdEntry) (d : Data) : Type 0 where
@@ -177,7 +177,7 @@ pub record IsSoft (l : Limits) (d : Data) : Type 0 where
   pub action : Optional (IsWord (codes "replace")) (Unit {0}) (get (codes "action") d)
   pub limits : HasLimits l d
 
--- ---- associations
+-- ---- halves
 
 -- AES-GCM with an ICV of 16 octets has the number 20 (RFC 4106 section 8.4)
 abbrev pub IsAlgorithm : Data → Type 0
@@ -190,7 +190,7 @@ pub record IsEncryption (octets : List ℕ) (d : Data) : Type 0 where
 
 pub record IsTunnel (e : SadEntry) (d : Data) : Type 0 where
   pub members : HasOnly (codes "df-bit" ∷ codes "local" ∷ codes "remote" ∷ []) d
-  pub df : Optional (IsWord (df_word e.df)) (e.df ≡ bits.Copy) (get (codes "df-bit") d)
+  pub df : Optional (IsWord (df_text e.df)) (e.df ≡ bits.Copy) (get (codes "df-bit") d)
   pub local : Needed (IsAddressText e.local) (get (codes "local") d)
   pub remote : Needed (IsAddressText e.remote) (get (codes "remote") d)
 
@@ -214,7 +214,7 @@ pub record IsSadEntry (e : SadEntry) (d : Data) : Type 0 where
   pub name : Needed (IsName is_sad_name e.name) (get (codes "name") d)
   pub reqid : Optional (IsWide e.reqid) (e.reqid ≡ 0) (get (codes "reqid") d)
 
--- the body that has one association
+-- the body that has one half
 abbrev pub IsOneSadEntry : SadEntry → Data → Type 0
 IsOneSadEntry e d = IsOnly (codes "ietf-i2nsf-ikeless:sad-entry") (IsOne (IsSadEntry e)) d
 
@@ -231,7 +231,7 @@ pub record IsTunnelInput (t : TunnelSpec) (d : Data) : Type 0 where
   pub first : Needed (IsName is_gateway t.first) (get (codes "first") d)
   pub first_prefix : Needed (IsPrefix t.first_prefix) (get (codes "first-prefix") d)
   pub hard : Optional (IsLimits t.hard) (t.hard ≡ no_limits) (get (codes "hard") d)
-  pub mode : Needed (IsWord (mode_word t.now)) (get (codes "mode") d)
+  pub mode : Needed (IsWord (mode_text t.now)) (get (codes "mode") d)
   pub reqid : Needed (IsWide t.reqid) (get (codes "reqid") d)
   pub second : Needed (IsName is_gateway t.second) (get (codes "second") d)
   pub second_prefix : Needed (IsPrefix t.second_prefix) (get (codes "second-prefix") d)

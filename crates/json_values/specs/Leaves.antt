@@ -7,7 +7,6 @@ use Rattle.serde_json.specs.Find.{get, as_number, as_u64, as_str, as_bool}
 use Rattle.ikl_base.specs.declared.address.Addr.{Addr}
 use Rattle.ikl_base.specs.declared.address.Prefix.{Prefix}
 use Rattle.ikeless_tree.specs.declared.entry.Direction.{Direction}
-use Rattle.ikeless_tree.specs.declared.entry.Direction.TheVariants as directions
 use Rattle.ikeless_tree.specs.declared.entry.Action.{Action}
 use Rattle.ikeless_tree.specs.declared.entry.Action.TheVariants as actions
 use Rattle.ikeless_tree.specs.declared.sad.Df.{Df}
@@ -21,7 +20,7 @@ use Rattle.json_values.specs.declared.fault.Fault.{Fault}
 use Rattle.json_values.specs.declared.fault.Kind.{Kind}
 use Rattle.json_values.specs.declared.fault.Kind.TheVariants as kinds
 use Rattle.json_values.specs.Faults.{at_member, ◌>>=◌, or_kind}
-use Rattle.json_values.specs.Words.{direction_word, action_word, df_word, mode_word}
+use Rattle.ikeless_tree.specs.Words.{direction_of_word, action_of, df_of, mode_of}
 
 -- ---- kinds of values
 
@@ -101,42 +100,33 @@ abbrev pub protocol_leaf : Option Data → Result (Option ℕ) Kind
 protocol_leaf None = Ok None
 protocol_leaf (Some d) = protocol_from (as_str d) d
 
+-- the value of a word, which is one of the enumeration
+abbrev pub or_unsupported : {A : Type 0} → Option A → Result A Kind
+or_unsupported None = Err kinds.Unsupported
+or_unsupported (Some x) = Ok x
+
 abbrev pub direction_from : List ℕ → Result Direction Kind
-direction_from t =
-    if bytes_eq t (direction_word directions.In) then Ok directions.In
-    else if bytes_eq t (direction_word directions.Out) then Ok directions.Out
-    else Err kinds.Unsupported
+direction_from t = or_unsupported (direction_of_word t)
 
 abbrev pub direction_leaf : Option Data → Result Direction Kind
 direction_leaf leaf = needed_text leaf >>= direction_from
 
 abbrev pub action_from : List ℕ → Result Action Kind
-action_from t =
-    if bytes_eq t (action_word actions.Protect) then Ok actions.Protect
-    else if bytes_eq t (action_word actions.Bypass) then Ok actions.Bypass
-    else if bytes_eq t (action_word actions.Discard) then Ok actions.Discard
-    else Err kinds.Unsupported
+action_from t = or_unsupported (action_of t)
 
 abbrev pub action_leaf : Option Data → Result Action Kind
 action_leaf None = Ok actions.Discard
 action_leaf (Some d) = text_in d >>= action_from
 
 abbrev pub df_from : List ℕ → Result Df Kind
-df_from t =
-    if bytes_eq t (df_word bits.Clear) then Ok bits.Clear
-    else if bytes_eq t (df_word bits.Set) then Ok bits.Set
-    else if bytes_eq t (df_word bits.Copy) then Ok bits.Copy
-    else Err kinds.Unsupported
+df_from t = or_unsupported (df_of t)
 
 abbrev pub df_leaf : Option Data → Result Df Kind
 df_leaf None = Ok bits.Copy
 df_leaf (Some d) = text_in d >>= df_from
 
 abbrev pub mode_from : List ℕ → Result Bool Kind
-mode_from t =
-    if bytes_eq t (mode_word true) then Ok true
-    else if bytes_eq t (mode_word false) then Ok false
-    else Err kinds.Unsupported
+mode_from t = or_unsupported (mode_of t)
 
 abbrev pub mode_leaf : Option Data → Result Bool Kind
 mode_leaf leaf = needed_text leaf >>= mode_from

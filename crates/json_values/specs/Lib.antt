@@ -1,4 +1,3 @@
-pub mod Words
 pub mod Faults
 pub mod Shapes
 pub mod Members

@@ -1,4 +1,4 @@
--- The one value that is written for a policy, an association, a database or a command: RFC 7951 over the YANG module
+-- The one value that is written for a policy, a half, a database or a command: RFC 7951 over the YANG module
 -- ietf-i2nsf-ikeless (RFC 9061 section 5.3).
 use Rattle.std.specs.Prelude.{ℕ, Bool, List, [], ◌∷◌, codes, map, Option, Some, None}
 use Rattle.std.specs.Fmt.{decimal}
@@ -9,7 +9,7 @@ use Rattle.ikeless_tree.specs.declared.entry.Selector.{Selector}
 use Rattle.ikeless_tree.specs.declared.entry.SpdEntry.{SpdEntry}
 use Rattle.yang_values.specs.Prefixes.{prefix_text}
 use Rattle.ikeless_tree.specs.Check.{is_spd_name}
-use Rattle.json_values.specs.Words.{direction_word, action_word}
+use Rattle.ikeless_tree.specs.Words.{direction_word, action_text}
 
 -- a number of at most 32 bits
 abbrev pub count : ℕ → Data
@@ -54,7 +54,7 @@ selector_data s = object (put (codes "inner-protocol") (proto_data s.proto)
 
 unfoldable pub policy_data : SpdEntry → Data
 policy_data e = object (put (codes "anti-replay-window-size") (count e.window)
-    (put (codes "processing-info") (only (codes "action") (word (action_word e.action)))
+    (put (codes "processing-info") (only (codes "action") (word (action_text e.action)))
     (put (codes "traffic-selector") (selector_data e.selector) no_members)))
 
 unfoldable pub spd_entry_data : SpdEntry → Data

@@ -1,13 +1,13 @@
 // Values of JSON, built member by member.
-ghost use Rattle.std.specs.Prelude.{◌≡◌, ◌<◌, ◌≤◌, false, Some, All, length, IfOk, OnOk, IsUtf8};
+ghost use Rattle.std.specs.Prelude.{◌≡◌, ◌≤◌, false, Some, IfOk, OnOk, IsUtf8};
 ghost use Rattle.serde_json.specs.Read.{read, max_depth};
 ghost use Rattle.serde_json.specs.Written.{compact_text, has_float};
-ghost use Rattle.serde_json.specs.Data.{depth, string, object, put as with_member, no_members};
+ghost use Rattle.serde_json.specs.Data.{depth, string, put as with_member};
 ghost use Rattle.serde_json.specs.View.{view, members_view};
 ghost use Rattle.json_values.specs.Written.{count, wide, only};
-ghost use Rattle.yang_values.specs.Addresses.{IsAddress};
+ghost use Rattle.ikeless_tree.specs.Typed.{AreOctets};
 
-use ikl_base::{Addr, NoMemory, Octets};
+use ikl_base::{NoMemory, Octets};
 use serde_json::{Map, Value};
 use std::alloc::Global;
 use yang_values::write_u64;
@@ -102,31 +102,7 @@ pub fn written(alloc: Global, value: &Value) -> Result<Octets, NoMemory>
 
 /// Each octet is below 256.
 pub fn are_octets(octets: &[u8])
-    ensures { All (λ octet. octet < 256) octets.now }
+    ensures { AreOctets octets.now }
 {
     let _count = octets.len();
-}
-
-fn has_four(octets: &[u8; 4])
-    ensures length { length octets.now ≡ 4 }
-    ensures octets { All (λ octet. octet < 256) octets.now }
-{
-    are_octets(octets);
-}
-
-fn has_sixteen(octets: &[u8; 16])
-    ensures length { length octets.now ≡ 16 }
-    ensures octets { All (λ octet. octet < 256) octets.now }
-{
-    are_octets(octets);
-}
-
-/// An address has 4 or 16 octets.
-pub fn has_octets(address: &Addr)
-    ensures { IsAddress address.now }
-{
-    match address {
-        Addr::V4(octets) => has_four(octets),
-        Addr::V6(octets) => has_sixteen(octets),
-    }
 }

@@ -1,5 +1,5 @@
 // What is wrong in a body, and where.
-ghost use Rattle.std.specs.Prelude.{◌≡◌, ℕ, List, Result, Some, IfOk};
+ghost use Rattle.std.specs.Prelude.{◌≡◌, Result, Some, IfOk};
 ghost use Rattle.ikl_base.specs.Answers.{Gives};
 ghost use Rattle.json_values.specs.Faults.{tag_of, app_of, value_kind, tree_kind, here, deeper, below, within, of_member, at_member, no_json, told_fault, told};
 
@@ -80,7 +80,7 @@ pub(crate) fn kind_of_value(e: BadValue) -> Kind
     }
 }
 
-/// What is wrong, for a fault of a policy or an association.
+/// What is wrong, for a fault of a policy or a half.
 pub fn kind_of_tree(e: TreeFault) -> Kind
     ensures { result ≡ tree_kind e }
 {

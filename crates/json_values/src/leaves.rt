@@ -1,14 +1,11 @@
 // Leaves: first the kind of the value and its spelling, then its range, then whether it is supported.
 ghost use Rattle.std.specs.Prelude.{◌≡◌, ◌≤◌, Ok, Err, MatchResult, IfOk};
 ghost use Rattle.serde_json.specs.View.{view};
-ghost use Rattle.ikeless_tree.specs.Check.{is_spd_name, is_sad_name};
-ghost use Rattle.json_values.specs.Faults.{value_kind, or_kind};
 ghost use Rattle.json_values.specs.Shapes.{seen};
-ghost use Rattle.json_values.specs.Leaves.{text_in, in_range, number_in, wide_from, wide_in, needed_text, prefix_from, address_from, count_or, needed_number, needed_wide, number_or, wide_or, prefix_leaf, address_leaf, any_protocol, one_protocol, protocol_from, protocol_leaf, direction_from, direction_leaf, action_from, action_leaf, df_from, df_leaf, mode_from, mode_leaf, this_word, fixed_word, this_number, fixed_number, not_set, unset_leaf};
+ghost use Rattle.json_values.specs.Leaves.{text_in, number_in, wide_from, wide_in, needed_text, prefix_from, address_from, count_or, needed_number, needed_wide, number_or, wide_or, prefix_leaf, address_leaf, any_protocol, one_protocol, protocol_leaf, direction_from, direction_leaf, action_from, action_leaf, df_from, df_leaf, mode_from, mode_leaf, this_word, fixed_word, fixed_number, unset_leaf};
 
 use crate::fault::{Kind, kind_of_value};
-use crate::words::{action_text, df_text, direction_text, mode_text};
-use ikeless_tree::{Action, Df, Direction};
+use ikeless_tree::{Action, Df, Direction, mode_named};
 use ikl_base::{Addr, Prefix};
 use serde_json::Value;
 use yang_values::{read_address, read_prefix, read_u64};
@@ -208,12 +205,9 @@ pub fn protocol(leaf: Option<&Value>) -> Result<Option<u8>, Kind>
 fn direction_from(text: &str) -> Result<Direction, Kind>
     ensures { result ≡ direction_from text.now }
 {
-    if text == direction_text(Direction::In) {
-        Ok(Direction::In)
-    } else if text == direction_text(Direction::Out) {
-        Ok(Direction::Out)
-    } else {
-        Err(Kind::Unsupported)
+    match Direction::of_word(text.as_bytes()) {
+        Some(direction) => Ok(direction),
+        None => Err(Kind::Unsupported),
     }
 }
 
@@ -230,14 +224,9 @@ pub fn direction(leaf: Option<&Value>) -> Result<Direction, Kind>
 fn action_from(text: &str) -> Result<Action, Kind>
     ensures { result ≡ action_from text.now }
 {
-    if text == action_text(Action::Protect) {
-        Ok(Action::Protect)
-    } else if text == action_text(Action::Bypass) {
-        Ok(Action::Bypass)
-    } else if text == action_text(Action::Discard) {
-        Ok(Action::Discard)
-    } else {
-        Err(Kind::Unsupported)
+    match Action::named(text.as_bytes()) {
+        Some(action) => Ok(action),
+        None => Err(Kind::Unsupported),
     }
 }
 
@@ -257,14 +246,9 @@ pub fn action(leaf: Option<&Value>) -> Result<Action, Kind>
 fn df_from(text: &str) -> Result<Df, Kind>
     ensures { result ≡ df_from text.now }
 {
-    if text == df_text(Df::Clear) {
-        Ok(Df::Clear)
-    } else if text == df_text(Df::Set) {
-        Ok(Df::Set)
-    } else if text == df_text(Df::Copy) {
-        Ok(Df::Copy)
-    } else {
-        Err(Kind::Unsupported)
+    match Df::named(text.as_bytes()) {
+        Some(df) => Ok(df),
+        None => Err(Kind::Unsupported),
     }
 }
 
@@ -284,12 +268,9 @@ pub fn df(leaf: Option<&Value>) -> Result<Df, Kind>
 fn mode_from(text: &str) -> Result<bool, Kind>
     ensures { result ≡ mode_from text.now }
 {
-    if text == mode_text(true) {
-        Ok(true)
-    } else if text == mode_text(false) {
-        Ok(false)
-    } else {
-        Err(Kind::Unsupported)
+    match mode_named(text.as_bytes()) {
+        Some(now) => Ok(now),
+        None => Err(Kind::Unsupported),
     }
 }
 

@@ -8,10 +8,9 @@ pub mod leaves;
 pub mod members;
 pub mod names;
 mod shapes;
-pub mod words;
 
 pub use build::{
-    Members, are_octets, has_octets, put, put_count, put_text, put_wide, put_word, single, written,
+    Members, are_octets, put, put_count, put_text, put_wide, put_word, single, written,
 };
 pub use fault::{
     CodecFault, Fault, Kind, answer, at_made, at_member, kind_of_tree, not_json, within,

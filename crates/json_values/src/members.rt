@@ -49,7 +49,7 @@ pub fn is_counts(alloc: Global, value: &Value) -> Result<(), OrMemory<Fault>>
     )
 }
 
-/// The members of limits on the use of an association, as `sa-lifetime-hard`.
+/// The members of limits on the use of a half, as `sa-lifetime-hard`.
 #[tactic(auto, unfolding(crate::specs::Members::limits_shape))]
 pub fn is_limits(alloc: Global, value: &Value) -> Result<(), OrMemory<Fault>>
     ensures { Gives result (limits_shape (view value.now)) }

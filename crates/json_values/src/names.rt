@@ -1,12 +1,10 @@
 // Names and octets, which are copied out of a value.
-ghost use Rattle.std.specs.Prelude.{◌≡◌, codes, length, Ok, Err, MatchResult};
+ghost use Rattle.std.specs.Prelude.{◌≡◌, length, Ok, Err, MatchResult};
 ghost use Rattle.serde_json.specs.View.{view};
 ghost use Rattle.ikl_base.specs.Answers.{Gives};
 ghost use Rattle.ikeless_tree.specs.Check.{is_spd_name, is_sad_name, is_key_length, is_gateway};
-ghost use Rattle.yang_values.specs.HexText.{hex_of};
-ghost use Rattle.json_values.specs.Faults.{or_kind};
 ghost use Rattle.json_values.specs.Shapes.{seen};
-ghost use Rattle.json_values.specs.Leaves.{name_leaf, octets_leaf, octets_from, key_leaf, keying, name_in};
+ghost use Rattle.json_values.specs.Leaves.{name_leaf, octets_leaf, octets_from, key_leaf, name_in};
 
 use crate::fault::{Fault, Kind, at_made, kind_of_value};
 use crate::leaves::text_of;
@@ -76,18 +74,18 @@ fn gateway_leaf(alloc: Global, leaf: Option<&Value>) -> Result<Name, OrMemory<Ki
     }
 }
 
-/// The name of a policy.
-pub fn policy_name(alloc: Global, value: &Value) -> Result<Name, OrMemory<Fault>>
-    ensures { Gives result (name_in (codes "name") is_spd_name (view value.now)) }
+/// The name of a policy, in the member of this name.
+pub fn policy_name(alloc: Global, name: &str, value: &Value) -> Result<Name, OrMemory<Fault>>
+    ensures { Gives result (name_in name.now is_spd_name (view value.now)) }
 {
-    at_made(alloc, b"name", policy_leaf(alloc, value.get("name")))
+    at_made(alloc, name.as_bytes(), policy_leaf(alloc, value.get(name)))
 }
 
-/// The name of an association.
-pub fn half_name(alloc: Global, value: &Value) -> Result<Name, OrMemory<Fault>>
-    ensures { Gives result (name_in (codes "name") is_sad_name (view value.now)) }
+/// The name of a half, in the member of this name.
+pub fn half_name(alloc: Global, name: &str, value: &Value) -> Result<Name, OrMemory<Fault>>
+    ensures { Gives result (name_in name.now is_sad_name (view value.now)) }
 {
-    at_made(alloc, b"name", half_leaf(alloc, value.get("name")))
+    at_made(alloc, name.as_bytes(), half_leaf(alloc, value.get(name)))
 }
 
 /// The name of a gateway, in the member of this name.

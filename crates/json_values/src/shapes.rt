@@ -1,12 +1,12 @@
 // Objects by the names of their members.
-ghost use Rattle.std.specs.Prelude.{◌≡◌, [], ◌∷◌, MatchResult, Result, Ok};
+ghost use Rattle.std.specs.Prelude.{◌≡◌, [], MatchResult, Result, Ok};
 ghost use Rattle.std.specs.List.{list_any};
 ghost use Rattle.std.specs.Fmt.{decimal};
 ghost use Rattle.serde_json.specs.View.{view, members_view};
 ghost use Rattle.ikl_base.specs.Answers.{Gives, Refuses};
 ghost use Rattle.ikl_base.specs.declared.fault.OrMemory.TheVariants as failures;
 ghost use Rattle.json_values.specs.Faults.{here, within};
-ghost use Rattle.json_values.specs.Shapes.{names_in, is_among, has_unknown, lacks, shape_of, shape, needed_data, only_in};
+ghost use Rattle.json_values.specs.Shapes.{names_in, is_among, has_unknown, lacks, shape, only_in};
 ghost use Rattle.json_values.specs.declared.fault.Fault.{Fault};
 
 use crate::build::Members;

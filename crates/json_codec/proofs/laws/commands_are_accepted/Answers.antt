@@ -1,6 +1,6 @@
 use Rattle.std.proofs.Common.{◌≡◌, None}
 use Rattle.json_values.specs.Json.{IsCommand}
-use Rattle.json_codec.specs.Operations.{command_in, command_fault}
+use Rattle.json_codec.specs.CommandRead.{command_in, command_fault}
 use Rattle.json_codec.proofs.CommandLaws.{command_ok, command_back}
 use Rattle.json_codec.proofs.BodyLaws.{body_ok, body_of}
 use Rattle.json_codec.proofs.laws.commands_are_accepted.Goals as goal

@@ -1,7 +1,7 @@
 use Rattle.std.proofs.Common.{◌≡◌, None}
-use Rattle.json_codec.specs.Commands.{command_data}
+use Rattle.json_codec.specs.CommandWritten.{command_data}
 use Rattle.json_values.specs.Json.{IsCommand}
-use Rattle.json_codec.specs.Operations.{operation_of, command_in, command_fault}
+use Rattle.json_codec.specs.CommandRead.{operation_of, command_in, command_fault}
 use Rattle.json_codec.proofs.CommandLaws.{command_back}
 use Rattle.json_codec.proofs.BodyLaws.{body_of}
 use Rattle.json_codec.proofs.CommandAgain.{command_again, no_command_fault}

@@ -1,7 +1,7 @@
 use Rattle.std.proofs.Common.{◌≡◌, ◌∷◌, [], None}
 use Rattle.ikeless_tree.specs.Check.{spd_fault}
 use Rattle.json_values.specs.Json.{IsOneSpdEntry}
-use Rattle.json_tree.specs.Policies.{one_spd_entry_in}
+use Rattle.json_tree.specs.PolicyRead.{one_spd_entry_in}
 use Rattle.json_tree.proofs.PolicyLaws.{one_spd_ok, one_spd_back}
 use Rattle.json_codec.proofs.BodyLaws.{body_ok, body_of}
 use Rattle.json_codec.proofs.laws.one_policy_is_accepted.Goals as goal

@@ -2,7 +2,7 @@ use Rattle.std.proofs.Common.{◌≡◌, ◌∷◌, [], None}
 use Rattle.ikeless_tree.specs.Check.{spd_fault}
 use Rattle.json_values.specs.Written.{one_policy}
 use Rattle.json_values.specs.Json.{IsOneSpdEntry}
-use Rattle.json_tree.specs.Policies.{one_spd_entry_in}
+use Rattle.json_tree.specs.PolicyRead.{one_spd_entry_in}
 use Rattle.json_tree.proofs.PolicyLaws.{one_spd_back}
 use Rattle.json_codec.proofs.BodyLaws.{body_of}
 use Rattle.json_tree.proofs.PolicyAgain.{one_again}

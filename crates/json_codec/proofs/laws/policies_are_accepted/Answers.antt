@@ -1,7 +1,7 @@
 use Rattle.std.proofs.Common.{◌≡◌, None}
 use Rattle.ikeless_tree.specs.Check.{spd_fault}
 use Rattle.json_values.specs.Json.{IsSpd}
-use Rattle.json_tree.specs.Policies.{spd_in}
+use Rattle.json_tree.specs.PolicyRead.{spd_in}
 use Rattle.json_tree.proofs.PolicyLaws.{spd_ok, spd_back}
 use Rattle.json_codec.proofs.BodyLaws.{body_ok, body_of}
 use Rattle.json_codec.proofs.laws.policies_are_accepted.Goals as goal

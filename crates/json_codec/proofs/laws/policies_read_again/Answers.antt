@@ -2,7 +2,7 @@ use Rattle.std.proofs.Common.{◌≡◌, None}
 use Rattle.ikeless_tree.specs.Check.{spd_fault}
 use Rattle.json_values.specs.Written.{all_policies}
 use Rattle.json_values.specs.Json.{IsSpd}
-use Rattle.json_tree.specs.Policies.{spd_in}
+use Rattle.json_tree.specs.PolicyRead.{spd_in}
 use Rattle.json_tree.proofs.PolicyLaws.{spd_back}
 use Rattle.json_codec.proofs.BodyLaws.{body_of}
 use Rattle.json_tree.proofs.PolicyAgain.{all_again}

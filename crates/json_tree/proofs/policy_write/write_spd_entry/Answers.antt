@@ -1,0 +1,17 @@
+use Rattle.std.proofs.Common.{◌≤◌, arith}
+use Rattle.serde_json.specs.Data.{depth}
+use Rattle.json_values.specs.Written.{one_policy}
+use Rattle.json_tree.proofs.Flat.{flat_one_policy}
+use Rattle.json_tree.proofs.Passed.{passed_name}
+use Rattle.json_tree.proofs.policy_write.write_spd_entry.Goals as goal
+
+pub one_value-requires : goal.one_value-requires
+one_value-requires c = passed_name _ c.requires
+
+pub written-requires-clause-plain : goal.written-requires-clause-plain
+written-requires-clause-plain c = rw c.in_ok-value.ensures (flat_one_policy c.args.e.now).plain
+
+pub written-requires-clause-shallow : goal.written-requires-clause-shallow
+written-requires-clause-shallow c =
+    let deep : depth (one_policy c.args.e.now) ≤ 7 = (flat_one_policy c.args.e.now).shallow in
+    rw c.in_ok-value.ensures (omega arith)

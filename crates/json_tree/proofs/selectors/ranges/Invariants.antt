@@ -1,9 +1,0 @@
-use Rattle.std.proofs.Common.{◌≡◌, drop}
-use Rattle.serde_json.specs.View.{items_view}
-use Rattle.json_values.specs.Shapes.{each_item}
-use Rattle.json_tree.specs.Selectors.{range_in}
-use Rattle.json_values.proofs.ItemLemmas.{onto}
-use Rattle.json_tree.proofs.selectors.ranges.Given as goal
-
-abbrev pub invariant-loop-place : goal.invariant-loop-place
-invariant-loop-place l = onto l.list (each_item range_in l.place (items_view (drop l.place l.items))) ≡ each_item range_in 0 (items_view l.items)
