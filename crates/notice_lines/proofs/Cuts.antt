@@ -1,6 +1,7 @@
 -- It doesn't matter where octets are cut into pieces.
 use Rattle.std.proofs.Common.{◌≡◌, ℕ, ◌+◌, ◌≤◌, ◌<◌, nat_le, Bool, true, false, List, [], ◌∷◌, ◌++◌, length, take, Option, Some, None, refl, ap, sym, subst, ◌∙◌, arith, append_assoc, length-append, if◌then◌else◌}
 use Rattle.std.specs.List.{flat_map}
+use Rattle.std.proofs.lemmas.Bool.{leb-true, leb-false}
 use Rattle.std.proofs.lemmas.List.{take-append-le}
 use Rattle.ikeless_tree.specs.declared.order.Notice.{Notice}
 use Rattle.notice_lines.specs.Envelope.{notice_in}
@@ -27,12 +28,6 @@ ends_long n e = cc
 same_end : (m n : ℕ) → Ends m ≡ Ends n → m ≡ n
 same_end m n e = cc
 
-le_true : (m n : ℕ) → nat_le m n ≡ true → m ≤ n
-le_true m n e = grind arith
-
-le_false : (m n : ℕ) → nat_le m n ≡ false → n < m
-le_false m n e = grind arith
-
 ends_by : (o : Option ℕ) (size n : ℕ) → begins_by o size ≡ Ends n → (o ≡ Some n) × (n ≤ 4096)
 ends_by None size n e = absurd (none (nat_le size 4096) e)
   where
@@ -42,7 +37,7 @@ ends_by None size n e = absurd (none (nat_le size 4096) e)
 ends_by (Some m) size n e = some (nat_le m 4096) refl e
   where
     some : (b : Bool) → nat_le m 4096 ≡ b → (if b then Ends m else Long) ≡ Ends n → (◌≡◌ {A = Option ℕ} (Some m) (Some n)) × (n ≤ 4096)
-    some true p e = let same = same_end m n e in let small = le_true m 4096 p in (ap Some same, omega (arith, same, small))
+    some true p e = let same = same_end m n e in let small = leb-true m 4096 p in (ap Some same, omega (arith, same, small))
     some false p e = absurd (long_ends n e)
 
 pub ends_parts : (octets : List ℕ) (n : ℕ) → begins octets ≡ Ends n → (line_end octets ≡ Some n) × (n ≤ 4096)
@@ -57,7 +52,7 @@ long_by a b (Some m) p ea eb e = some (nat_le m 4096) refl e
   where
     some : (z : Bool) → nat_le m 4096 ≡ z → (if z then Ends m else Long) ≡ Long → begins (a ++ b) ≡ Long
     some true q e = absurd (ends_long m e)
-    some false q e = begins_late (a ++ b) m (end_stays a b m ea) (le_false m 4096 q)
+    some false q e = begins_late (a ++ b) m (end_stays a b m ea) (leb-false m 4096 q)
 long_by a b None p ea eb e = none (nat_le (length a) 4096) refl p eb e
   where
     far : 4096 < length a → (p : Option ℕ) → line_end b ≡ p → begins (a ++ b) ≡ Long
@@ -66,7 +61,7 @@ long_by a b None p ea eb e = none (nat_le (length a) 4096) refl p eb e
 
     none : (z : Bool) → nat_le (length a) 4096 ≡ z → (p : Option ℕ) → line_end b ≡ p → (if z then Open else Long) ≡ Long → begins (a ++ b) ≡ Long
     none true q p eb e = absurd (open_long e)
-    none false q p eb e = far (le_false (length a) 4096 q) p eb
+    none false q p eb e = far (leb-false (length a) 4096 q) p eb
 
 pub long_stays : (a b : List ℕ) → begins a ≡ Long → begins (a ++ b) ≡ Long
 unfolding begins

@@ -1,20 +1,13 @@
 -- A notification has no floats, and nests a few levels deep.
-use Rattle.std.proofs.Common.{ℕ, Bool, List, codes, refl, arith}
-use Rattle.serde_json.specs.Data.{Data, boolean}
+use Rattle.std.proofs.Common.{ℕ, Bool, List, codes}
+use Rattle.serde_json.specs.Data.{Data}
 use Rattle.ikeless_tree.specs.declared.sad.Limits.{Limits}
 use Rattle.ikeless_tree.specs.declared.entry.Selector.{Selector}
 use Rattle.ikeless_tree.specs.declared.order.Notice.{Notice}
 use Rattle.ikeless_tree.specs.declared.order.Notice.TheVariants as notices
-use Rattle.json_tree.specs.Associations.{counts_data}
+use Rattle.json_tree.proofs.FlatRows.{flat_bool, flat_counts}
 use Rattle.json_tree.proofs.Flat.{IsFlat, flat_put, flat_none, flat_object, flat_string, flat_count, flat_selector, flat_only}
 use Rattle.notice_lines.specs.Envelope.{acquire_data, expire_data, event_name, event_data, envelope_data, notice_data}
-
-flat_boolean : (n : ℕ) (b : Bool) → IsFlat n (boolean b)
-flat_boolean n b = record { plain = refl; shallow = omega arith }
-
-flat_counts : (l : Limits) → IsFlat 3 (counts_data l)
-flat_counts l = flat_object 2 _ (flat_put 2 (codes "bytes") _ _ (flat_string 2 _) (flat_put 2 (codes "idle") _ _ (flat_count 2 l.idle)
-    (flat_put 2 (codes "packets") _ _ (flat_count 2 l.packets) (flat_put 2 (codes "time") _ _ (flat_count 2 l.time) (flat_none 2)))))
 
 flat_acquire : (policy : List ℕ) (s : Selector) → IsFlat 4 (acquire_data policy s)
 unfolding acquire_data
@@ -23,7 +16,7 @@ flat_acquire policy s = flat_object 3 _ (flat_put 3 (codes "ipsec-policy-name") 
 flat_expire : (name : List ℕ) (soft : Bool) (l : Limits) → IsFlat 4 (expire_data name soft l)
 unfolding expire_data
 flat_expire name soft l = flat_object 3 _ (flat_put 3 (codes "ipsec-sa-name") _ _ (flat_string 3 name)
-    (flat_put 3 (codes "lifetime-current") _ _ (flat_counts l) (flat_put 3 (codes "soft-lifetime-expire") _ _ (flat_boolean 3 soft) (flat_none 3))))
+    (flat_put 3 (codes "lifetime-current") _ _ (flat_counts l) (flat_put 3 (codes "soft-lifetime-expire") _ _ (flat_bool 3 soft) (flat_none 3))))
 
 flat_event : (n : Notice) → IsFlat 4 (event_data n)
 flat_event (notices.Acquire policy selector) = flat_acquire policy selector

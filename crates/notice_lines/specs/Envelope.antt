@@ -12,11 +12,11 @@ use Rattle.json_values.specs.declared.fault.Kind.{Kind}
 use Rattle.json_values.specs.declared.fault.Kind.TheVariants as kinds
 use Rattle.json_values.specs.declared.fault.Fault.{Fault}
 use Rattle.json_values.specs.Written.{count, only, selector_data}
-use Rattle.json_tree.specs.Associations.{counts_data}
+use Rattle.json_tree.specs.SadEntryWritten.{counts_data}
 use Rattle.json_values.specs.Faults.{◌>>=◌, here, within, at_member}
 use Rattle.json_values.specs.Shapes.{shape, only_in}
-use Rattle.json_values.specs.Leaves.{or_form, or_missing, needed_text, needed_number, name_leaf}
-use Rattle.json_tree.specs.Selectors.{selector_of, counts_in}
+use Rattle.json_values.specs.Leaves.{or_form, or_missing, needed_text, needed_number, name_in}
+use Rattle.json_tree.specs.SelectorRead.{selector_of, counts_in}
 
 -- ---- events
 
@@ -71,7 +71,7 @@ notice_data n stamp = only (codes "ietf-restconf:notification") (envelope_data s
 abbrev pub IsWhole : Selector → Type 0
 IsWhole s = (has_empty_range s ≡ false) × (has_many_ranges s ≡ false)
 
--- a notice with names of a policy or an association and a whole selector
+-- a notice with names of a policy or a half and a whole selector
 abbrev pub IsNotice : Notice → Type 0
 IsNotice (notices.Acquire policy selector) = (is_spd_name policy ≡ true) × IsWhole selector
 IsNotice (notices.Expire name soft current) = is_sad_name name ≡ true
@@ -79,10 +79,6 @@ IsNotice (notices.SeqOverflow name) = is_sad_name name ≡ true
 IsNotice (notices.BadSpi spi) = Unit {0}
 
 -- ---- what is read
-
--- the name in a member, by this test
-abbrev pub name_at : List ℕ → (List ℕ → Bool) → Data → Result (List ℕ) Fault
-name_at member is_name d = at_member member (name_leaf is_name (get member d))
 
 abbrev pub needed_truth : Option Data → Result Bool Kind
 needed_truth leaf = or_missing leaf >>= (λ d. or_form (as_bool d))
@@ -99,7 +95,7 @@ acquire_shape d = shape (codes "ipsec-policy-name" ∷ codes "traffic-selector" 
 unfoldable pub acquire_in : Data → Result Notice Fault
 acquire_in d =
     acquire_shape d >>= (λ done.
-    name_at (codes "ipsec-policy-name") is_spd_name d >>= (λ policy.
+    name_in (codes "ipsec-policy-name") is_spd_name d >>= (λ policy.
     selector_of (get (codes "traffic-selector") d) >>= (λ found.
     whole found >>= (λ selector.
     Ok (notices.Acquire policy selector)))))
@@ -115,7 +111,7 @@ counts_of (Some d) = within (codes "lifetime-current") (counts_in d)
 unfoldable pub expire_in : Data → Result Notice Fault
 expire_in d =
     expire_shape d >>= (λ done.
-    name_at (codes "ipsec-sa-name") is_sad_name d >>= (λ name.
+    name_in (codes "ipsec-sa-name") is_sad_name d >>= (λ name.
     counts_of (get (codes "lifetime-current") d) >>= (λ current.
     at_member (codes "soft-lifetime-expire") (needed_truth (get (codes "soft-lifetime-expire") d)) >>= (λ soft.
     Ok (notices.Expire name soft current)))))
@@ -126,7 +122,7 @@ overflow_shape d = shape (codes "ipsec-sa-name" ∷ []) (codes "ipsec-sa-name" �
 unfoldable pub overflow_in : Data → Result Notice Fault
 overflow_in d =
     overflow_shape d >>= (λ done.
-    name_at (codes "ipsec-sa-name") is_sad_name d >>= (λ name.
+    name_in (codes "ipsec-sa-name") is_sad_name d >>= (λ name.
     Ok (notices.SeqOverflow name)))
 
 unfoldable pub bad_spi_shape : Data → Result ⊤ Fault

@@ -1,4 +1,4 @@
 pub mod Moments
 pub mod Envelope
+pub mod Notifications
 pub mod Reading
-pub mod Held

@@ -1,6 +1,7 @@
 -- Lines of notifications in pieces, of this project. A line has at most 4,096 octets and ends with LF.
 use Rattle.std.specs.Prelude.{◌≡◌, ℕ, ◌+◌, ◌≤◌, ◌==◌, nat_le, List, [], ◌∷◌, ◌++◌, length, take, IsUtf8, Option, Some, None, Result, Ok, Err, if◌then◌else◌}
 use Rattle.std.specs.Option.{option_map}
+use Rattle.std.specs.List.{flat_map}
 use Rattle.serde_json.specs.Data.{Data}
 use Rattle.serde_json.specs.Read.{read}
 use Rattle.serde_json.specs.Written.{compact_text}
@@ -56,6 +57,22 @@ begins_by (Some n) size = if nat_le n 4096 then Ends n else Long
 unfoldable pub begins : List ℕ → Begins
 begins octets = begins_by (line_end octets) (length octets)
 
+-- ---- pieces that come one after the other
+
+abbrev pub unless_open : Begins → Begins → Begins
+unless_open Open later = later
+unless_open b later = b
+
+-- the first of the pieces that completes a line or makes it too long decides, where these octets came before
+abbrev pub first_begins : List ℕ → List (List ℕ) → Begins
+first_begins kept [] = Open
+first_begins kept (p ∷ ps) = unless_open (begins (kept ++ p)) (first_begins (kept ++ p) ps)
+
+-- the line is heard as this notice in any pieces, whatever follows it
+abbrev pub IsHeard : Notice → List ℕ → Type 0
+IsHeard n line = (rest : List ℕ) (pieces : List (List ℕ)) → flat_map (λ piece. piece) pieces ≡ line ++ rest
+    → (size : ℕ) × (size + 1 ≡ length line) × (first_begins [] pieces ≡ Ends size) × HasNotice (take size (flat_map (λ piece. piece) pieces)) n
+
 -- ---- a reader
 
 -- the fault answered before, and the octets that came after the last line
@@ -95,14 +112,3 @@ FeedGives None old new piece result = GivesNext old new piece result
 abbrev pub IsNoneOrMemory : OrMemory NoticeFault → List ℕ → Type 0
 IsNoneOrMemory failures.NoMemory line = Unit {0}
 IsNoneOrMemory (failures.Refused fault) line = (fault ≡ faults.NotNotice) × HasNone line
-
--- ---- pieces that come one after the other
-
-abbrev pub unless_open : Begins → Begins → Begins
-unless_open Open later = later
-unless_open b later = b
-
--- the first of the pieces that completes a line or makes it too long decides, where these octets came before
-abbrev pub first_begins : List ℕ → List (List ℕ) → Begins
-first_begins kept [] = Open
-first_begins kept (p ∷ ps) = unless_open (begins (kept ++ p)) (first_begins (kept ++ p) ps)

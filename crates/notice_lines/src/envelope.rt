@@ -7,7 +7,7 @@ ghost use Rattle.notice_lines.specs.Envelope.{overflow_name, expire_name, bad_sp
 use crate::event::{acquire, bad_spi, expire, overflow};
 use ikeless_tree::Notice;
 use ikl_base::OrMemory;
-use json_codec::{Fault, Kind, at_member, has_shape, only, text_of};
+use json_values::{Fault, Kind, at_member, has_shape, only, text_of};
 use serde_json::Value;
 use std::alloc::Global;
 

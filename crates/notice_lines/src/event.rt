@@ -1,65 +1,23 @@
 // The events of notifications, read.
-ghost use Rattle.std.specs.Prelude.{◌≡◌, codes, Ok, Err, MatchResult};
+ghost use Rattle.std.specs.Prelude.{◌≡◌, Ok, Err};
 ghost use Rattle.std.specs.List.{list_any};
 ghost use Rattle.serde_json.specs.Find.{get};
 ghost use Rattle.serde_json.specs.View.{view};
 ghost use Rattle.ikl_base.specs.Answers.{Gives};
-ghost use Rattle.ikeless_tree.specs.Check.{is_spd_name, is_sad_name, is_empty_range, has_empty_range, has_many_ranges};
+ghost use Rattle.ikeless_tree.specs.Check.{is_empty_range, has_empty_range, has_many_ranges};
 ghost use Rattle.json_values.specs.Faults.{at_member};
 ghost use Rattle.json_values.specs.Shapes.{seen};
-ghost use Rattle.json_values.specs.Leaves.{name_leaf};
-ghost use Rattle.notice_lines.specs.Envelope.{name_at, needed_truth, whole, acquire_shape, acquire_in, expire_shape, counts_of, expire_in, overflow_shape, overflow_in, bad_spi_shape, bad_spi_in};
+ghost use Rattle.notice_lines.specs.Envelope.{needed_truth, whole, acquire_shape, acquire_in, expire_shape, counts_of, expire_in, overflow_shape, overflow_in, bad_spi_shape, bad_spi_in};
 
-use ikeless_tree::{Limits, Notice, Range, Selector, names_half, names_policy};
-use ikl_base::{Name, OrMemory};
-use json_codec::{
-    Fault, Kind, at_member, has_shape, number_of, read_counts, read_selector_member, text_of,
-    within,
-};
+use ikeless_tree::{Limits, Notice, Range, Selector};
+use ikl_base::OrMemory;
+use json_tree::{read_counts, read_selector_member};
+use json_values::names::{half_name, policy_name};
+use json_values::{Fault, Kind, at_member, has_shape, number_of, within};
 use serde_json::Value;
 use std::alloc::Global;
 
 const MOST_RANGES: usize = 8;
-
-fn policy_text(leaf: Option<&Value>) -> Result<&str, Kind>
-    ensures { MatchResult result (λ t. name_leaf is_spd_name (seen leaf.entry) ≡ Ok t.now)
-        (λ kind. name_leaf is_spd_name (seen leaf.entry) ≡ Err kind) }
-{
-    match text_of(leaf) {
-        Ok(text) if names_policy(text.as_bytes()) => Ok(text),
-        Ok(_) => Err(Kind::Name),
-        Err(kind) => Err(kind),
-    }
-}
-
-fn half_text(leaf: Option<&Value>) -> Result<&str, Kind>
-    ensures { MatchResult result (λ t. name_leaf is_sad_name (seen leaf.entry) ≡ Ok t.now)
-        (λ kind. name_leaf is_sad_name (seen leaf.entry) ≡ Err kind) }
-{
-    match text_of(leaf) {
-        Ok(text) if names_half(text.as_bytes()) => Ok(text),
-        Ok(_) => Err(Kind::Name),
-        Err(kind) => Err(kind),
-    }
-}
-
-fn policy_name(alloc: Global, value: &Value) -> Result<Name, OrMemory<Fault>>
-    ensures { Gives result (name_at (codes "ipsec-policy-name") is_spd_name (view value.now)) }
-{
-    match policy_text(value.get("ipsec-policy-name")) {
-        Ok(text) => Ok(Name::from_slice(alloc, text.as_bytes())?),
-        Err(kind) => at_member(alloc, b"ipsec-policy-name", Err(kind)),
-    }
-}
-
-fn half_name(alloc: Global, value: &Value) -> Result<Name, OrMemory<Fault>>
-    ensures { Gives result (name_at (codes "ipsec-sa-name") is_sad_name (view value.now)) }
-{
-    match half_text(value.get("ipsec-sa-name")) {
-        Ok(text) => Ok(Name::from_slice(alloc, text.as_bytes())?),
-        Err(kind) => at_member(alloc, b"ipsec-sa-name", Err(kind)),
-    }
-}
 
 fn some_is_empty(ranges: &[Range]) -> bool
     ensures { result ≡ list_any is_empty_range ranges.now }
@@ -109,7 +67,7 @@ pub(crate) fn acquire(alloc: Global, value: &Value) -> Result<Notice, OrMemory<F
     ensures { Gives result (acquire_in (view value.now)) }
 {
     is_acquire(alloc, value)?;
-    let policy = policy_name(alloc, value)?;
+    let policy = policy_name(alloc, "ipsec-policy-name", value)?;
     let found = read_selector_member(alloc, value.get("traffic-selector"))?;
     let selector = whole(alloc, found)?;
     Ok(Notice::Acquire { policy, selector })
@@ -153,7 +111,7 @@ pub(crate) fn expire(alloc: Global, value: &Value) -> Result<Notice, OrMemory<Fa
     ensures { Gives result (expire_in (view value.now)) }
 {
     is_expire(alloc, value)?;
-    let name = half_name(alloc, value)?;
+    let name = half_name(alloc, "ipsec-sa-name", value)?;
     let current = counts(alloc, value.get("lifetime-current"))?;
     let soft = at_member(
         alloc,
@@ -179,7 +137,7 @@ pub(crate) fn overflow(alloc: Global, value: &Value) -> Result<Notice, OrMemory<
     ensures { Gives result (overflow_in (view value.now)) }
 {
     is_overflow(alloc, value)?;
-    let name = half_name(alloc, value)?;
+    let name = half_name(alloc, "ipsec-sa-name", value)?;
     Ok(Notice::SeqOverflow { name })
 }
 

@@ -3,9 +3,11 @@ ghost use Rattle.std.specs.Prelude.{◌≡◌, ◌+◌, ◌≤◌, ℕ, List, []
 ghost use Rattle.std.specs.List.{flat_map};
 ghost use Rattle.ikeless_tree.specs.declared.order.Notice.{Notice};
 ghost use Rattle.notice_lines.specs.Moments.{IsStamp};
-ghost use Rattle.notice_lines.specs.Reading.{HasNotice, IsLine, line_end, Ends, begins, first_begins};
+ghost use Rattle.notice_lines.specs.Reading.{HasNotice, IsHeard, IsLine, line_end, Ends, begins, first_begins};
 ghost use Rattle.notice_lines.specs.Envelope.{IsNotice};
-ghost use Rattle.notice_lines.specs.Held.{HoldsNotice};
+ghost use Rattle.ikeless_tree.specs.Typed.{IsTypedNotice};
+ghost use Rattle.json_values.specs.Json.{StandsFor};
+ghost use Rattle.notice_lines.specs.Notifications.{IsNotification};
 
 /// A clock's reading has one text.
 pub fn has_one_stamp()
@@ -26,13 +28,16 @@ pub fn is_heard_in_any_pieces()
         → (first_begins [] pieces ≡ Ends (length line)) × HasNotice (take (length line) (flat_map (λ piece. piece) pieces)) n }
 {}
 
-/// The line of a notice is heard as that notice in any pieces, whatever follows it.
+/// The line of a notice is heard as that notice in any pieces, whatever follows it: its numbers are those of its type, as
+/// those of every notice that a program has, and `write_notice` gives the same without that premise.
 pub fn written_is_heard()
-    ensures { (n : Notice) (seconds : ℕ) (line rest : List ℕ) (pieces : List (List ℕ)) → IsNotice n → HoldsNotice n → IsLine n seconds line
-        → flat_map (λ piece. piece) pieces ≡ line ++ rest
-        → (size : ℕ) × (size + 1 ≡ length line) × (first_begins [] pieces ≡ Ends size) × HasNotice (take size (flat_map (λ piece. piece) pieces)) n }
+    ensures { (n : Notice) (seconds : ℕ) (line : List ℕ) → IsNotice n → IsTypedNotice n → IsLine n seconds line → IsHeard n line }
 {
-    yang_values::prefix_read_again();
-    yang_values::u64_read_again();
     yang_values::plain_texts();
 }
+
+/// A line is heard as a notice exactly where it stands for the notification of that notice.
+pub fn notices_are_accepted()
+    ensures sound { (line : List ℕ) (n : Notice) → HasNotice line n → StandsFor line (IsNotification n) }
+    ensures complete { (line : List ℕ) (n : Notice) → StandsFor line (IsNotification n) → HasNotice line n }
+{}

@@ -13,6 +13,9 @@ mod tests;
 mod write;
 
 pub use fault::NoticeFault;
-pub use laws::{cuts_do_not_matter, has_one_stamp, is_heard_in_any_pieces, written_is_heard};
+pub use laws::{
+    cuts_do_not_matter, has_one_stamp, is_heard_in_any_pieces, notices_are_accepted,
+    written_is_heard,
+};
 pub use reader::{Heard, LineReader};
 pub use write::write_notice;

@@ -1,8 +1,7 @@
 // One line of a notification.
 ghost use Rattle.std.specs.Prelude.{◌≡◌, ◌==◌, ◌≤◌, ◌++◌, length, take, IfOk, IfErr, OnOk, OnErr};
 ghost use Rattle.std.specs.List.{position};
-ghost use Rattle.ikl_base.specs.declared.fault.OrMemory.TheVariants as failures;
-ghost use Rattle.notice_lines.specs.Reading.{HasNotice, HasNone, IsNoneOrMemory, line_end};
+ghost use Rattle.notice_lines.specs.Reading.{HasNotice, IsNoneOrMemory, line_end};
 
 use crate::envelope::notice;
 use crate::fault::NoticeFault;

@@ -1,16 +1,16 @@
 // Notices as lines.
 ghost use Rattle.std.specs.Prelude.{◌≡◌, true, IfOk, IsUtf8};
-ghost use Rattle.serde_json.specs.Data.{string};
 ghost use Rattle.serde_json.specs.View.{view};
 ghost use Rattle.ikeless_tree.specs.Check.{is_spd_name, is_sad_name};
-ghost use Rattle.notice_lines.specs.Moments.{IsStamp};
 ghost use Rattle.notice_lines.specs.Envelope.{event_name, event_data, acquire_data, expire_data, overflow_data, bad_spi_data, envelope_data, notice_data, IsNotice};
-ghost use Rattle.notice_lines.specs.Reading.{IsLine};
+ghost use Rattle.notice_lines.specs.Reading.{IsLine, IsHeard};
 
+use crate::laws::written_is_heard;
 use crate::moment::stamp;
 use ikeless_tree::{Limits, Notice, Selector};
 use ikl_base::{Name, NoMemory, Octets};
-use json_codec::{counts_value, put, put_count, put_text, selector_value, single, written};
+use json_tree::{counts_value, selector_value};
+use json_values::{put, put_count, put_text, single, written};
 use serde_json::{Map, Value};
 use std::alloc::Global;
 
@@ -113,8 +113,7 @@ fn notice_value(alloc: Global, n: &Notice, stamp: &[u8]) -> Result<Value, NoMemo
     single(alloc, "ietf-restconf:notification", envelope)
 }
 
-/// The line of a notice at a moment, with its LF. The clock `now` counts seconds from 1970-01-01 on.
-pub fn write_notice(alloc: Global, n: &Notice, now: u32) -> Result<Octets, NoMemory>
+fn notice_line(alloc: Global, n: &Notice, now: u32) -> Result<Octets, NoMemory>
     requires { IsNotice n.now }
     ensures { IfOk result (λ line. IsLine n.now now line) }
 {
@@ -123,4 +122,16 @@ pub fn write_notice(alloc: Global, n: &Notice, now: u32) -> Result<Octets, NoMem
     let mut line = written(alloc, &value)?.into_items();
     line.push(b'\n')?;
     Ok(Octets::from_items(line))
+}
+
+/// The line of a notice at a moment, with its LF. The clock `now` counts seconds from 1970-01-01 on. A reader hears the line as
+/// that notice, in any pieces.
+pub fn write_notice(alloc: Global, n: &Notice, now: u32) -> Result<Octets, NoMemory>
+    requires { IsNotice n.now }
+    ensures line { IfOk result (λ line. IsLine n.now now line) }
+    ensures heard { IfOk result (λ line. IsHeard n.now line) }
+{
+    n.numbers_fit();
+    written_is_heard();
+    notice_line(alloc, n, now)
 }

@@ -1,13 +1,6 @@
-use Rattle.std.proofs.Common.{◌≤◌, arith}
-use Rattle.serde_json.specs.Data.{depth}
-use Rattle.notice_lines.specs.Envelope.{notice_data}
-use Rattle.notice_lines.proofs.FlatNotice.{flat_notice}
+use Rattle.std.proofs.lemmas.Result.{IfOk-weaker}
 use Rattle.notice_lines.proofs.write.write_notice.Goals as goal
 
-pub written-requires-clause-plain : goal.written-requires-clause-plain
-written-requires-clause-plain c = rw c.in_ok-value.ensures (flat_notice c.args.n.now c.stamp-stamp.result).plain
-
-pub written-requires-clause-shallow : goal.written-requires-clause-shallow
-written-requires-clause-shallow c =
-    let deep : depth (notice_data c.args.n.now c.stamp-stamp.result) ≤ 6 = (flat_notice c.args.n.now c.stamp-stamp.result).shallow in
-    rw c.in_ok-value.ensures (omega arith)
+pub returns-clause-heard : goal.returns-clause-heard
+returns-clause-heard c =
+    IfOk-weaker c.notice_line.result _ _ (λ line h. c.written_is_heard.ensures c.args.n.now c.args.now line c.requires c.numbers_fit.ensures h) c.notice_line.ensures
