@@ -1,19 +1,15 @@
 -- What the response to an order says: its status, and what is read of its body (RFC 8040 sections 4.3 and 7.1). Which
 -- statuses an order has is of this project.
-use Rattle.std.specs.Prelude.{ℕ, ◌==◌, ◌||◌, Bool, List, [], ◌∷◌, codes, find, if◌then◌else◌, Option, Some, None, Result, Ok, Err}
-use Rattle.std.specs.Str.{bytes_eq}
+use Rattle.std.specs.Prelude.{ℕ, ◌==◌, ◌||◌, Bool, List, [], ◌∷◌, codes, if◌then◌else◌, Option, Some, None, Result, Ok, Err}
 use Rattle.serde_json.specs.Data.{Data, Items, no_items, item}
 use Rattle.serde_json.specs.Find.{get, as_array}
-use Rattle.ikeless_tree.specs.declared.command.Refusal.TheVariants as refusals
 use Rattle.ikeless_tree.specs.declared.order.Answer.{Answer}
 use Rattle.ikeless_tree.specs.declared.order.Order.{Order}
 use Rattle.ikeless_tree.specs.declared.order.Order.TheVariants as orders
 use Rattle.ikeless_tree.specs.declared.reply.Tag.{Tag}
-use Rattle.ikeless_tree.specs.declared.reply.Tag.TheVariants as tags
 use Rattle.ikeless_tree.specs.declared.reply.App.{App}
-use Rattle.ikeless_tree.specs.declared.reply.App.TheVariants as apps
 use Rattle.ikeless_tree.specs.Check.{is_sad_name}
-use Rattle.ikeless_tree.specs.Words.{tag_text, app_text}
+use Rattle.ikeless_tree.specs.Words.{tag_of, app_of}
 use Rattle.json_codec.specs.Bodies.{json_of}
 use Rattle.json_values.specs.Faults.{◌>>=◌}
 use Rattle.json_values.specs.Leaves.{needed_text}
@@ -33,25 +29,6 @@ or_bad (Some x) = Ok x
 abbrev pub or_only_bad : {A E : Type 0} → Result A E → Result A BadAnswer
 or_only_bad (Ok x) = Ok x
 or_only_bad (Err e) = Err bad
-
--- ---- words
-
-abbrev pub all_tags : List Tag
-all_tags = tags.MalformedMessage ∷ tags.OperationNotSupported ∷ tags.TooBig ∷ tags.InvalidValue ∷ tags.UnknownElement ∷ tags.BadElement ∷ tags.ResourceDenied ∷ []
-
-abbrev pub all_apps : List App
-all_apps =
-    apps.Form ∷ apps.Chunked ∷ apps.Size ∷ apps.Path ∷ apps.Method ∷ apps.Query ∷ apps.Json ∷ apps.Unknown ∷ apps.Missing ∷ apps.Range
-    ∷ apps.Unsupported ∷ apps.Name ∷ apps.Full ∷ apps.Exists ∷ apps.SpiTaken ∷ apps.Absent ∷ apps.Point
-    ∷ apps.Refused refusals.UnknownGateway ∷ apps.Refused refusals.SameGateway ∷ apps.Refused refusals.TunnelExists ∷ apps.Refused refusals.NoTunnel
-    ∷ apps.Refused refusals.TunnelLimit ∷ apps.Refused refusals.KeySeen ∷ apps.Refused refusals.KeyLength ∷ apps.Refused refusals.KeyLimit ∷ []
-
--- the tag, and the app tag, that has this text
-unfoldable pub tag_of : List ℕ → Option Tag
-tag_of text = find (λ tag. bytes_eq (tag_text tag) text) all_tags
-
-unfoldable pub app_of : List ℕ → Option App
-app_of text = find (λ app. bytes_eq (app_text app) text) all_apps
 
 -- ---- bodies
 
@@ -77,7 +54,7 @@ abbrev pub names_in : Items → Result (List (List ℕ)) BadAnswer
 names_in no_items = Ok []
 names_in (item d ds) = name_in d >>= (λ name. names_in ds >>= (λ names. Ok (name ∷ names)))
 
--- the names of the associations that a body shows
+-- the names of the halves that a body shows
 abbrev pub halves_in : Data → Result (List (List ℕ)) BadAnswer
 halves_in d = sole (codes "ietf-i2nsf-ikeless:sad") d >>= sole (codes "sad-entry") >>= items_in >>= names_in
 

@@ -6,10 +6,9 @@ ghost use Rattle.ikl_base.specs.declared.fault.OrMemory.TheVariants as failures;
 ghost use Rattle.json_codec.specs.Bodies.{json_of};
 ghost use Rattle.rc_answer.specs.Answers.{answer_of, app_in, bad, change_of, done, error_in, error_of, halves_in, items_in, member_text, name_in, names_in, names_of, one_in, or_bad, policies_of, reading_of, refusal_of, sole, tag_in, tags_in};
 
-use crate::words::{app_named, tag_named};
 use ikeless_tree::{Answer, App, Names, Order, Tag, names_half};
 use ikl_base::{ListOf, Name, OrMemory};
-use json_codec::{only, text_of};
+use json_values::{only, text_of};
 use rc_http::HttpMessage;
 use serde_json::Value;
 use std::alloc::Global;
@@ -140,7 +139,7 @@ fn one(items: &[Value]) -> Result<&Value, OrMemory<BadAnswer>>
 fn tag(value: &Value) -> Result<Tag, OrMemory<BadAnswer>>
     ensures { Gives result (tag_in (view value.now)) }
 {
-    match tag_named(text("error-tag", value)?) {
+    match Tag::named(text("error-tag", value)?.as_bytes()) {
         Some(tag) => Ok(tag),
         None => Err(bad()),
     }
@@ -149,7 +148,7 @@ fn tag(value: &Value) -> Result<Tag, OrMemory<BadAnswer>>
 fn app(value: &Value) -> Result<App, OrMemory<BadAnswer>>
     ensures { Gives result (app_in (view value.now)) }
 {
-    match app_named(text("error-app-tag", value)?) {
+    match App::named(text("error-app-tag", value)?.as_bytes()) {
         Some(app) => Ok(app),
         None => Err(bad()),
     }

@@ -3,7 +3,6 @@
 
 mod answer;
 mod laws;
-mod words;
 
 pub use answer::{BadAnswer, ErrorTags, read_answer, read_error};
 pub use laws::answers_have_statuses;

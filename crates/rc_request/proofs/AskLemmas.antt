@@ -9,8 +9,8 @@ use Rattle.ikeless_tree.specs.Check.{spd_fault, sad_fault}
 use Rattle.json_values.specs.declared.fault.CodecFault.{CodecFault}
 use Rattle.json_codec.specs.Bodies.{spd_of, spd_entry_of, sad_entry_of}
 use Rattle.json_values.specs.Json.{IsSpd, IsOneSpdEntry, IsOneSadEntry}
-use Rattle.json_tree.specs.Policies.{spd_in, one_spd_entry_in}
-use Rattle.json_tree.specs.Halves.{one_sad_entry_in}
+use Rattle.json_tree.specs.PolicyRead.{spd_in, one_spd_entry_in}
+use Rattle.json_tree.specs.SadEntryRead.{one_sad_entry_in}
 use Rattle.json_tree.proofs.PolicyLaws.{spd_ok, one_spd_ok}
 use Rattle.json_tree.proofs.HalfLaws.{one_sad_ok}
 use Rattle.json_codec.proofs.BodyLaws.{body_ok}

@@ -65,7 +65,7 @@ in_container None = None
 unfoldable pub resource_of : List ℕ → Option Resource
 resource_of path = in_container (after_front (codes "/restconf/data/ietf-i2nsf-ikeless:ipsec-ikeless") path)
 
--- the path that is written for an entry of the policies, and of the associations
+-- the path that is written for an entry of the policies, and of the halves
 abbrev pub policy_path : List ℕ → List ℕ
 policy_path name = codes "/restconf/data/ietf-i2nsf-ikeless:ipsec-ikeless/spd/spd-entry=" ++ escaped name
 

@@ -1,5 +1,5 @@
 // List keys in paths, and the paths of entries as they are written.
-ghost use Rattle.std.specs.Prelude.{◌≡◌, ◌==◌, ◌++◌, true, codes, IfOk, OnOk, string_bytes};
+ghost use Rattle.std.specs.Prelude.{◌≡◌, ◌==◌, ◌++◌, IfOk, OnOk, string_bytes};
 ghost use Rattle.std.specs.List.{list_any};
 ghost use Rattle.percent_encoding.specs.Percent as percent;
 ghost use Rattle.ikeless_tree.specs.Check.{is_spd_name, is_sad_name};
@@ -50,7 +50,7 @@ pub(crate) fn policy_key(alloc: Global, text: &[u8]) -> Result<Option<Name>, NoM
     }
 }
 
-/// The name of an association that stands in a path.
+/// The name of a half that stands in a path.
 #[tactic(auto, unfolding(crate::specs::Paths::key_of))]
 pub(crate) fn half_key(alloc: Global, text: &[u8]) -> Result<Option<Name>, NoMemory>
     ensures { IfOk result (λ name. name ≡ key_of is_sad_name text.now) }
@@ -92,7 +92,7 @@ pub fn path_of_policy(alloc: Global, name: &Name) -> Result<Octets, NoMemory>
     )
 }
 
-/// The path of an association.
+/// The path of a half.
 pub fn path_of_half(alloc: Global, name: &Name) -> Result<Octets, NoMemory>
     ensures { IfOk result (λ path. path ≡ half_path name.now) }
 {

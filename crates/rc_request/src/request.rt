@@ -6,7 +6,7 @@ ghost use Rattle.json_codec.specs.Bodies.{spd_of, spd_entry_of, sad_entry_of};
 ghost use Rattle.reply_table.specs.declared.ask.Ask.TheVariants as asks;
 ghost use Rattle.rc_request.specs.Asks.{IsAsk};
 ghost use Rattle.rc_request.specs.Queries.{place_of};
-ghost use Rattle.rc_request.specs.Requests.{ask_by, asked, at_place, bad_query, body_status, by_operation, if_named, no_message, no_method, no_resource, of_body, on_resource, other_name, plain_ask, plain_error, posted, request_of, unless_query};
+ghost use Rattle.rc_request.specs.Requests.{ask_by, asked, at_place, bad_query, body_status, if_named, no_message, no_method, of_body, on_resource, plain_ask, plain_error, posted, request_of, unless_query};
 
 use crate::error::RcError;
 use crate::operation::{Operation, allow, method_named, operation_on};

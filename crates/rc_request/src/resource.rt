@@ -2,7 +2,7 @@
 ghost use Rattle.std.specs.Prelude.{◌≡◌, ◌==◌, codes, Option, Some, IfOk};
 ghost use Rattle.std.specs.Option.{option_copied, option_map};
 ghost use Rattle.ikeless_tree.specs.Check.{is_spd_name, is_sad_name};
-ghost use Rattle.rc_request.specs.Paths.{after_front, key_of, database_at, or_half, or_policy, resource_in, resource_of};
+ghost use Rattle.rc_request.specs.Paths.{after_front, key_of, database_at, or_half, resource_in, resource_of};
 ghost use Rattle.rc_request.specs.declared.resource.Resource.TheVariants as resources;
 
 use crate::path::{half_key, policy_key};

@@ -7,8 +7,6 @@ use Rattle.serde_json.specs.Written.{compact_text}
 use Rattle.ikeless_tree.specs.declared.sad.SadEntry.{SadEntry}
 use Rattle.ikeless_tree.specs.declared.sad.SadRow.{SadRow}
 use Rattle.ikeless_tree.specs.declared.sad.Tree.{Tree}
-use Rattle.ikeless_tree.specs.declared.command.Refusal.{Refusal}
-use Rattle.ikeless_tree.specs.declared.command.Refusal.TheVariants as refusals
 use Rattle.ikeless_tree.specs.declared.order.Order.{Order}
 use Rattle.ikeless_tree.specs.declared.order.Order.TheVariants as orders
 use Rattle.ikeless_tree.specs.declared.reply.Tag.{Tag}
@@ -17,66 +15,24 @@ use Rattle.ikeless_tree.specs.declared.reply.App.{App}
 use Rattle.ikeless_tree.specs.declared.reply.App.TheVariants as apps
 use Rattle.ikeless_tree.specs.Check.{sad_fault}
 use Rattle.ikeless_tree.specs.Half.{is_inbound}
-use Rattle.ikeless_tree.specs.Words.{tag_text, app_text, refusal_text}
-use Rattle.json_tree.specs.Associations.{ArePassed, row_data, row_items, with_state, all_rows}
+use Rattle.ikeless_tree.specs.Typed.{AreTypedRows}
+use Rattle.ikeless_tree.proofs.WordLemmas.{tag_again, app_again}
+use Rattle.json_tree.specs.SadEntryWritten.{ArePassed, row_data, row_items, with_state, all_rows}
 use Rattle.json_values.specs.Shapes.{shape, only_in}
 use Rattle.json_tree.proofs.FlatRows.{flat_all_rows}
 use Rattle.json_tree.proofs.Passed.{passed_half}
 use Rattle.reply_table.specs.declared.ask.Change.TheVariants as changes
 use Rattle.reply_table.specs.Order.{ask_of}
 use Rattle.reply_table.specs.Reply.{Outcome, At_half, reply, get_sad, refused, made, done, exists, spi_taken, full, absent, row_names, is_row, has_spi, is_sad_full, with_sad, without_row, new_row}
-use Rattle.rc_answer.specs.Answers.{answer_of, app_of, error_in, error_of, halves_in, name_in, names_in, names_of, tag_of}
+use Rattle.rc_answer.specs.Answers.{answer_of, error_in, error_of, halves_in, name_in, names_in, names_of}
 use Rattle.rc_resource.specs.Errors.{error_data}
-use Rattle.rc_resource.specs.Laws.{AreTypedRows, answer_by}
+use Rattle.rc_resource.specs.Laws.{answer_by}
 use Rattle.rc_resource.specs.Lists.{IsTree}
 use Rattle.rc_resource.specs.Messages.{reply_message}
 use Rattle.rc_resource.specs.Replies.{reply_of}
-use Rattle.rc_resource.proofs.ReadBack.{json_again}
-use Rattle.rc_resource.proofs.Writable.{write_error, write_rows}
-
--- ---- words
-
-tag_again : (tag : Tag) → tag_of (tag_text tag) ≡ Some tag
-unfolding tag_of
-tag_again tags.MalformedMessage = refl
-tag_again tags.OperationNotSupported = refl
-tag_again tags.TooBig = refl
-tag_again tags.InvalidValue = refl
-tag_again tags.UnknownElement = refl
-tag_again tags.BadElement = refl
-tag_again tags.ResourceDenied = refl
-
-refusal_again : (why : Refusal) → app_of (refusal_text why) ≡ Some (apps.Refused why)
-unfolding app_of
-refusal_again refusals.UnknownGateway = refl
-refusal_again refusals.SameGateway = refl
-refusal_again refusals.TunnelExists = refl
-refusal_again refusals.NoTunnel = refl
-refusal_again refusals.TunnelLimit = refl
-refusal_again refusals.KeySeen = refl
-refusal_again refusals.KeyLength = refl
-refusal_again refusals.KeyLimit = refl
-
-app_again : (app : App) → app_of (app_text app) ≡ Some app
-unfolding app_of
-app_again apps.Form = refl
-app_again apps.Chunked = refl
-app_again apps.Size = refl
-app_again apps.Path = refl
-app_again apps.Method = refl
-app_again apps.Query = refl
-app_again apps.Json = refl
-app_again apps.Unknown = refl
-app_again apps.Missing = refl
-app_again apps.Range = refl
-app_again apps.Unsupported = refl
-app_again apps.Name = refl
-app_again apps.Full = refl
-app_again apps.Exists = refl
-app_again apps.SpiTaken = refl
-app_again apps.Absent = refl
-app_again apps.Point = refl
-app_again (apps.Refused why) = refusal_again why
+use Rattle.json_tree.proofs.Writable.{write_rows}
+use Rattle.json_codec.proofs.JsonText.{json_again}
+use Rattle.rc_resource.proofs.ErrorTexts.{write_error}
 
 -- ---- errors
 

@@ -1,12 +1,12 @@
 -- Names in databases without a fault stand once.
-use Rattle.std.proofs.Common.{◌≡◌, ℕ, ◌+◌, List, [], ◌∷◌, ◌++◌, Bool, true, false, Option, Some, None, refl, ap, sym, ◌∙◌, arith, subst}
+use Rattle.std.proofs.Common.{◌≡◌, ℕ, ◌+◌, List, [], ◌∷◌, ◌++◌, Bool, true, false, Some, None, refl, ap, sym, ◌∙◌, arith, subst}
 use Rattle.std.specs.List.{list_any, insert, position_or_len, find}
 use Rattle.ikeless_tree.specs.declared.entry.SpdEntry.{SpdEntry}
 use Rattle.ikeless_tree.specs.declared.sad.SadRow.{SadRow}
-use Rattle.ikeless_tree.specs.declared.reply.TreeFault.{TreeFault}
-use Rattle.ikeless_tree.specs.Check.{is_named, entry_fault, entries_fault, first_of, spd_fault, sad_fault}
-use Rattle.json_tree.specs.Associations.{ArePassed}
-use Rattle.json_tree.proofs.Passed.{no_fault}
+use Rattle.ikeless_tree.specs.Check.{is_named, entry_fault, entries_fault, spd_fault, sad_fault}
+use Rattle.json_tree.specs.SadEntryWritten.{ArePassed}
+use Rattle.json_tree.proofs.Passed.{no_fault, first_none}
+use Rattle.json_tree.proofs.PolicyAgain.{unfaulted}
 use Rattle.std.proofs.lemmas.Slice.Eq.{bytes_eq-Decides}
 use Rattle.reply_table.specs.Reply.{put_before, put_after, is_row}
 use Rattle.rc_resource.specs.Lists.{at_most_once, AreDistinct}
@@ -43,14 +43,6 @@ pub entry_alone : (before : List SpdEntry) (e : SpdEntry) → entry_fault before
 unfolding entry_fault
 entry_alone before e h = (no_fault _ _ _ h).1
 
-pub both_none : (a b : Option TreeFault) → first_of a b ≡ None → (a ≡ None) × (b ≡ None)
-both_none None b h = (refl, h)
-both_none (Some x) b h = absurd (let e : ⊥ = cc in e)
-
-pub entries_of : (list : List SpdEntry) → spd_fault list ≡ None → entries_fault [] list ≡ None
-unfolding spd_fault
-entries_of list h = (no_fault _ _ _ h).1
-
 pub at_end : {X : Type 0} (p : X → Bool) (xs : List X) (x : X) → p x ≡ true → list_any p (xs ++ x ∷ []) ≡ true
 at_end p [] x h = rw h refl
 at_end p (y ∷ ys) x h = let ih = at_end p ys x h in grind (arith, ih)
@@ -67,7 +59,7 @@ sooner p (y ∷ ys) x h = by_test (p y) refl h (sooner p ys x)
 pub no_more : (name : List ℕ) (before es : List SpdEntry) → list_any (is_named name) before ≡ true → entries_fault before es ≡ None → list_any (is_named name) es ≡ false
 no_more name before [] there h = refl
 no_more name before (e ∷ es) there h =
-    let parts = both_none (entry_fault before e) (entries_fault (before ++ e ∷ []) es) h in
+    let parts = first_none (entry_fault before e) (entries_fault (before ++ e ∷ []) es) h in
     by_test (is_named name e) refl (entry_new before e parts.0) (no_more name (before ++ e ∷ []) es (sooner (is_named name) before e there) parts.1)
   where
     by_test : (b : Bool) → is_named name e ≡ b → list_any (is_named e.name) before ≡ false → list_any (is_named name) es ≡ false → list_any (is_named name) (e ∷ es) ≡ false
@@ -80,7 +72,7 @@ no_more name before (e ∷ es) there h =
 policies_once : (name : List ℕ) (before es : List SpdEntry) → entries_fault before es ≡ None → at_most_once (is_named name) es ≡ true
 policies_once name before [] h = refl
 policies_once name before (e ∷ es) h =
-    let parts = both_none (entry_fault before e) (entries_fault (before ++ e ∷ []) es) h in
+    let parts = first_none (entry_fault before e) (entries_fault (before ++ e ∷ []) es) h in
     by_test (is_named name e) refl (policies_once name (before ++ e ∷ []) es parts.1) parts.1
   where
     by_test : (b : Bool) → is_named name e ≡ b → at_most_once (is_named name) es ≡ true → entries_fault (before ++ e ∷ []) es ≡ None → at_most_once (is_named name) (e ∷ es) ≡ true
@@ -89,7 +81,7 @@ policies_once name before (e ∷ es) h =
 
 -- in a list without a fault a name stands at most once
 pub policy_once : (name : List ℕ) (list : List SpdEntry) → spd_fault list ≡ None → at_most_once (is_named name) list ≡ true
-policy_once name list h = policies_once name [] list (entries_of list h)
+policy_once name list h = policies_once name [] list (unfaulted list h)
 
 alone_of : (e : SpdEntry) → entry_fault [] e ≡ None → spd_fault (e ∷ []) ≡ None
 unfolding spd_fault
@@ -98,7 +90,7 @@ alone_of e h = rw h refl
 found_passed : (p : SpdEntry → Bool) (before es : List SpdEntry) (e : SpdEntry) → entries_fault before es ≡ None → find p es ≡ Some e → entry_fault [] e ≡ None
 found_passed p before [] e h found = cc
 found_passed p before (x ∷ xs) e h found =
-    let parts = both_none (entry_fault before x) (entries_fault (before ++ x ∷ []) xs) h in
+    let parts = first_none (entry_fault before x) (entries_fault (before ++ x ∷ []) xs) h in
     by_test (p x) refl found (entry_alone before x parts.0) (λ rest. found_passed p (before ++ x ∷ []) xs e parts.1 rest)
   where
     by_test : (b : Bool) → p x ≡ b → find p (x ∷ xs) ≡ Some e → entry_fault [] x ≡ None → (find p xs ≡ Some e → entry_fault [] e ≡ None) → entry_fault [] e ≡ None
@@ -112,9 +104,9 @@ found_passed p before (x ∷ xs) e h found =
 
 -- an entry that is found in a list without a fault has none alone
 pub policy_found : (p : SpdEntry → Bool) (list : List SpdEntry) (e : SpdEntry) → spd_fault list ≡ None → find p list ≡ Some e → spd_fault (e ∷ []) ≡ None
-policy_found p list e h found = alone_of e (found_passed p [] list e (entries_of list h) found)
+policy_found p list e h found = alone_of e (found_passed p [] list e (unfaulted list h) found)
 
--- ---- names of associations
+-- ---- names of halves
 
 pub half_once : (name : List ℕ) (rows : List SadRow) → AreDistinct rows → at_most_once (is_row name) rows ≡ true
 half_once name [] h = refl

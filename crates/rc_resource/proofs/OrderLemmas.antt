@@ -17,12 +17,12 @@ use Rattle.ikeless_tree.specs.declared.entry.SpdEntry.{SpdEntry}
 use Rattle.ikeless_tree.specs.Check.{is_sad_name, is_path_octet, spd_fault, sad_fault}
 use Rattle.ikeless_tree.specs.declared.order.Order.{Order}
 use Rattle.ikeless_tree.specs.declared.order.Order.TheVariants as orders
-use Rattle.json_tree.specs.Associations.{one_association}
+use Rattle.json_tree.specs.SadEntryWritten.{one_sad_entry}
 use Rattle.json_codec.specs.Bodies.{sad_entry_of, spd_of}
-use Rattle.json_tree.specs.Typed.{AreTypedPolicies, IsTypedAssociation}
+use Rattle.ikeless_tree.specs.Typed.{AreTypedPolicies, IsTypedHalf, IsTypedOrder}
 use Rattle.json_values.specs.Written.{all_policies}
 use Rattle.json_tree.proofs.Flat.{flat_all_policies}
-use Rattle.json_tree.proofs.FlatRows.{flat_one_association}
+use Rattle.json_tree.proofs.FlatRows.{flat_one_sad_entry}
 use Rattle.json_tree.proofs.Passed.{half_octets}
 use Rattle.reply_table.specs.Order.{ask_of}
 use Rattle.rc_request.specs.declared.resource.Resource.TheVariants as resources
@@ -31,11 +31,10 @@ use Rattle.rc_request.specs.Queries.{behind_mark}
 use Rattle.rc_request.specs.Operations.{method_of}
 use Rattle.rc_resource.specs.Messages.{order_message, IsOrder}
 use Rattle.rc_request.specs.Requests.{request_of}
-use Rattle.rc_resource.specs.Laws.{IsTypedOrder}
 use Rattle.rc_request.proofs.KeyLemmas.{back_again}
 use Rattle.rc_resource.proofs.PlaceLemmas.{any_at}
-use Rattle.rc_resource.proofs.ReadBack.{read_again, utf8_again}
-use Rattle.rc_resource.proofs.Writable.{write_association, write_policies}
+use Rattle.json_values.proofs.ReadAgain.{read_again, utf8_again}
+use Rattle.json_tree.proofs.Writable.{write_one_half, write_policies}
 
 -- ---- texts without a mark
 
@@ -94,7 +93,7 @@ key_again name h =
     let small = name_small name h in
     rw (none_escaped (λ c. c == 47) no_slash_in name small, back_again name small, h) refl
 
--- the path of an association is read as that association
+-- the path of a half is read as that half
 half_again : (name : List ℕ) → is_sad_name name ≡ true → resource_of (half_path name) ≡ Some (resources.SadEntry name)
 unfolding resource_of
 half_again name h = ap (option_map resources.SadEntry) (key_again name h)
@@ -115,8 +114,8 @@ removal host name h =
 abbrev PoliciesReadAgain : Type 0
 PoliciesReadAgain = (text : List ℕ) (es : List SpdEntry) → AreTypedPolicies es → spd_fault es ≡ None → IsUtf8 text → read text ≡ Some (all_policies es) → spd_of text ≡ Ok es
 
-abbrev AssociationReadsAgain : Type 0
-AssociationReadsAgain = (text : List ℕ) (e : SadEntry) → IsTypedAssociation e → sad_fault e ≡ None → IsUtf8 text → read text ≡ Some (one_association e) → sad_entry_of text ≡ Ok e
+abbrev HalfReadsAgain : Type 0
+HalfReadsAgain = (text : List ℕ) (e : SadEntry) → IsTypedHalf e → sad_fault e ≡ None → IsUtf8 text → read text ≡ Some (one_sad_entry e) → sad_entry_of text ≡ Ok e
 
 policies_again : PoliciesReadAgain → (es : List SpdEntry) → AreTypedPolicies es → spd_fault es ≡ None → spd_of (compact_text (all_policies es)) ≡ Ok es
 policies_again codec es typed h =
@@ -124,15 +123,15 @@ policies_again codec es typed h =
     let shallow : depth (all_policies es) ≤ 8 = (flat_all_policies es).shallow in
     codec (compact_text (all_policies es)) es typed h (utf8_again (all_policies es) plain) (read_again (all_policies es) plain (omega arith))
 
-association_again : AssociationReadsAgain → (e : SadEntry) → IsTypedAssociation e → sad_fault e ≡ None → sad_entry_of (compact_text (one_association e)) ≡ Ok e
-association_again codec e typed h =
-    let plain = write_association e typed h in
-    let shallow : depth (one_association e) ≤ 7 = (flat_one_association e).shallow in
-    codec (compact_text (one_association e)) e typed h (utf8_again (one_association e) plain) (read_again (one_association e) plain (omega arith))
+put_again : HalfReadsAgain → (e : SadEntry) → IsTypedHalf e → sad_fault e ≡ None → sad_entry_of (compact_text (one_sad_entry e)) ≡ Ok e
+put_again codec e typed h =
+    let plain = write_one_half e typed h in
+    let shallow : depth (one_sad_entry e) ≤ 7 = (flat_one_sad_entry e).shallow in
+    codec (compact_text (one_sad_entry e)) e typed h (utf8_again (one_sad_entry e) plain) (read_again (one_sad_entry e) plain (omega arith))
 
-pub order_again : PoliciesReadAgain → AssociationReadsAgain → (host : Addr) (o : Order) → IsOrder o → IsTypedOrder o → request_of (order_message host o) ≡ Ok (ask_of o)
+pub order_again : PoliciesReadAgain → HalfReadsAgain → (host : Addr) (o : Order) → IsOrder o → IsTypedOrder o → request_of (order_message host o) ≡ Ok (ask_of o)
 unfolding request_of resource_of method_of
-order_again policies association host orders.Read h typed = refl
-order_again policies association host (orders.Policy list) h typed = rw (policies_again policies list typed h) refl
-order_again policies association host (orders.Put e) h typed = rw (association_again association e typed h) refl
-order_again policies association host (orders.Remove name) h typed = removal host name h
+order_again policies half host orders.Read h typed = refl
+order_again policies half host (orders.Policy list) h typed = rw (policies_again policies list typed h) refl
+order_again policies half host (orders.Put e) h typed = rw (put_again half e typed h) refl
+order_again policies half host (orders.Remove name) h typed = removal host name h

@@ -8,9 +8,10 @@ use Rattle.ikeless_tree.specs.declared.sad.SadEntry.{SadEntry}
 use Rattle.ikeless_tree.specs.declared.sad.SadRow.{SadRow}
 use Rattle.ikeless_tree.specs.declared.sad.Tree.{Tree}
 use Rattle.ikeless_tree.specs.Check.{is_named, entry_fault, entries_fault, spd_fault, sad_fault}
-use Rattle.json_tree.specs.Associations.{ArePassed}
-use Rattle.json_tree.proofs.Passed.{no_fault}
-use Rattle.rc_resource.proofs.NameLemmas.{at_end, both_none, entries_of, entry_alone, no_more}
+use Rattle.json_tree.specs.SadEntryWritten.{ArePassed}
+use Rattle.json_tree.proofs.Passed.{no_fault, first_none}
+use Rattle.json_tree.proofs.PolicyAgain.{unfaulted}
+use Rattle.rc_resource.proofs.NameLemmas.{at_end, entry_alone, no_more}
 use Rattle.reply_table.specs.declared.ask.Ask.{Ask}
 use Rattle.reply_table.specs.declared.ask.Ask.TheVariants as asks
 use Rattle.reply_table.specs.declared.ask.Place.{Place}
@@ -175,13 +176,13 @@ left_out_alone q (x ∷ xs) alone = by_test (q x) refl (left_out_alone q xs alon
 alone_in : (before es : List SpdEntry) → entries_fault before es ≡ None → AreAlone es
 alone_in before [] h = tt
 alone_in before (e ∷ es) h =
-    let parts = both_none (entry_fault before e) (entries_fault (before ++ e ∷ []) es) h in
+    let parts = first_none (entry_fault before e) (entries_fault (before ++ e ∷ []) es) h in
     (entry_alone before e parts.0, alone_in (before ++ e ∷ []) es parts.1)
 
 apart_in : (before es : List SpdEntry) → entries_fault before es ≡ None → AreApart (λ x. x.name) es
 apart_in before [] h = tt
 apart_in before (e ∷ es) h =
-    let parts = both_none (entry_fault before e) (entries_fault (before ++ e ∷ []) es) h in
+    let parts = first_none (entry_fault before e) (entries_fault (before ++ e ∷ []) es) h in
     (no_more e.name (before ++ e ∷ []) es (at_end (is_named e.name) before e ((bytes_eq-Decides e.name e.name).1 refl)) parts.1, apart_in (before ++ e ∷ []) es parts.1)
 
 -- no entry has the name of one before it
@@ -222,7 +223,7 @@ few_of list h = let few : nat_lt 256 (length list) ≡ false = (no_fault _ _ _ h
 
 passes : (list : List SpdEntry) → spd_fault list ≡ None → Passes list
 passes list h =
-    let es = entries_of list h in
+    let es = unfaulted list h in
     record { few = few_of list h; alone = alone_in [] list es; apart = apart_in [] list es }
 
 passed : (list : List SpdEntry) → Passes list → spd_fault list ≡ None
@@ -302,7 +303,7 @@ delete_keeps t name tree = by_name (has_policy name t.spd) refl
         }))
     by_name false n = rw n tree
 
--- ---- what is done to the associations
+-- ---- what is done to the halves
 
 new_passed : (rows : List SadRow) (r : SadRow) → ArePassed rows → sad_fault r.entry ≡ None → ArePassed (rows ++ r ∷ [])
 new_passed [] r rules h = (h, tt)

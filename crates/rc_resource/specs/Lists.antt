@@ -6,7 +6,7 @@ use Rattle.ikeless_tree.specs.declared.entry.SpdEntry.{SpdEntry}
 use Rattle.ikeless_tree.specs.declared.sad.SadRow.{SadRow}
 use Rattle.ikeless_tree.specs.declared.sad.Tree.{Tree}
 use Rattle.ikeless_tree.specs.Check.{spd_fault}
-use Rattle.json_tree.specs.Associations.{ArePassed}
+use Rattle.json_tree.specs.SadEntryWritten.{ArePassed}
 use Rattle.reply_table.specs.declared.ask.Place.{Place}
 use Rattle.reply_table.specs.Reply.{has_point, put_at}
 

@@ -9,7 +9,7 @@ use Rattle.ikeless_tree.specs.declared.order.Order.TheVariants as orders
 use Rattle.ikeless_tree.specs.Check.{spd_fault, sad_fault, is_sad_name}
 use Rattle.yang_values.specs.Addresses.{address_text}
 use Rattle.json_values.specs.Written.{all_policies}
-use Rattle.json_tree.specs.Associations.{one_association}
+use Rattle.json_tree.specs.SadEntryWritten.{one_sad_entry}
 use Rattle.rc_http.specs.declared.message.HttpMessage.{HttpMessage}
 use Rattle.rc_http.specs.Heads.{fields_map}
 use Rattle.rc_resource.specs.declared.reply.Reply.{Reply}
@@ -56,7 +56,7 @@ order_target (orders.Remove name) = half_path name
 abbrev pub order_body : Order → List ℕ
 order_body orders.Read = []
 order_body (orders.Policy list) = compact_text (all_policies list)
-order_body (orders.Put e) = compact_text (one_association e)
+order_body (orders.Put e) = compact_text (one_sad_entry e)
 order_body (orders.Remove name) = []
 
 -- the request that carries an order to this host
@@ -69,7 +69,7 @@ order_message host o = record {
   body = order_body o;
 }
 
--- an order whose policies or association have no fault, and whose name is that of an association
+-- an order whose policies or half have no fault, and whose name is that of a half
 abbrev pub IsOrder : Order → Type 0
 IsOrder orders.Read = Unit {0}
 IsOrder (orders.Policy list) = spd_fault list ≡ None

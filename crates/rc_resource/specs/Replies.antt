@@ -7,8 +7,7 @@ use Rattle.reply_table.specs.declared.ask.Change.{Change}
 use Rattle.reply_table.specs.declared.ask.Change.TheVariants as changes
 use Rattle.reply_table.specs.Reply.{Shown, Nothing, Policies, Policy, Halves, Half, Location, Nowhere, At_policy, At_half, Outcome}
 use Rattle.json_values.specs.Written.{one_policy, all_policies}
-use Rattle.json_tree.specs.Associations.{all_rows}
-use Rattle.json_tree.specs.OneRow.{one_row}
+use Rattle.json_tree.specs.SadEntryWritten.{all_rows, one_row}
 use Rattle.rc_resource.specs.declared.reply.Reply.{Reply}
 use Rattle.rc_request.specs.declared.error.RcError.{RcError}
 use Rattle.rc_resource.specs.Errors.{error_data}

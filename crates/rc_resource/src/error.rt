@@ -1,16 +1,13 @@
 // Refusals, and their bodies.
-ghost use Rattle.std.specs.Prelude.{◌≡◌, ◌≤◌, ◌++◌, codes, Some, None, List, ℕ, IfOk, OnOk, IsUtf8, IfSome, string_bytes};
+ghost use Rattle.std.specs.Prelude.{◌≡◌, ◌++◌, codes, Some, None, IfOk, OnOk, IsUtf8, IfSome, string_bytes};
 ghost use Rattle.std.specs.Option.{option_copied};
-ghost use Rattle.serde_json.specs.Read.{read};
-ghost use Rattle.serde_json.specs.Data.{string, put as with_member};
 ghost use Rattle.serde_json.specs.View.{view, members_view};
 ghost use Rattle.serde_json.specs.Written.{compact_text};
-ghost use Rattle.json_values.specs.Written.{only};
 ghost use Rattle.rc_resource.specs.Errors.{is_of_protocol, type_text, with_message, error_item, error_data};
 
 use ikeless_tree::{App, Tag};
 use ikl_base::{NoMemory, Octets};
-use json_codec::{Members, put_word, single};
+use json_values::{Members, put_word, single};
 use serde_json::{Map, Value};
 use std::alloc::Global;
 

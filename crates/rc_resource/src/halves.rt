@@ -1,5 +1,5 @@
-// Changes of the associations.
-ghost use Rattle.std.specs.Prelude.{◌≡◌, ◌==◌, ◌&&◌, ◌≤◌, ◌<◌, ◌∷◌, [], length, position, find, IfOk, Some, None};
+// Changes of the halves.
+ghost use Rattle.std.specs.Prelude.{◌≡◌, ◌==◌, ◌&&◌, ◌<◌, position, find, IfOk, Some, None};
 ghost use Rattle.std.specs.Option.{option_copied};
 ghost use Rattle.std.specs.List.{remove, list_any};
 ghost use Rattle.ikeless_tree.specs.Half.{is_inbound};
@@ -18,21 +18,21 @@ fn place_of(rows: &[SadRow], name: &[u8]) -> Option<usize>
         .position(|row| row.entry.name.as_slice() == name)
 }
 
-/// Whether there is an association of this name.
+/// Whether there is a half of this name.
 pub(crate) fn has_half(rows: &[SadRow], name: &[u8]) -> bool
     ensures { result ≡ list_any (is_row name.now) rows.now }
 {
     rows.iter().any(|row| row.entry.name.as_slice() == name)
 }
 
-/// Where the association of this name is.
+/// Where the half of this name is.
 pub(crate) fn find_half(rows: &[SadRow], name: &Name) -> Option<usize>
     ensures { IsFirst (is_row name.now) rows.now result }
 {
     place_of(rows, name.as_slice())
 }
 
-/// The association of this name.
+/// The half of this name.
 pub(crate) fn half_named<'a>(rows: &'a Rows, name: &Name) -> Option<&'a SadRow>
     ensures { option_copied result ≡ find (is_row name.now) rows.now }
 {
@@ -42,21 +42,21 @@ pub(crate) fn half_named<'a>(rows: &'a Rows, name: &Name) -> Option<&'a SadRow>
     }
 }
 
-/// Whether an association is inbound, by its name.
+/// Whether a half is inbound, by its name.
 pub(crate) fn is_inbound(name: &[u8]) -> bool
     ensures { result ≡ is_inbound name.now }
 {
     name.strip_prefix(b"in/".as_slice()).is_some()
 }
 
-/// Whether an inbound association has this SPI.
+/// Whether an inbound half has this SPI.
 pub(crate) fn has_spi(rows: &[SadRow], spi: u32) -> bool
     ensures { result ≡ has_spi spi rows.now }
 {
     rows.iter().any(|row| is_inbound(row.entry.name.as_slice()) && row.entry.spi == spi)
 }
 
-/// The names of all associations.
+/// The names of all halves.
 pub(crate) fn names_of(alloc: Global, rows: &[SadRow]) -> Result<Names, NoMemory>
     ensures { IfOk result (λ names. names ≡ row_names rows.now) }
 {
@@ -67,7 +67,7 @@ pub(crate) fn names_of(alloc: Global, rows: &[SadRow]) -> Result<Names, NoMemory
     Ok(Names::from_items(names))
 }
 
-/// An association that was not used yet.
+/// A half that was not used yet.
 pub(crate) fn unused(entry: SadEntry) -> SadRow
     ensures { result ≡ new_row entry }
 {
@@ -83,7 +83,7 @@ pub(crate) fn unused(entry: SadEntry) -> SadRow
     }
 }
 
-/// Takes the association of this name out of the rows.
+/// Takes the half of this name out of the rows.
 pub(crate) fn remove_half(alloc: Global, rows: &mut Rows, at: usize, name: &Name)
     requires distinct { AreDistinct rows.old }
     requires first { IsFirst (is_row name.now) rows.old (Some at) }

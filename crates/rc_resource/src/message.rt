@@ -1,12 +1,14 @@
 // Orders as requests, and replies as responses.
-ghost use Rattle.std.specs.Prelude.{◌≡◌, ◌∷◌, ◌++◌, [], codes, length, List, ℕ, IfOk, OnOk, OnErr};
+ghost use Rattle.std.specs.Prelude.{◌≡◌, ◌∷◌, [], IfOk, OnOk};
 ghost use Rattle.http_header.specs.HeaderMap.{append, append_all};
 ghost use Rattle.http_header.specs.FieldValue.{plain_value};
-ghost use Rattle.std.specs.Fmt.{decimal};
-ghost use Rattle.std.specs.Prelude.{map};
+ghost use Rattle.std.specs.Prelude.{map, Ok};
+ghost use Rattle.reply_table.specs.Order.{ask_of};
+ghost use Rattle.rc_request.specs.Requests.{request_of};
 ghost use Rattle.rc_http.specs.Heads.{fields_map, lowered};
-ghost use Rattle.rc_resource.specs.Messages.{body_fields, host_text, if_type, length_field, order_body, order_message, order_method, order_target, own_field, reply_message, request_fields, response_fields, type_field, IsOrder};
+ghost use Rattle.rc_resource.specs.Messages.{host_text, if_type, length_field, order_body, order_message, order_method, order_target, own_field, reply_message, request_fields, response_fields, type_field, IsOrder};
 
+use crate::laws::orders_are_read;
 use crate::reply::Reply;
 use http_header::{
     ALLOW, CONTENT_LENGTH, CONTENT_TYPE, HOST, HeaderMap, HeaderName, HeaderValue, LOCATION,
@@ -115,8 +117,7 @@ fn body_of(alloc: Global, o: &Order) -> Result<Octets, NoMemory>
     }
 }
 
-/// The request that carries an order to a gateway at this address.
-pub fn order_request(alloc: Global, host: &Addr, o: &Order) -> Result<HttpMessage, NoMemory>
+fn order_with_body(alloc: Global, host: &Addr, o: &Order) -> Result<HttpMessage, NoMemory>
     requires { IsOrder o.now }
     ensures { IfOk result (λ m. m ≡ order_message host.now o.now) }
 {
@@ -131,6 +132,17 @@ pub fn order_request(alloc: Global, host: &Addr, o: &Order) -> Result<HttpMessag
         fields,
         body,
     })
+}
+
+/// The request that carries an order to a gateway at this address. It is read as what that order asks.
+pub fn order_request(alloc: Global, host: &Addr, o: &Order) -> Result<HttpMessage, NoMemory>
+    requires { IsOrder o.now }
+    ensures message { IfOk result (λ m. m ≡ order_message host.now o.now) }
+    ensures asks { IfOk result (λ m. request_of m ≡ Ok (ask_of o.now)) }
+{
+    o.numbers_fit();
+    orders_are_read();
+    order_with_body(alloc, host, o)
 }
 
 fn put_own(alloc: Global, fields: &mut Fields, r: &Reply) -> Result<(), NoMemory>

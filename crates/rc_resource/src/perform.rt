@@ -1,10 +1,15 @@
 // What is asked, done.
-ghost use Rattle.std.specs.Prelude.{◌≡◌, ◌≤◌, ◌++◌, ◌∷◌, [], find, IfOk, OnOk, OnErr, None};
+ghost use Rattle.std.specs.Prelude.{Ok, ◌≡◌, ◌++◌, ◌∷◌, [], find, IfOk, OnOk, OnErr, None};
 ghost use Rattle.ikeless_tree.specs.Check.{is_named, spd_fault};
-ghost use Rattle.json_tree.specs.Associations.{ArePassed};
+ghost use Rattle.json_tree.specs.SadEntryWritten.{ArePassed};
 ghost use Rattle.reply_table.specs.Reply as table;
 ghost use Rattle.reply_table.specs.declared.ask.Change.TheVariants as changes;
+ghost use Rattle.ikeless_tree.specs.declared.order.Order.{Order};
+ghost use Rattle.reply_table.specs.Order.{ask_of};
 ghost use Rattle.rc_request.specs.Asks.{IsAsk};
+ghost use Rattle.rc_answer.specs.Answers.{answer_of};
+ghost use Rattle.rc_resource.specs.Laws.{answer_by};
+ghost use Rattle.rc_resource.specs.Messages.{reply_message};
 ghost use Rattle.rc_resource.specs.Lists.{IsTree, AreDistinct};
 ghost use Rattle.rc_request.specs.Paths.{half_path};
 ghost use Rattle.rc_resource.specs.Replies.{reply_of, plain_refusal, made_reply};
@@ -14,12 +19,13 @@ ghost use Rattle.ikeless_tree.specs.declared.reply.App.TheVariants as apps;
 use crate::halves::{
     find_half, half_named, has_half, has_spi, is_inbound, names_of, remove_half, unused,
 };
+use crate::laws::answers_are_read;
 use crate::policies::{
     append_policy, find_policy, has_policy, index_for, insert_policy, policy_named, remove_policy,
     replace_policy,
 };
 use crate::reply::{Reply, done, made, refused, shows};
-use ikeless_tree::{App, Entries, Names, SadEntry, SpdEntry, Tag, Tree};
+use ikeless_tree::{App, Entries, Names, SadEntry, SpdEntry, Tag, Tree, rows_fit};
 use ikl_base::{Duplicate, Name, NoMemory};
 use json_codec::{write_sad, write_sad_row, write_spd, write_spd_entry};
 use rc_request::path_of_half;
@@ -136,7 +142,7 @@ fn delete_spd_entry(alloc: Global, tree: &mut Tree, name: &Name) -> Result<Reply
     }
 }
 
-// ---- associations
+// ---- halves
 
 fn get_sad(alloc: Global, tree: &Tree) -> Result<Reply, NoMemory>
     requires { ArePassed tree.now.sad }
@@ -147,7 +153,7 @@ fn get_sad(alloc: Global, tree: &Tree) -> Result<Reply, NoMemory>
     Ok(shows(alloc, names, body))
 }
 
-// Puts an association behind the others.
+// Puts a half behind the others.
 fn install(alloc: Global, tree: &mut Tree, e: &SadEntry) -> Result<Reply, NoMemory>
     ensures reply { IfOk result (λ r. r ≡ made_reply (half_path e.now.name) (changes.Put e.now)) }
     ensures tree { OnOk result (tree.new ≡ table.with_sad tree.old (tree.old.sad ++ table.new_row e.now ∷ [])) }
@@ -206,10 +212,8 @@ fn delete_sad(alloc: Global, tree: &mut Tree, name: &Name) -> Result<Reply, NoMe
     }
 }
 
-/// Does what is asked, and gives the reply: the table of replies with its text. A reply of 400 or above leaves the
-/// databases as they were, and so does want of memory.
 #[tactic(auto, unfolding(reply_table::specs::Reply::reply))]
-pub fn apply(alloc: Global, tree: &mut Tree, ask: &Ask) -> Result<Reply, NoMemory>
+fn carry_out(alloc: Global, tree: &mut Tree, ask: &Ask) -> Result<Reply, NoMemory>
     requires { IsTree tree.old }
     ensures reply { IfOk result (λ r. r ≡ reply_of (table.reply tree.old ask.now)) }
     ensures tree { OnOk result (tree.new ≡ (table.reply tree.old ask.now).tree) }
@@ -228,4 +232,20 @@ pub fn apply(alloc: Global, tree: &mut Tree, ask: &Ask) -> Result<Reply, NoMemor
         Ask::GetSadEntry(name) => get_sad_entry(alloc, tree, name),
         Ask::DeleteSad(name) => delete_sad(alloc, tree, name),
     }
+}
+
+/// Does what is asked, and gives the reply: the table of replies with its text. A reply of 400 or above leaves the
+/// databases as they were, and so does want of memory. The response that carries the reply to an order is read as its answer.
+pub fn apply(alloc: Global, tree: &mut Tree, ask: &Ask) -> Result<Reply, NoMemory>
+    requires { IsTree tree.old }
+    ensures reply { IfOk result (λ r. r ≡ reply_of (table.reply tree.old ask.now)) }
+    ensures tree { OnOk result (tree.new ≡ (table.reply tree.old ask.now).tree) }
+    ensures err { OnErr result (tree.new ≡ tree.old) }
+    ensures rules { IsAsk ask.now → IsTree tree.new }
+    ensures answer { (o : Order) → ask.now ≡ ask_of o
+        → IfOk result (λ r. answer_of o (reply_message r) ≡ Ok (answer_by (table.reply tree.old ask.now))) }
+{
+    rows_fit(&tree.sad);
+    answers_are_read();
+    carry_out(alloc, tree, ask)
 }

@@ -1,7 +1,7 @@
 // Changes of the policies.
 ghost use Rattle.std.specs.Prelude.{◌≡◌, ◌≤◌, ◌<◌, ◌++◌, ◌∷◌, [], length, position, find, IfOk, OnOk, OnErr, Some, None, slice_set};
 ghost use Rattle.std.specs.Option.{option_copied};
-ghost use Rattle.std.specs.List.{insert, list_any, remove, position_or_len};
+ghost use Rattle.std.specs.List.{insert, list_any, remove};
 ghost use Rattle.ikeless_tree.specs.Check.{is_named, spd_fault};
 ghost use Rattle.reply_table.specs.Reply.{replaced, without_policy};
 ghost use Rattle.rc_resource.specs.Lists.{IsFirst, IsIndexFor};

@@ -10,7 +10,7 @@ use rc_request::RcError;
 use reply_table::Change;
 use std::alloc::Global;
 
-/// A reply to a request: its status, its error tag, the names that it shows where all associations are read, the path
+/// A reply to a request: its status, its error tag, the names that it shows where all halves are read, the path
 /// of what was made, the methods that a refused one may be replaced by, its body, and what was changed.
 #[derive(Debug, Drop)]
 pub struct Reply {
