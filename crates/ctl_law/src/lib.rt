@@ -1,0 +1,6 @@
+//! The controller's steps follow its law.
+#![tactic(auto)]
+
+mod laws;
+
+pub use laws::steps_follow;
