@@ -6,3 +6,4 @@ pub mod Heard
 pub mod Lost
 pub mod Replies
 pub mod OwnReplies
+pub mod Ordered
