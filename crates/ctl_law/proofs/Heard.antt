@@ -30,9 +30,12 @@ use Rattle.ctl_tunnels.specs.Steps as steps
 use Rattle.ctl_tunnels.proofs.HalfNames.{half-is}
 use Rattle.ctl_core.specs.Changes.{reqids_in, has_reqid}
 use Rattle.ctl_core.specs.Step.{notice_effect, worn_effect, end_effect, rekey_effect}
-use Rattle.ctl_law.specs.Left.{listed, newest_left, older_left, own_orders}
+use Rattle.hist_controller.specs.Left.{listed, newest_left, older_left}
+use Rattle.hist_controller.specs.Own.{own_orders}
 use Rattle.ctl_law.specs.Stands.{half_of, life_of, first_half, progress_of, direction_of}
-use Rattle.ctl_law.proofs.Facts.{left-two, left-serial, waiting-left}
+use Rattle.hist_controller.proofs.Left.{older-newest as left-two}
+use Rattle.hist_controller.proofs.KeysInTurn.{left-serial}
+use Rattle.hist_controller.proofs.Own.{waiting-left}
 use Rattle.ctl_law.proofs.Lists.{filter-none}
 use Rattle.ctl_law.proofs.Progresses.{progress, same-progress, made-first, same-first, older-left, newest-left, any-two}
 

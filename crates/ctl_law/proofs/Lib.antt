@@ -1,4 +1,3 @@
-pub mod Facts
 pub mod Lists
 pub mod Own
 pub mod Progresses
@@ -7,3 +6,4 @@ pub mod Lost
 pub mod Replies
 pub mod OwnReplies
 pub mod Ordered
+pub mod Next

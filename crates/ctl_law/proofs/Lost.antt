@@ -13,7 +13,8 @@ use Rattle.ctl_tunnels.specs.declared.progress.Progress.{Progress}
 use Rattle.ctl_tunnels.specs.Lives as lives
 use Rattle.ctl_tunnels.specs.Steps as steps
 use Rattle.ctl_core.specs.Step.{cut_effect}
-use Rattle.ctl_law.specs.Left.{newest_left, older_left, own_orders}
+use Rattle.hist_controller.specs.Left.{newest_left, older_left}
+use Rattle.hist_controller.specs.Own.{own_orders}
 use Rattle.ctl_law.specs.Stands.{half_of, life_of, first_half, progress_of, direction_of}
 use Rattle.ctl_law.proofs.Lists.{any-filter, filter-none}
 use Rattle.ctl_law.proofs.Own.{has_serial, half, home, OwnOrder, own-order, foreign, own_at, Awaits, nothing, at_sender, at_receiver, awaits}

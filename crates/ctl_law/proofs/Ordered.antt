@@ -19,9 +19,11 @@ use Rattle.ctl_tunnels.specs.declared.life.Task.TheVariants as tasks
 use Rattle.ctl_tunnels.specs.declared.progress.Progress.{Progress}
 use Rattle.ctl_tunnels.specs.Lives as lives
 use Rattle.ctl_tunnels.specs.Steps as steps
-use Rattle.ctl_law.specs.Left.{listed, newest_left, older_left, own_orders}
+use Rattle.hist_controller.specs.Left.{listed, newest_left, older_left}
+use Rattle.hist_controller.specs.Own.{own_orders}
 use Rattle.ctl_law.specs.Stands.{half_of, life_of, first_half, progress_of}
-use Rattle.ctl_law.proofs.Facts.{left-two, one-own}
+use Rattle.hist_controller.proofs.Left.{older-newest as left-two}
+use Rattle.hist_controller.proofs.Own.{one-own}
 use Rattle.ctl_law.proofs.Lists.{filter-append, filter-has, one-is}
 use Rattle.ctl_law.proofs.Own.{has_serial, half, foreign, own_at}
 use Rattle.ctl_law.proofs.Progresses.{progress, same-progress, same-first, made-first, older-left, newest-left}

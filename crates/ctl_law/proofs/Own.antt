@@ -12,9 +12,9 @@ use Rattle.ctl_tunnels.specs.declared.life.HalfOrder.{HalfOrder}
 use Rattle.ctl_tunnels.specs.declared.life.Task.{Task}
 use Rattle.ctl_tunnels.specs.declared.life.Task.TheVariants as tasks
 use Rattle.ctl_tunnels.specs.Lives as lives
-use Rattle.ctl_law.specs.Left.{own_orders, IsOfLeft}
+use Rattle.hist_controller.specs.Own.{own_orders, IsOfLeft}
 use Rattle.ctl_law.specs.Stands.{half_of}
-use Rattle.ctl_law.proofs.Facts.{waiting-left, one-own}
+use Rattle.hist_controller.proofs.Own.{waiting-left, one-own}
 use Rattle.ctl_law.proofs.Lists.{filter-none, filter-has, filter-passes, one-is}
 
 -- the order is of this serial

@@ -23,9 +23,11 @@ use Rattle.ctl_tunnels.specs.declared.progress.Progress.{Progress}
 use Rattle.ctl_tunnels.specs.Lives as lives
 use Rattle.ctl_tunnels.specs.Steps as steps
 use Rattle.ctl_core.specs.Step.{front_effect}
-use Rattle.ctl_law.specs.Left.{listed, newest_left, older_left, own_orders}
+use Rattle.hist_controller.specs.Left.{listed, newest_left, older_left}
+use Rattle.hist_controller.specs.Own.{own_orders}
 use Rattle.ctl_law.specs.Stands.{half_of, waiting_of, life_of, first_half, progress_of, direction_of}
-use Rattle.ctl_law.proofs.Facts.{left-two, one-own}
+use Rattle.hist_controller.proofs.Left.{older-newest as left-two}
+use Rattle.hist_controller.proofs.Own.{one-own}
 use Rattle.ctl_law.proofs.Lists.{filter-none, filter-has, filter-passes, one-is, first-filter}
 use Rattle.ctl_law.proofs.Own.{half, OwnOrder, own-order, own_at, Awaits, nothing, at_sender, at_receiver, awaits}
 use Rattle.ctl_law.proofs.Progresses.{progress, same-progress, same-first, kept-first, older-left, newest-left}

@@ -11,7 +11,7 @@ use Rattle.ctl_tunnels.specs.declared.life.HalfOrder.{HalfOrder}
 use Rattle.ctl_tunnels.specs.declared.life.Life.{Life}
 use Rattle.ctl_tunnels.specs.declared.progress.Progress.{Progress}
 use Rattle.ctl_tunnels.specs.Steps as steps
-use Rattle.ctl_law.specs.Left.{listed, newest_left, older_left}
+use Rattle.hist_controller.specs.Left.{listed, newest_left, older_left}
 
 abbrev pub progress : Bool → Bool → Option HalfOrder → Option Life → Option Life → Progress
 progress o w q a b = record { over = o; wanted = w; waits = q; older = a; newer = b }

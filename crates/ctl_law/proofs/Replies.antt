@@ -26,9 +26,12 @@ use Rattle.ctl_tunnels.specs.Lives as lives
 use Rattle.ctl_tunnels.specs.Steps as steps
 use Rattle.ctl_tunnels.proofs.HalfNames.{half-is}
 use Rattle.ctl_core.specs.Step.{front_effect, read_effect}
-use Rattle.ctl_law.specs.Left.{listed, newest_left, older_left, own_orders}
+use Rattle.hist_controller.specs.Left.{listed, newest_left, older_left}
+use Rattle.hist_controller.specs.Own.{own_orders}
 use Rattle.ctl_law.specs.Stands.{half_of, waiting_of, life_of, first_half, progress_of, direction_of}
-use Rattle.ctl_law.proofs.Facts.{left-two, left-serial, one-own}
+use Rattle.hist_controller.proofs.Left.{older-newest as left-two}
+use Rattle.hist_controller.proofs.KeysInTurn.{left-serial}
+use Rattle.hist_controller.proofs.Own.{one-own}
 use Rattle.ctl_law.proofs.Lists.{any-same, filter-same, filter-none, filter-has, filter-passes, one-is, first-filter}
 use Rattle.ctl_law.proofs.Own.{has_serial, half, home, OwnOrder, own-order, foreign, own_at, Awaits, nothing, at_sender, at_receiver, awaits}
 use Rattle.ctl_law.proofs.Progresses.{progress, same-progress, same-first, made-first, kept-first, older-left, newest-left, any-two}

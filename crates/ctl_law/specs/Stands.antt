@@ -18,7 +18,8 @@ use Rattle.ctl_core.specs.declared.peer.Session.TheVariants as sessions
 use Rattle.ctl_core.specs.declared.peer.Station.{Station}
 use Rattle.ctl_core.specs.declared.peer.Waiting.{Waiting}
 use Rattle.ctl_core.specs.Core.{Core}
-use Rattle.ctl_law.specs.Left.{newest_left, older_left, own_orders}
+use Rattle.hist_controller.specs.Left.{newest_left, older_left}
+use Rattle.hist_controller.specs.Own.{own_orders}
 
 -- ## gateways
 
