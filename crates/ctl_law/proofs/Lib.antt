@@ -7,3 +7,4 @@ pub mod Replies
 pub mod OwnReplies
 pub mod Ordered
 pub mod Next
+pub mod Drafts
