@@ -8,3 +8,4 @@ pub mod OwnReplies
 pub mod Ordered
 pub mod Next
 pub mod Drafts
+pub mod Pass

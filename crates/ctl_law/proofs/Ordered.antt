@@ -38,7 +38,7 @@ now-waits h g s n o = let e : (g == g) ≡ true = eq-own g in rw e (last-has (qu
 
 -- ## an order of another direction, or of none
 
-no-inbound : (d : Way) (xs : List Association) (o : ControllerOrder) → is_own d xs o ≡ false → (inbound_put d o ≡ []) × (is_inbound_put_of d o ≡ false)
+pub no-inbound : (d : Way) (xs : List Association) (o : ControllerOrder) → is_own d xs o ≡ false → (inbound_put d o ≡ []) × (is_inbound_put_of d o ≡ false)
 no-inbound d xs Read e = (refl, refl)
 no-inbound d xs (Policy l) e = (refl, refl)
 no-inbound d xs (PutIn y) e = (rw e refl, e)
