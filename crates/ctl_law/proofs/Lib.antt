@@ -9,3 +9,5 @@ pub mod Ordered
 pub mod Next
 pub mod Drafts
 pub mod Pass
+pub mod Numbered
+pub mod Lines
