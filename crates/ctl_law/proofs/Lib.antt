@@ -11,3 +11,4 @@ pub mod Drafts
 pub mod Pass
 pub mod Numbered
 pub mod Lines
+pub mod Goes

@@ -147,7 +147,7 @@ pub data Changed (ch : passes.Effect) (h : List ControllerAct) : List Way → Li
   spent_too : (d e : Way) (ds : List Way) (ts : List Tunnel) (qs : List Pair) → IsSpent h d → IsSpent h e → Changed ch h ds ts qs → Changed ch h (d ∷ e ∷ ds) ts qs
   changed : (d e : Way) (ds : List Way) (t : Tunnel) (ts : List Tunnel) (q : Pair) (qs : List Pair) → IsTunnel t d e → ch (direction_of d) q.forth ≡ progress_of h d → ch (direction_of e) q.back ≡ progress_of h e → Changed ch h ds ts qs → Changed ch h (d ∷ e ∷ ds) (t ∷ ts) (q ∷ qs)
 
-changed-moves : (ch : passes.Effect) (h k : List ControllerAct) (ds : List Way) (ts : List Tunnel) (qs : List Pair) → Changed ch h ds ts qs → ((d : Way) → Has d ds → Untouched h k d) → Changed ch k ds ts qs
+pub changed-moves : (ch : passes.Effect) (h k : List ControllerAct) (ds : List Way) (ts : List Tunnel) (qs : List Pair) → Changed ch h ds ts qs → ((d : Way) → Has d ds → Untouched h k d) → Changed ch k ds ts qs
 changed-moves ch h k _ _ _ none_changed f = none_changed
 changed-moves ch h k _ _ _ (spent_too d e ds ts qs a b c) f = spent_too d e ds ts qs (spent-stays h k d a (f d (inl refl))) (spent-stays h k e b (f e (inr (inl refl)))) (changed-moves ch h k ds ts qs c (λ z i. f z (inr (inr i))))
 changed-moves ch h k _ _ _ (changed d e ds t ts q qs a b c r) f = changed d e ds t ts q qs a (b ∙ sym (f d (inl refl)).progress) (c ∙ sym (f e (inr (inl refl))).progress) (changed-moves ch h k ds ts qs r (λ z i. f z (inr (inr i))))
