@@ -12,3 +12,4 @@ pub mod Pass
 pub mod Numbered
 pub mod Lines
 pub mod Goes
+pub mod Looks
