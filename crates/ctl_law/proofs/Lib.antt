@@ -13,3 +13,5 @@ pub mod Numbered
 pub mod Lines
 pub mod Goes
 pub mod Looks
+pub mod Follows
+pub mod Notices
