@@ -15,3 +15,4 @@ pub mod Goes
 pub mod Looks
 pub mod Follows
 pub mod Notices
+pub mod SessionsFollow
