@@ -16,3 +16,4 @@ pub mod Looks
 pub mod Follows
 pub mod Notices
 pub mod SessionsFollow
+pub mod AnswersFollow
