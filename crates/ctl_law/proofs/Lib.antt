@@ -17,3 +17,4 @@ pub mod Follows
 pub mod Notices
 pub mod SessionsFollow
 pub mod AnswersFollow
+pub mod TunnelsKnown
