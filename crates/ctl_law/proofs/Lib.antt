@@ -18,3 +18,4 @@ pub mod Notices
 pub mod SessionsFollow
 pub mod AnswersFollow
 pub mod TunnelsKnown
+pub mod CommandsFollow
