@@ -100,7 +100,7 @@ policy-follows ps h c g r l y f = case (nat_lt g (length ps)) refl (count-of ps 
 
 -- ## what needs no gateway changed
 
-quietly : (ps : List Peer) (h : List ControllerAct) (c : Core) (ch : passes.Effect) (k : PlacedCommand) → IsControllerPast (length ps) h → PlainAnswers h → refusal (length ps) h k ≡ None
+pub quietly : (ps : List Peer) (h : List ControllerAct) (c : Core) (ch : passes.Effect) (k : PlacedCommand) → IsControllerPast (length ps) h → PlainAnswers h → refusal (length ps) h k ≡ None
     → c.stations ≡ numbered (station_of ps h) 0 ps → c.keys ≡ past.keys (Accepted k ∷ h) → c.serials ≡ past.serials h
     → Changed ch (Accepted k ∷ h) (directions (Accepted k ∷ h)) c.tunnels c.pairs
     → ((j : ℕ) → newest_list j (Accepted k ∷ h) ≡ newest_list j h)

@@ -19,3 +19,4 @@ pub mod SessionsFollow
 pub mod AnswersFollow
 pub mod TunnelsKnown
 pub mod CommandsFollow
+pub mod TunnelsFollow
