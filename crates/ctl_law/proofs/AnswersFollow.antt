@@ -37,7 +37,7 @@ put-status n e = case (n == 201) (n == 409) refl refl e
     case false true t u v = grind arith
     case false false t u v = cc
 
-plain-status : (ps : List Peer) (o : ControllerOrder) (n : ℕ) → is_status_of (order_told ps o) n ≡ true → is_plain (Some o) n ≡ true
+pub plain-status : (ps : List Peer) (o : ControllerOrder) (n : ℕ) → is_status_of (order_told ps o) n ≡ true → is_plain (Some o) n ≡ true
 plain-status ps Read n e = refl
 plain-status ps (Policy l) n e = refl
 plain-status ps (PutIn x) n e = put-status n e

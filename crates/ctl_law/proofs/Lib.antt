@@ -20,3 +20,5 @@ pub mod AnswersFollow
 pub mod TunnelsKnown
 pub mod CommandsFollow
 pub mod TunnelsFollow
+pub mod Steps
+pub mod Refusals

@@ -62,7 +62,7 @@ taken ps h c t l y f w =
         (new-tunnel (length ps) h t l))
     (λ j. refl)
 
-same-refusal : (ps : List Peer) (h : List ControllerAct) (c : Core) (t : PlacedTunnel) → IsControllerPast (length ps) h → PlainAnswers h → StandsFor ps h c → step.tunnel_refusal c t.spec.reqid t.first t.second ≡ refusal (length ps) h (Tunnel t)
+pub same-refusal : (ps : List Peer) (h : List ControllerAct) (c : Core) (t : PlacedTunnel) → IsControllerPast (length ps) h → PlainAnswers h → StandsFor ps h c → step.tunnel_refusal c t.spec.reqid t.first t.second ≡ refusal (length ps) h (Tunnel t)
 same-refusal ps h c t l y f =
     let a : length c.stations ≡ length ps = count-of ps h c.stations f.gateways in
     let b : changes.has_tunnel t.spec.reqid c.tunnels c.pairs ≡ law.has_tunnel t.spec.reqid h = tunnel-known h t.spec.reqid (directions h) c.tunnels c.pairs f.tunnels in
@@ -77,7 +77,7 @@ placed ps h c t l y f = case (refusal (length ps) h (Tunnel t)) refl (same-refus
     case None u e = rw (e, u) (taken ps h c t l y f u)
     case (Some w) u e = rw (e, u) (follows-refused ps h c w f)
 
-number-is : (ps : List Peer) (h : List ControllerAct) (c : Core) (name : List ℕ) → StandsFor ps h c → core.number_of name c.stations ≡ peer_number name ps
+pub number-is : (ps : List Peer) (h : List ControllerAct) (c : Core) (name : List ℕ) → StandsFor ps h c → core.number_of name c.stations ≡ peer_number name ps
 number-is ps h c name f = ap (core.number_of name) f.gateways ∙ numbered-number name (station_of ps h) ps (λ j p. refl)
 
 -- every command

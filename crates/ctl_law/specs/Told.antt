@@ -1,6 +1,7 @@
 -- What a controller is told as events of the law, and what it does as acts of the law.
 use Rattle.std.specs.Prelude.{◌≡◌, ℕ, ◌<◌, ◌==◌, ◌||◌, Bool, true, List, [], ◌∷◌, ◌++◌, Option, Some, None, length}
 use Rattle.ikeless_tree.specs.declared.command.Peer.{Peer}
+use Rattle.ikeless_tree.specs.declared.command.Refusal.{Refusal}
 use Rattle.ikeless_tree.specs.declared.order as orders
 use Rattle.ikeless_tree.specs.declared.order.Order.TheVariants as tree
 use Rattle.hist_controller.specs.Acts.{ControllerAct, Opened, Cut, Answered, Heard, Ordered, Accepted, Refused, ControllerEvent, Told, Opens, Cuts, Answers, Notices}
@@ -72,3 +73,9 @@ run c (e ∷ es) = (stepped c e).acts ++ run (stepped c e).core es
 abbrev pub run_core : Core → List CtlEvent → Core
 run_core c [] = c
 run_core c (e ∷ es) = run_core (stepped c e).core es
+
+-- the refusals among what a controller does
+abbrev pub refusals_of : List CtlAct → List Refusal
+refusals_of [] = []
+refusals_of (done.Order g o ∷ more) = refusals_of more
+refusals_of (done.Refused w ∷ more) = w ∷ refusals_of more
