@@ -22,3 +22,4 @@ pub mod CommandsFollow
 pub mod TunnelsFollow
 pub mod Steps
 pub mod Refusals
+pub mod Spis

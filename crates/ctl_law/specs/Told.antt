@@ -79,3 +79,15 @@ abbrev pub refusals_of : List CtlAct → List Refusal
 refusals_of [] = []
 refusals_of (done.Order g o ∷ more) = refusals_of more
 refusals_of (done.Refused w ∷ more) = w ∷ refusals_of more
+
+-- the SPIs of the entries that are put
+abbrev pub spi_in : orders.Order.Order → List ℕ
+spi_in tree.Read = []
+spi_in (tree.Policy l) = []
+spi_in (tree.Put e) = e.spi ∷ []
+spi_in (tree.Remove n) = []
+
+abbrev pub spis_of : List CtlAct → List ℕ
+spis_of [] = []
+spis_of (done.Order g o ∷ more) = spi_in o ++ spis_of more
+spis_of (done.Refused w ∷ more) = spis_of more
