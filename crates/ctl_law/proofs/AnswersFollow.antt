@@ -1,11 +1,11 @@
 -- An answer to the oldest waiting order.
-use Rattle.std.proofs.Common.{◌≡◌, ℕ, ◌+◌, ◌<◌, Bool, true, false, ◌==◌, not, ◌&&◌, ◌||◌, nat_le, List, [], ◌∷◌, ◌++◌, Option, Some, None, ◌⊎◌, inl, inr, length, map, drop, refl, sym, subst, ap, ◌∙◌, arith, if◌then◌else◌}
+use Rattle.std.proofs.Common.{◌≡◌, ℕ, ◌+◌, ◌<◌, Bool, true, false, ◌==◌, not, ◌&&◌, ◌||◌, nat_le, List, [], ◌∷◌, Some, ◌⊎◌, inl, inr, length, map, refl, sym, ap, ◌∙◌, arith, if◌then◌else◌}
 use Rattle.std.specs.List.{filter}
 use Rattle.ikeless_tree.specs.declared.command.Peer.{Peer}
 use Rattle.ikeless_tree.specs.declared.order.Answer.{Answer}
 use Rattle.hist_acts.specs.Past.{after}
-use Rattle.hist_controller.specs.Acts.{Way, Association, ControllerOrder, Read, Policy, PutIn, PutOut, RemoveIn, RemoveOut, ControllerAct, Answered}
-use Rattle.hist_controller.specs.Past.{is_open, is_first_answered, is_read, openings, answered, oldest, rest, queue, newest_list, directions, left, is_answer_to, RemovingIn}
+use Rattle.hist_controller.specs.Acts.{Way, ControllerOrder, Read, Policy, PutIn, PutOut, RemoveIn, RemoveOut, ControllerAct, Answered}
+use Rattle.hist_controller.specs.Past.{is_open, is_first_answered, is_read, openings, answered, oldest, queue, directions, is_answer_to, RemovingIn}
 use Rattle.hist_controller.specs.Law.{going, by_answer}
 use Rattle.hist_controller.specs.Clauses.{Has, IsControllerPast}
 use Rattle.hist_controller.specs.Halves.{is_plain, PlainAnswers}
@@ -15,15 +15,13 @@ use Rattle.hist_controller.proofs.KeysInTurn.{first-reading}
 use Rattle.hist_controller.proofs.KeptState.{eq-own}
 use Rattle.hist_controller.proofs.Waits.{shut-queue}
 use Rattle.ctl_core.specs.declared.peer.Session.TheVariants as sessions
-use Rattle.ctl_core.specs.declared.peer.Station.{Station}
 use Rattle.ctl_core.specs.Core as core
 use Rattle.ctl_core.specs.Core.{Core, at}
-use Rattle.ctl_core.specs.Pass as passes
 use Rattle.ctl_core.specs.Step as step
-use Rattle.ctl_law.specs.Stands.{waiting_of, session_of, station_of, numbered, progress_of, direction_of, IsSpent, StandsFor}
+use Rattle.ctl_law.specs.Stands.{waiting_of, station_of, IsSpent, StandsFor}
 use Rattle.ctl_law.specs.Told.{is_status_of, may_answer}
 use Rattle.ctl_law.proofs.Follows.{Follows, follows-still, follows-at}
-use Rattle.ctl_law.proofs.Goes.{Runs, Ran, runs, longer, all_orders}
+use Rattle.ctl_law.proofs.Goes.{Ran, runs, longer, all_orders}
 use Rattle.ctl_law.proofs.Looks.{queue-at, oldest-at, reads-set, station-after, changes}
 use Rattle.ctl_law.proofs.Numbered.{numbered-at}
 use Rattle.ctl_law.proofs.OwnReplies.{progress-answered}

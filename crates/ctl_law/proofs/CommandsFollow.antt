@@ -1,17 +1,12 @@
 -- A command.
-use Rattle.std.proofs.Common.{◌≡◌, ℕ, ◌+◌, ◌<◌, ◌≤◌, Bool, true, false, ◌==◌, not, ◌&&◌, ◌||◌, nat_le, nat_lt, List, [], ◌∷◌, ◌++◌, Option, Some, None, ◌⊎◌, inl, inr, length, map, refl, sym, subst, ap, ◌∙◌, arith, if◌then◌else◌, append-nil}
-use Rattle.std.proofs.lemmas.Grind.{common_steps}
-use Rattle.std.specs.List.{list_any}
-use Rattle.ikeless_tree.specs.declared.command.Command.{Command}
-use Rattle.ikeless_tree.specs.declared.command.Command.TheVariants as commands
+use Rattle.std.proofs.Common.{◌≡◌, ℕ, ◌<◌, Bool, true, false, ◌==◌, ◌||◌, nat_lt, List, [], ◌∷◌, ◌++◌, Option, Some, None, length, refl, sym, subst, ap, ◌∙◌, arith, if◌then◌else◌, append-nil}
 use Rattle.ikeless_tree.specs.declared.command.Peer.{Peer}
 use Rattle.ikeless_tree.specs.declared.command.Refusal.{Refusal}
 use Rattle.ikeless_tree.specs.declared.command.Refusal.TheVariants as refusals
-use Rattle.ikeless_tree.specs.declared.command.TunnelSpec.{TunnelSpec}
 use Rattle.ikeless_tree.specs.declared.entry.SpdEntry.{SpdEntry}
 use Rattle.ikeless_tree.specs.declared.order.Order.TheVariants as tree
 use Rattle.hist_acts.specs.Past.{after}
-use Rattle.hist_controller.specs.Acts.{Way, ControllerOrder, Read, Policy, PlacedTunnel, PlacedCommand, SetPolicy, Tunnel, End, Rekey, Keys, ControllerAct, Ordered, Accepted}
+use Rattle.hist_controller.specs.Acts.{Way, Policy, PlacedCommand, SetPolicy, End, Rekey, Keys, ControllerAct, Accepted}
 use Rattle.hist_controller.specs.Past.{is_open, queue, newest_list, directions, new_ways, both_ways, is_made_by, is_over, left}
 use Rattle.hist_controller.specs.Past as past
 use Rattle.hist_controller.specs.Law.{order, by_command, going, by_refusal, refusal, placed_command, peer_number}
@@ -19,28 +14,24 @@ use Rattle.hist_controller.specs.Law as law
 use Rattle.hist_controller.specs.Clauses.{Has, IsControllerPast}
 use Rattle.hist_controller.specs.Halves.{PlainAnswers}
 use Rattle.hist_controller.proofs.Clauses.{may-command}
-use Rattle.hist_controller.proofs.KeptState.{eq-own, made-no, rising}
-use Rattle.hist_controller.proofs.Serials.{upto}
+use Rattle.hist_controller.proofs.KeptState.{eq-own}
 use Rattle.ctl_tunnels.specs.declared.tunnel.Pair.{Pair}
 use Rattle.ctl_tunnels.specs.declared.tunnel.Tunnel as tunnel
 use Rattle.ctl_tunnels.specs.Rings.{key_refusal}
-use Rattle.ctl_tunnels.specs.Tunnels as tunnels
-use Rattle.ctl_core.specs.declared.peer.Station.{Station}
 use Rattle.ctl_core.specs.Changes as changes
-use Rattle.ctl_core.specs.Core as core
-use Rattle.ctl_core.specs.Core.{Core, at}
+use Rattle.ctl_core.specs.Core.{Core}
 use Rattle.ctl_core.specs.Drafts.{Drafted, given}
 use Rattle.ctl_core.specs.Pass as passes
 use Rattle.ctl_core.specs.Step as step
-use Rattle.ctl_law.specs.Stands.{waiting_of, station_of, numbered, progress_of, direction_of, IsTunnel, IsSpent, TunnelsStand, StandsFor}
-use Rattle.ctl_law.proofs.Drafts.{drafting, with_order}
+use Rattle.ctl_law.specs.Stands.{station_of, numbered, progress_of, direction_of, IsSpent, TunnelsStand, StandsFor}
+use Rattle.ctl_law.proofs.Drafts.{drafting}
 use Rattle.ctl_law.proofs.Follows.{Follows, follows-refused, follows-run, follows-at}
-use Rattle.ctl_law.proofs.Goes.{Asked, Runs, Ran, runs, longer, all_orders}
-use Rattle.ctl_law.proofs.Heard.{progress-policy, progress-keys, progress-rekey, progress-end, progress-tunnel, progress-new}
+use Rattle.ctl_law.proofs.Goes.{Asked, Ran, runs, longer, all_orders}
+use Rattle.ctl_law.proofs.Heard.{progress-rekey, progress-end}
 use Rattle.ctl_law.proofs.Looks.{open-at, reads-at, station-after, count-of, changes as all-changes}
-use Rattle.ctl_law.proofs.Numbered.{numbered-same, numbered-at, numbered-number}
-use Rattle.ctl_law.proofs.Pass.{Changed, none_changed, spent_too, changed}
-use Rattle.ctl_law.proofs.TunnelsKnown.{tunnel-known, unspent-stand, tunnels-count}
+use Rattle.ctl_law.proofs.Numbered.{numbered-same, numbered-at}
+use Rattle.ctl_law.proofs.Pass.{Changed}
+use Rattle.ctl_law.proofs.TunnelsKnown.{tunnel-known}
 
 -- ## a list of policies
 

@@ -1,14 +1,11 @@
 -- A direction's order is drafted as the law has it, and makes of the direction what the law says.
-use Rattle.std.proofs.Common.{◌≡◌, ℕ, zero, suc, ◌+◌, ◌-◌, ◌<◌, ◌≤◌, ◌^◌, Bool, true, false, ◌==◌, not, ◌&&◌, ◌||◌, nat_lt, min, List, [], ◌∷◌, ◌++◌, Option, Some, None, ◌⊎◌, inl, inr, length, drop, slice_get, refl, sym, subst, ap, ◌∙◌, arith, if◌then◌else◌}
-use Rattle.std.proofs.lemmas.Grind.{common_steps}
-use Rattle.std.specs.List.{list_any}
+use Rattle.std.proofs.Common.{◌≡◌, ℕ, zero, suc, ◌+◌, ◌-◌, ◌<◌, ◌≤◌, Bool, true, false, ◌==◌, nat_lt, List, [], ◌∷◌, ◌++◌, Option, Some, length, drop, slice_get, refl, sym, subst, ap, ◌∙◌, arith, if◌then◌else◌}
 use Rattle.ikl_base.specs.declared.address.Addr.{Addr}
 use Rattle.ikeless_tree.specs.declared.command.Peer.{Peer}
 use Rattle.ikeless_tree.specs.declared.order as orders
 use Rattle.ikeless_tree.specs.declared.order.Order.TheVariants as tree
-use Rattle.ikeless_tree.specs.declared.sad.SadEntry.{SadEntry}
 use Rattle.hist_acts.specs.Past.{after}
-use Rattle.hist_controller.specs.Acts.{Way, Association, ControllerOrder, Read, Policy, PutIn, PutOut, RemoveIn, RemoveOut, ControllerAct, Opened, Cut, Answered, Heard, Ordered, Accepted, Refused}
+use Rattle.hist_controller.specs.Acts.{Way, Association, ControllerOrder, PutIn, PutOut, ControllerAct, Ordered}
 use Rattle.hist_controller.specs.Past.{directions, serials, spare, keys, left, is_own}
 use Rattle.hist_controller.specs.Past as past
 use Rattle.hist_controller.specs.Law.{order, give}
@@ -22,10 +19,9 @@ use Rattle.hist_controller.proofs.Gives.{Given, nothing, out_removed, in_removed
 use Rattle.hist_controller.proofs.Homes.{own-way}
 use Rattle.hist_controller.proofs.KeysInTurn.{spare-keys, left-key, left-serial}
 use Rattle.hist_controller.proofs.KeptState.{eq-own}
-use Rattle.hist_controller.proofs.Serials.{of-way, one}
+use Rattle.hist_controller.proofs.Serials.{of-way}
 use Rattle.ctl_tunnels.specs.declared.life.HalfOrder.{HalfOrder}
 use Rattle.ctl_tunnels.specs.declared.life.Task.TheVariants as tasks
-use Rattle.ctl_tunnels.specs.declared.progress.Progress.{Progress}
 use Rattle.ctl_tunnels.specs.Halves as halves
 use Rattle.ctl_tunnels.specs.Rings.{key_at}
 use Rattle.ctl_core.specs.declared.acts.CtlAct.TheVariants as done
@@ -33,10 +29,10 @@ use Rattle.ctl_core.specs.declared.peer.Station.{Station}
 use Rattle.ctl_core.specs.Core.{address_of}
 use Rattle.ctl_core.specs.Drafts.{Drafted, queued, given as draft_given}
 use Rattle.ctl_core.specs.Pass as passes
-use Rattle.ctl_law.specs.Stands.{half_of, waiting_of, progress_of, direction_of}
-use Rattle.ctl_law.proofs.Own.{half, Awaits, awaits}
+use Rattle.ctl_law.specs.Stands.{waiting_of, progress_of, direction_of}
+use Rattle.ctl_law.proofs.Own.{half, awaits}
 use Rattle.ctl_law.proofs.Next.{next_half, next-is}
-use Rattle.ctl_law.proofs.Ordered.{progress-other, progress-put-in, progress-put-out, progress-remove-in, progress-remove-out}
+use Rattle.ctl_law.proofs.Ordered.{progress-put-in, progress-put-out, progress-remove-in, progress-remove-out}
 
 -- ## drafts
 

@@ -1,12 +1,10 @@
 -- What it means that a step of the core follows the law.
-use Rattle.std.proofs.Common.{◌≡◌, ℕ, ◌+◌, Bool, true, false, List, [], ◌∷◌, ◌++◌, length, refl, sym, subst, ap, ◌∙◌}
+use Rattle.std.proofs.Common.{◌≡◌, ℕ, Bool, List, [], ◌∷◌, ◌++◌, refl, sym, ap, ◌∙◌}
 use Rattle.ikeless_tree.specs.declared.command.Peer.{Peer}
 use Rattle.ikeless_tree.specs.declared.command.Refusal.{Refusal}
 use Rattle.hist_acts.specs.Past.{after}
 use Rattle.hist_controller.specs.Acts.{Way, ControllerAct, Refused}
 use Rattle.hist_controller.specs.Past.{directions}
-use Rattle.hist_controller.specs.Clauses.{Has}
-use Rattle.ctl_core.specs.declared.acts.CtlAct.{CtlAct}
 use Rattle.ctl_core.specs.Core.{Core, at}
 use Rattle.ctl_core.specs.Drafts.{Drafted}
 use Rattle.ctl_core.specs.Pass as passes
@@ -15,7 +13,7 @@ use Rattle.ctl_core.specs.Step.{Outcome}
 use Rattle.ctl_core.specs.declared.peer.Station.{Station}
 use Rattle.ctl_tunnels.specs.declared.tunnel.Pair.{Pair}
 use Rattle.ctl_tunnels.specs.declared.tunnel.Tunnel.{Tunnel}
-use Rattle.ctl_law.specs.Stands.{station_of, numbered, progress_of, IsSpent, TunnelsStand, no_more, left_out, stands, StandsFor}
+use Rattle.ctl_law.specs.Stands.{station_of, numbered, TunnelsStand, no_more, left_out, stands, StandsFor}
 use Rattle.ctl_law.specs.Told.{done_at, all_done}
 use Rattle.ctl_law.proofs.Goes.{Ran, longer, all_orders}
 use Rattle.ctl_law.proofs.Numbered.{numbered-same}

@@ -1,29 +1,25 @@
 -- An act of the law's, the orders that it asks for, and the pass after them, as the core runs them.
-use Rattle.std.proofs.Common.{◌≡◌, ℕ, ◌+◌, ◌<◌, ◌≤◌, Bool, true, false, ◌==◌, not, ◌&&◌, ◌||◌, List, [], ◌∷◌, ◌++◌, Option, Some, None, length, map, refl, sym, subst, ap, ◌∙◌, arith, if◌then◌else◌, append_assoc}
-use Rattle.std.proofs.lemmas.Grind.{common_steps}
+use Rattle.std.proofs.Common.{◌≡◌, ℕ, ◌<◌, Bool, List, [], ◌∷◌, ◌++◌, length, map, refl, sym, subst, ap, ◌∙◌}
 use Rattle.ikeless_tree.specs.declared.command.Peer.{Peer}
 use Rattle.hist_acts.specs.Past.{after}
-use Rattle.hist_controller.specs.Acts.{Way, ControllerOrder, Read, Policy, PutIn, PutOut, RemoveIn, RemoveOut, ControllerAct, Opened, Cut, Answered, Heard, Ordered, Accepted, Refused}
+use Rattle.hist_controller.specs.Acts.{Way, Read, Policy, PutIn, PutOut, RemoveIn, RemoveOut, ControllerAct, Opened, Cut, Answered, Heard, Ordered, Accepted, Refused}
 use Rattle.hist_controller.specs.Past.{is_open, is_first_answered, queue, newest_list, keys, serials, directions}
 use Rattle.hist_controller.specs.Past as past
 use Rattle.hist_controller.specs.Law.{pass}
 use Rattle.hist_controller.specs.Clauses.{Has, IsControllerPast, ControllerMayActAll}
 use Rattle.hist_controller.specs.Halves.{PlainAnswers}
 use Rattle.hist_controller.proofs.Clauses.{past-after, after-append}
-use Rattle.hist_controller.proofs.KeptState.{rising, map-more}
-use Rattle.ctl_tunnels.specs.declared.tunnel.Pair.{Pair}
-use Rattle.ctl_tunnels.specs.declared.tunnel.Tunnel.{Tunnel}
+use Rattle.hist_controller.proofs.KeptState.{rising}
 use Rattle.ctl_core.specs.declared.peer.Station.{Station}
-use Rattle.ctl_core.specs.declared.peer.Waiting.{Waiting}
-use Rattle.ctl_core.specs.Core.{Core, at, address_of}
+use Rattle.ctl_core.specs.Core.{Core, address_of}
 use Rattle.ctl_core.specs.Drafts.{Drafted}
 use Rattle.ctl_core.specs.Pass as passes
 use Rattle.ctl_core.specs.Step as step
-use Rattle.ctl_law.specs.Stands.{waiting_of, session_of, station_of, numbered, TunnelsStand}
+use Rattle.ctl_law.specs.Stands.{waiting_of, station_of, numbered, TunnelsStand}
 use Rattle.ctl_law.specs.Told.{all_done}
 use Rattle.ctl_law.proofs.Drafts.{drafting, with_order, AtHand}
-use Rattle.ctl_law.proofs.Lines.{Orders, orders-more, orders-pass, orders_for, Same, same-after, keys-after-orders, ways-after-orders, queue-after, drafted-acts, drafted-queues}
-use Rattle.ctl_law.proofs.Numbered.{numbered-same, numbered-map, numbered-at, numbered-queues, numbered-address}
+use Rattle.ctl_law.proofs.Lines.{Orders, orders-more, orders-pass, orders_for, same-after, keys-after-orders, ways-after-orders, drafted-acts, drafted-queues}
+use Rattle.ctl_law.proofs.Numbered.{numbered-map, numbered-queues, numbered-address}
 use Rattle.ctl_law.proofs.Pass.{Untouched, untouched, and-untouched, untouched-by, drafting-append, Changed, changed-moves, PassIs, pass-is}
 
 -- readings and lists alone

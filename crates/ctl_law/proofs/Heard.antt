@@ -1,6 +1,5 @@
 -- What commands, openings and notices make of a direction.
-use Rattle.std.proofs.Common.{◌≡◌, ℕ, ◌+◌, ◌<◌, ◌≤◌, ◌^◌, Bool, true, false, ◌==◌, not, ◌&&◌, ◌||◌, nat_lt, nat_le, List, [], ◌∷◌, ◌++◌, Option, Some, None, ◌⊎◌, inl, inr, length, map, refl, sym, subst, ap, ◌∙◌, arith, if◌then◌else◌}
-use Rattle.std.proofs.lemmas.Grind.{common_steps}
+use Rattle.std.proofs.Common.{◌≡◌, ℕ, ◌<◌, ◌≤◌, ◌^◌, Bool, true, false, ◌==◌, not, ◌&&◌, ◌||◌, nat_lt, List, [], ◌∷◌, ◌++◌, Option, Some, None, length, map, refl, sym, ap, ◌∙◌, arith, if◌then◌else◌}
 use Rattle.std.specs.List.{filter, list_any}
 use Rattle.std.specs.Option.{option_map}
 use Rattle.std.specs.Str.{bytes_eq}
@@ -8,12 +7,11 @@ use Rattle.ikeless_tree.specs.declared.command.Refusal.{Refusal}
 use Rattle.ikeless_tree.specs.declared.entry.SpdEntry.{SpdEntry}
 use Rattle.ikeless_tree.specs.declared.order.Notice.{Notice}
 use Rattle.ikeless_tree.specs.declared.order.Notice.TheVariants as notices
-use Rattle.hist_controller.specs.Acts.{Way, Association, in_name, out_name, ControllerOrder, Read, Policy, PutIn, PutOut, RemoveIn, RemoveOut, PlacedTunnel, PlacedCommand, SetPolicy, Tunnel, End, Rekey, Keys, ControllerAct, Opened, Cut, Answered, Heard, Ordered, Accepted, Refused}
-use Rattle.hist_controller.specs.Past.{is_open, queue, directions, is_made_by, is_over, is_wanted, left, newest_serial, is_own, is_cause_notice, has_entry, newest_list, is_half_at, is_of_newest, is_in_progress, is_ended}
+use Rattle.hist_controller.specs.Acts.{Way, Association, ControllerOrder, Read, Policy, PutIn, PutOut, RemoveIn, RemoveOut, PlacedTunnel, SetPolicy, Tunnel, End, Rekey, Keys, ControllerAct, Opened, Heard, Accepted, Refused}
+use Rattle.hist_controller.specs.Past.{is_open, queue, directions, is_made_by, left, newest_serial, is_own, is_cause_notice, has_entry, newest_list, is_half_at, is_of_newest, is_in_progress, is_ended}
 use Rattle.hist_controller.specs.Clauses.{Has, IsControllerPast}
 use Rattle.hist_controller.specs.Halves.{PlainAnswers}
-use Rattle.hist_controller.specs.Law.{first}
-use Rattle.hist_controller.proofs.KeptState.{made-no, rising, eq-own}
+use Rattle.hist_controller.proofs.KeptState.{made-no, rising}
 use Rattle.hist_controller.proofs.Serials.{upto}
 use Rattle.hist_controller.proofs.Waits.{shut-queue}
 use Rattle.hist_controller.proofs.Homes.{own-way}
@@ -22,8 +20,6 @@ use Rattle.ctl_tunnels.specs.declared.half.HalfName.{HalfName}
 use Rattle.ctl_tunnels.specs.declared.half.Side.{Side}
 use Rattle.ctl_tunnels.specs.declared.half.Side.TheVariants as sides
 use Rattle.ctl_tunnels.specs.declared.life.Life.{Life}
-use Rattle.ctl_tunnels.specs.declared.progress.Progress.{Progress}
-use Rattle.ctl_tunnels.specs.declared.tunnel.Direction.{Direction}
 use Rattle.ctl_tunnels.specs.Halves.{half_named, IsHalfName, names_in, names_out, is_in, is_out}
 use Rattle.ctl_tunnels.specs.Lives as lives
 use Rattle.ctl_tunnels.specs.Steps as steps
@@ -32,12 +28,12 @@ use Rattle.ctl_core.specs.Changes.{reqids_in, has_reqid}
 use Rattle.ctl_core.specs.Step.{notice_effect, worn_effect, end_effect, rekey_effect}
 use Rattle.hist_controller.specs.Left.{listed, newest_left, older_left}
 use Rattle.hist_controller.specs.Own.{own_orders}
-use Rattle.ctl_law.specs.Stands.{half_of, life_of, first_half, progress_of, direction_of}
+use Rattle.ctl_law.specs.Stands.{life_of, first_half, progress_of, direction_of}
 use Rattle.hist_controller.proofs.Left.{older-newest as left-two}
 use Rattle.hist_controller.proofs.KeysInTurn.{left-serial}
 use Rattle.hist_controller.proofs.Own.{waiting-left}
 use Rattle.ctl_law.proofs.Lists.{filter-none}
-use Rattle.ctl_law.proofs.Progresses.{progress, same-progress, made-first, same-first, older-left, newest-left, any-two}
+use Rattle.ctl_law.proofs.Progresses.{same-progress, made-first, same-first, older-left, newest-left, any-two}
 
 -- ## an opening
 
@@ -209,8 +205,8 @@ worn p h d g name l a = by-half h d g (half_named name) ∙ ap (λ b. steps.want
     is-small x e = rw (is-newest x e) (small x.serial (left-serial p h l d x (newest-left d h x e)).1)
 
     case : (half : Option HalfName) (m : Option Association) → newest_left d h ≡ m → IsHalfName name half
-      → list_any (λ x. (x.serial == newest_serial d h) && not (is_ended x h)) (left d h) ≡ steps.when (λ x. not x.ended) (option_map (life_of h) m)
-      → worn_half h d g half m ≡ (is_half_at d g name (newest_serial d h) && list_any (λ x. (x.serial == newest_serial d h) && not (is_ended x h)) (left d h))
+        → list_any (λ x. (x.serial == newest_serial d h) && not (is_ended x h)) (left d h) ≡ steps.when (λ x. not x.ended) (option_map (life_of h) m)
+        → worn_half h d g half m ≡ (is_half_at d g name (newest_serial d h) && list_any (λ x. (x.serial == newest_serial d h) && not (is_ended x h)) (left d h))
     case None None e k u = rw u (sym (and-none (is_half_at d g name (newest_serial d h))))
     case None (Some x) e k u = rw (side d g name (newest_serial d h) None k (is-small x e), no-half d g (newest_serial d h)) refl
     case (Some half) None e k u = rw u (sym (and-none (is_half_at d g name (newest_serial d h))))

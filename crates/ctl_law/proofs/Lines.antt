@@ -1,16 +1,12 @@
 -- What orders add to queues, and what they leave as it is.
-use Rattle.std.proofs.Common.{◌≡◌, ℕ, ◌+◌, ◌<◌, ◌≤◌, Bool, true, false, ◌==◌, not, ◌&&◌, ◌||◌, List, [], ◌∷◌, ◌++◌, Option, Some, None, length, map, slice_get, refl, sym, subst, ap, ◌∙◌, arith, if◌then◌else◌, append-nil, append_assoc}
-use Rattle.std.proofs.lemmas.Grind.{common_steps}
+use Rattle.std.proofs.Common.{◌≡◌, ℕ, Bool, true, false, ◌==◌, List, [], ◌∷◌, ◌++◌, map, refl, sym, ap, ◌∙◌, arith, if◌then◌else◌, append-nil, append_assoc}
 use Rattle.ikeless_tree.specs.declared.command.Peer.{Peer}
 use Rattle.hist_acts.specs.Past.{after}
-use Rattle.hist_controller.specs.Acts.{Way, ControllerOrder, Read, Policy, PutIn, PutOut, RemoveIn, RemoveOut, ControllerAct, Opened, Cut, Answered, Heard, Ordered, Accepted, Refused}
-use Rattle.hist_controller.specs.Past.{is_open, is_first_answered, is_read, queue, newest_list, keys, directions}
+use Rattle.hist_controller.specs.Acts.{Way, ControllerOrder, ControllerAct, Opened, Cut, Answered, Heard, Ordered, Accepted, Refused}
+use Rattle.hist_controller.specs.Past.{is_open, is_first_answered, queue, newest_list, keys, directions}
 use Rattle.hist_controller.specs.Law.{pass, give}
 use Rattle.hist_controller.proofs.Gives.{Given, nothing, out_removed, in_removed, out_was_put, in_was_put, given}
 use Rattle.hist_controller.proofs.KeptState.{map-more}
-use Rattle.ctl_core.specs.declared.acts.CtlAct.{CtlAct}
-use Rattle.ctl_core.specs.declared.acts.CtlAct.TheVariants as done
-use Rattle.ctl_core.specs.declared.peer.Waiting.{Waiting}
 use Rattle.ctl_core.specs.Drafts.{Drafted, queued}
 use Rattle.ctl_law.specs.Stands.{waiting_of, numbered}
 use Rattle.ctl_law.specs.Told.{all_done}
@@ -124,10 +120,10 @@ drafted-queues ps (Answered g s n c ∷ os) x before a e = absurd a
 drafted-queues ps (Heard g s t ∷ os) x before a e = absurd a
 drafted-queues ps (Ordered g s n o ∷ os) x before a e =
     drafted-queues ps os (with_order ps g o x) (λ j. if j == g then before j ++ o ∷ [] else before j) a
-        (ap (queued g (waiting_of ps o)) e
-        ∙ numbered-queued (waiting_of ps o) (λ j p. map (waiting_of ps) (before j)) (λ j p. map (waiting_of ps) (if j == g then before j ++ o ∷ [] else before j)) g 0 g ps (omega arith)
-            (λ p. one-more ps (g == g) (before g) o (grind arith))
-            (λ j p t. rw t refl))
+    (ap (queued g (waiting_of ps o)) e
+    ∙ numbered-queued (waiting_of ps o) (λ j p. map (waiting_of ps) (before j)) (λ j p. map (waiting_of ps) (if j == g then before j ++ o ∷ [] else before j)) g 0 g ps (omega arith)
+    (λ p. one-more ps (g == g) (before g) o (grind arith))
+    (λ j p t. rw t refl))
     ∙ numbered-same _ _ 0 ps (λ j p l. ap (map (waiting_of ps)) (add-one-for (j == g) (before j) (orders_for j os) o))
 drafted-queues ps (Accepted c ∷ os) x before a e = absurd a
 drafted-queues ps (Refused w ∷ os) x before a e = absurd a

@@ -1,28 +1,23 @@
 -- What the core sees of its gateways is what the law says of them.
-use Rattle.std.proofs.Common.{◌≡◌, ℕ, zero, suc, ◌+◌, ◌-◌, ◌<◌, ◌≤◌, Bool, true, false, ◌==◌, not, ◌&&◌, ◌||◌, nat_lt, List, [], ◌∷◌, ◌++◌, Option, Some, None, ◌⊎◌, inl, inr, length, map, slice_get, refl, sym, subst, ap, ◌∙◌, arith, if◌then◌else◌}
-use Rattle.std.proofs.lemmas.Grind.{common_steps}
+use Rattle.std.proofs.Common.{◌≡◌, ℕ, zero, suc, ◌<◌, Bool, true, false, ◌==◌, not, ◌&&◌, List, [], ◌∷◌, ◌++◌, Some, inl, inr, length, map, slice_get, refl, ap, ◌∙◌, arith, if◌then◌else◌}
 use Rattle.std.specs.List.{list_any}
 use Rattle.std.specs.Option.{option_map}
 use Rattle.ikeless_tree.specs.declared.command.Peer.{Peer}
-use Rattle.ikeless_tree.specs.declared.entry.SpdEntry.{SpdEntry}
 use Rattle.hist_acts.specs.Past.{after}
 use Rattle.hist_controller.specs.Acts.{Way, ControllerOrder, Read, Policy, PutIn, PutOut, RemoveIn, RemoveOut, ControllerAct}
-use Rattle.hist_controller.specs.Past.{is_open, is_first_answered, is_read, queue, newest_list, directions, is_over, left}
+use Rattle.hist_controller.specs.Past.{is_open, is_first_answered, is_read, queue, newest_list}
 use Rattle.hist_controller.specs.Law.{is_reading}
 use Rattle.hist_controller.specs.Clauses.{Has}
 use Rattle.hist_controller.proofs.KeptState.{map-more}
-use Rattle.ctl_tunnels.specs.declared.progress.Progress.{Progress}
 use Rattle.ctl_tunnels.specs.declared.tunnel.Pair.{Pair}
 use Rattle.ctl_tunnels.specs.declared.tunnel.Tunnel.{Tunnel}
-use Rattle.ctl_core.specs.declared.peer.Session.{Session}
 use Rattle.ctl_core.specs.declared.peer.Station.{Station}
-use Rattle.ctl_core.specs.declared.peer.Waiting.{Waiting}
 use Rattle.ctl_core.specs.Core as core
 use Rattle.ctl_core.specs.Pass as passes
 use Rattle.ctl_core.specs.Step.{readiness, set_ready}
-use Rattle.ctl_law.specs.Stands.{waiting_of, session_of, station_of, numbered, progress_of, direction_of, IsTunnel, IsSpent, TunnelsStand, no_more, left_out, stands}
-use Rattle.ctl_law.proofs.Lines.{Orders, orders_for, Same, same-after, queue-after}
-use Rattle.ctl_law.proofs.Numbered.{numbered-same, numbered-map, numbered-get, numbered-length, set-get}
+use Rattle.ctl_law.specs.Stands.{waiting_of, session_of, station_of, numbered, progress_of, direction_of, IsSpent, TunnelsStand, no_more, left_out, stands}
+use Rattle.ctl_law.proofs.Lines.{Orders, orders_for, same-after, queue-after}
+use Rattle.ctl_law.proofs.Numbered.{numbered-map, numbered-get, numbered-length, set-get}
 use Rattle.ctl_law.proofs.Pass.{Changed, none_changed, spent_too, changed}
 
 -- ## one gateway

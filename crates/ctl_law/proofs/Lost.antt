@@ -1,12 +1,11 @@
 -- What a cut makes of a direction.
-use Rattle.std.proofs.Common.{◌≡◌, ℕ, ◌+◌, ◌<◌, ◌≤◌, Bool, true, false, ◌==◌, not, ◌&&◌, ◌||◌, List, [], ◌∷◌, ◌++◌, Option, Some, None, ◌⊎◌, inl, inr, length, refl, sym, subst, ap, ◌∙◌, arith, if◌then◌else◌}
+use Rattle.std.proofs.Common.{◌≡◌, ℕ, Bool, true, false, ◌==◌, ◌&&◌, ◌||◌, List, [], ◌∷◌, ◌++◌, Option, Some, None, refl, sym, subst, ap, ◌∙◌, arith, if◌then◌else◌}
 use Rattle.std.specs.List.{filter, list_any}
 use Rattle.std.specs.Option.{option_map}
 use Rattle.hist_controller.specs.Acts.{Way, Association, ControllerOrder, Read, Policy, PutIn, PutOut, RemoveIn, RemoveOut, ControllerAct, Cut}
-use Rattle.hist_controller.specs.Past.{queue, directions, is_over, is_wanted, left, is_own, is_kind, PuttingIn, PuttingOut, is_put_of, is_ended}
+use Rattle.hist_controller.specs.Past.{queue, directions, is_over, is_wanted, left, is_own, is_kind, PuttingIn, PuttingOut, is_put_of}
 use Rattle.hist_controller.specs.Clauses.{Has, IsControllerPast}
 use Rattle.ctl_tunnels.specs.declared.life.HalfOrder.{HalfOrder}
-use Rattle.ctl_tunnels.specs.declared.life.Life.{Life}
 use Rattle.ctl_tunnels.specs.declared.life.Task.{Task}
 use Rattle.ctl_tunnels.specs.declared.life.Task.TheVariants as tasks
 use Rattle.ctl_tunnels.specs.declared.progress.Progress.{Progress}
@@ -17,7 +16,7 @@ use Rattle.hist_controller.specs.Left.{newest_left, older_left}
 use Rattle.hist_controller.specs.Own.{own_orders}
 use Rattle.ctl_law.specs.Stands.{half_of, life_of, first_half, progress_of, direction_of}
 use Rattle.ctl_law.proofs.Lists.{any-filter, filter-none}
-use Rattle.ctl_law.proofs.Own.{has_serial, half, home, OwnOrder, own-order, foreign, own_at, Awaits, nothing, at_sender, at_receiver, awaits}
+use Rattle.ctl_law.proofs.Own.{has_serial, half, own-order, foreign, own_at, Awaits, nothing, at_sender, at_receiver, awaits}
 use Rattle.ctl_law.proofs.Progresses.{progress, same-progress, same-first, made-first, older-left, newest-left}
 
 -- an order puts a half of this serial

@@ -1,38 +1,25 @@
 -- The order that a direction gets next is the one that the law gives it.
-use Rattle.std.proofs.Common.{◌≡◌, ℕ, zero, suc, ◌+◌, ◌-◌, ◌<◌, ◌≤◌, ◌^◌, Bool, true, false, ◌==◌, not, ◌&&◌, ◌||◌, nat_lt, min, List, [], ◌∷◌, ◌++◌, Option, Some, None, ◌⊎◌, inl, inr, length, drop, slice_get, length-drop, refl, sym, subst, ap, ◌∙◌, arith, if◌then◌else◌}
-use Rattle.std.proofs.lemmas.Grind.{common_steps}
+use Rattle.std.proofs.Common.{◌≡◌, ℕ, ◌+◌, Bool, true, false, not, ◌&&◌, nat_lt, List, [], ◌∷◌, ◌++◌, Option, Some, None, length, drop, length-drop, refl, sym, ap, ◌∙◌, arith, if◌then◌else◌}
 use Rattle.std.specs.Option.{option_map}
-use Rattle.std.specs.List.{list_any}
-use Rattle.ikl_base.specs.declared.address.Addr.{Addr}
-use Rattle.ikeless_tree.specs.declared.command.Peer.{Peer}
-use Rattle.ikeless_tree.specs.declared.order.Order.TheVariants as tree
-use Rattle.hist_acts.specs.Past.{after}
-use Rattle.hist_controller.specs.Acts.{Way, Association, ControllerOrder, Read, Policy, PutIn, PutOut, RemoveIn, RemoveOut, ControllerAct, Opened, Cut, Answered, Heard, Ordered, Accepted, Refused}
-use Rattle.hist_controller.specs.Past.{is_read, directions, serials, spare, keys, is_over, is_wanted, left, is_busy}
+use Rattle.hist_controller.specs.Acts.{Way, Association, ControllerOrder, PutIn, ControllerAct, Ordered}
+use Rattle.hist_controller.specs.Past.{is_read, serials, spare, keys, is_over, is_wanted, left, is_busy}
 use Rattle.hist_controller.specs.Law.{order, may_out_remove, may_in_remove, may_out_put, may_in_put, first, key_put, out_put, in_remove, out_remove, give}
-use Rattle.hist_controller.specs.Clauses.{Has, IsControllerPast}
+use Rattle.hist_controller.specs.Clauses.{IsControllerPast}
 use Rattle.hist_controller.specs.Halves.{PlainAnswers}
 use Rattle.hist_controller.specs.Left.{listed, newest_left, older_left}
-use Rattle.hist_controller.specs.Machine.{place}
 use Rattle.hist_controller.specs.Own.{own_orders}
-use Rattle.hist_controller.specs.Told.{peer_address, in_entry, out_entry, order_told}
-use Rattle.hist_controller.proofs.KeysInTurn.{spare-keys, left-key, left-serial}
+use Rattle.hist_controller.proofs.KeysInTurn.{spare-keys}
 use Rattle.hist_controller.proofs.Left.{older-newest as left-two}
 use Rattle.hist_controller.proofs.Own.{busy-waiting}
 use Rattle.ctl_tunnels.specs.declared.life.HalfOrder.{HalfOrder}
 use Rattle.ctl_tunnels.specs.declared.life.Life.{Life}
 use Rattle.ctl_tunnels.specs.declared.life.Task.{Task}
 use Rattle.ctl_tunnels.specs.declared.life.Task.TheVariants as tasks
-use Rattle.ctl_tunnels.specs.declared.progress.Progress.{Progress}
-use Rattle.ctl_tunnels.specs.Halves as halves
 use Rattle.ctl_tunnels.specs.Lives as lives
-use Rattle.ctl_tunnels.specs.Rings.{key_at}
 use Rattle.ctl_tunnels.specs.Steps as steps
-use Rattle.ctl_core.specs.declared.peer.Station.{Station}
-use Rattle.ctl_core.specs.Core.{address_of}
 use Rattle.ctl_core.specs.Pass as passes
-use Rattle.ctl_law.specs.Stands.{half_of, life_of, first_half, progress_of, direction_of}
-use Rattle.ctl_law.proofs.Own.{half, Awaits, nothing, at_sender, at_receiver, awaits}
+use Rattle.ctl_law.specs.Stands.{half_of, life_of, first_half, progress_of}
+use Rattle.ctl_law.proofs.Own.{half, Awaits, nothing, at_sender, at_receiver}
 
 -- the half of the order, where one is given
 abbrev pub next_half : List ControllerAct → Option HalfOrder

@@ -1,26 +1,25 @@
 -- A notice.
-use Rattle.std.proofs.Common.{◌≡◌, ℕ, ◌+◌, ◌<◌, Bool, true, false, not, ◌&&◌, ◌||◌, List, [], ◌∷◌, ◌++◌, Option, Some, None, length, map, refl, sym, subst, ap, ◌∙◌, if◌then◌else◌}
+use Rattle.std.proofs.Common.{◌≡◌, ℕ, ◌<◌, Bool, true, false, List, [], ◌∷◌, None, length, map, refl, sym, ap, ◌∙◌, if◌then◌else◌}
 use Rattle.std.specs.List.{list_any}
 use Rattle.ikeless_tree.specs.declared.command.Peer.{Peer}
 use Rattle.ikeless_tree.specs.declared.order.Notice.{Notice}
 use Rattle.ikeless_tree.specs.declared.order.Notice.TheVariants as notices
 use Rattle.ikeless_tree.specs.declared.order.Order.TheVariants as tree
 use Rattle.hist_acts.specs.Past.{after}
-use Rattle.hist_controller.specs.Acts.{Way, ControllerOrder, Read, ControllerAct, Heard, Ordered}
-use Rattle.hist_controller.specs.Past.{is_open, openings, queue, newest_list, directions}
+use Rattle.hist_controller.specs.Acts.{Read, ControllerAct, Heard}
+use Rattle.hist_controller.specs.Past.{is_open, openings, queue, directions}
 use Rattle.hist_controller.specs.Law.{order, is_reading, by_notice, going}
-use Rattle.hist_controller.specs.Clauses.{Has, IsControllerPast}
+use Rattle.hist_controller.specs.Clauses.{IsControllerPast}
 use Rattle.hist_controller.specs.Halves.{PlainAnswers}
 use Rattle.hist_controller.proofs.Clauses.{may-notice}
 use Rattle.ctl_core.specs.Core as core
 use Rattle.ctl_core.specs.Core.{Core}
 use Rattle.ctl_core.specs.Drafts.{Drafted, given}
-use Rattle.ctl_core.specs.Pass as passes
 use Rattle.ctl_core.specs.Step as step
-use Rattle.ctl_law.specs.Stands.{waiting_of, station_of, numbered, progress_of, direction_of, IsSpent, StandsFor}
-use Rattle.ctl_law.proofs.Drafts.{drafting, with_order}
+use Rattle.ctl_law.specs.Stands.{waiting_of, station_of, numbered, progress_of, direction_of, StandsFor}
+use Rattle.ctl_law.proofs.Drafts.{drafting}
 use Rattle.ctl_law.proofs.Follows.{Follows, follows-still, follows-run}
-use Rattle.ctl_law.proofs.Goes.{Asked, Runs, Ran, runs, longer, all_orders}
+use Rattle.ctl_law.proofs.Goes.{Asked, Ran, runs, longer, all_orders}
 use Rattle.ctl_law.proofs.Heard.{progress-noticed}
 use Rattle.ctl_law.proofs.Looks.{open-at, list-at, queue-at, reading-waits, reads-at, station-after, changes}
 use Rattle.ctl_law.proofs.Numbered.{numbered-same}

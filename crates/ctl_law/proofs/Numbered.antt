@@ -1,16 +1,15 @@
 -- Lists with one for each peer, by their numbers.
-use Rattle.std.proofs.Common.{◌≡◌, ℕ, zero, suc, ◌+◌, ◌-◌, ◌<◌, ◌≤◌, Bool, true, false, cond, ◌==◌, not, ◌&&◌, nat_lt, List, [], ◌∷◌, ◌++◌, Option, Some, None, length, map, slice_get, refl, sym, subst, ap, ◌∙◌, arith, if◌then◌else◌}
+use Rattle.std.proofs.Common.{◌≡◌, ℕ, zero, suc, ◌+◌, ◌-◌, ◌<◌, ◌≤◌, Bool, true, false, cond, ◌==◌, not, nat_lt, List, [], ◌∷◌, ◌++◌, Some, None, length, map, slice_get, refl, subst, ap, arith, if◌then◌else◌}
 use Rattle.std.proofs.lemmas.Grind.{common_steps}
 use Rattle.std.specs.List.{position_or_len}
 use Rattle.std.specs.Option.{option_map}
 use Rattle.std.specs.Str.{bytes_eq}
-use Rattle.ikl_base.specs.declared.address.Addr.{Addr}
 use Rattle.ikeless_tree.specs.declared.command.Peer.{Peer}
 use Rattle.hist_controller.specs.Law.{peer_number}
 use Rattle.hist_controller.specs.Told.{peer_address}
 use Rattle.ctl_core.specs.declared.peer.Station.{Station}
 use Rattle.ctl_core.specs.declared.peer.Waiting.{Waiting}
-use Rattle.ctl_core.specs.Core.{at, number_of, place_or, address_of, address_or_none}
+use Rattle.ctl_core.specs.Core.{at, number_of, place_or, address_of}
 use Rattle.ctl_core.specs.Drafts.{queued}
 use Rattle.ctl_core.specs.Pass as passes
 use Rattle.ctl_core.specs.Step.{set_ready}

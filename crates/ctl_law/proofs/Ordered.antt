@@ -1,32 +1,28 @@
 -- What an order makes of a direction, its own or another's.
-use Rattle.std.proofs.Common.{◌≡◌, ℕ, ◌+◌, ◌<◌, ◌≤◌, Bool, true, false, ◌==◌, not, ◌&&◌, ◌||◌, nat_lt, List, [], ◌∷◌, ◌++◌, Option, Some, None, ◌⊎◌, inl, inr, length, refl, sym, subst, ap, ◌∙◌, arith, if◌then◌else◌, append-nil}
-use Rattle.std.proofs.lemmas.Grind.{common_steps}
+use Rattle.std.proofs.Common.{◌≡◌, ℕ, ◌+◌, ◌<◌, ◌≤◌, Bool, true, false, ◌==◌, not, ◌&&◌, nat_lt, List, [], ◌∷◌, ◌++◌, Option, Some, None, ◌⊎◌, inl, inr, length, refl, sym, subst, ap, ◌∙◌, arith, if◌then◌else◌, append-nil}
 use Rattle.std.specs.List.{filter, list_any}
 use Rattle.std.specs.Option.{option_map}
 use Rattle.hist_controller.specs.Acts.{Way, Association, ControllerOrder, Read, Policy, PutIn, PutOut, RemoveIn, RemoveOut, ControllerAct, Ordered}
-use Rattle.hist_controller.specs.Past.{queue, directions, serials, is_over, is_wanted, left, last_if, newest_serial, inbound_put, is_own, is_inbound_put_of, PuttingIn, PuttingOut, RemovingIn, RemovingOut, is_kind, has_answer, is_out_ordered, is_ended}
+use Rattle.hist_controller.specs.Past.{queue, directions, serials, is_wanted, left, last_if, newest_serial, inbound_put, is_own, is_inbound_put_of}
 use Rattle.hist_controller.specs.Law.{first}
 use Rattle.hist_controller.specs.Clauses.{Has, IsControllerPast}
 use Rattle.hist_controller.specs.Halves.{PlainAnswers}
 use Rattle.hist_controller.proofs.KeptState.{eq-own}
-use Rattle.hist_controller.proofs.Lists.{has-left, right-in, length-both}
+use Rattle.hist_controller.proofs.Lists.{has-left, right-in}
 use Rattle.hist_controller.proofs.Serials.{low}
 use Rattle.hist_controller.proofs.Turns.{any-has}
-use Rattle.ctl_tunnels.specs.declared.life.HalfOrder.{HalfOrder}
 use Rattle.ctl_tunnels.specs.declared.life.Life.{Life}
-use Rattle.ctl_tunnels.specs.declared.life.Task.{Task}
 use Rattle.ctl_tunnels.specs.declared.life.Task.TheVariants as tasks
-use Rattle.ctl_tunnels.specs.declared.progress.Progress.{Progress}
 use Rattle.ctl_tunnels.specs.Lives as lives
 use Rattle.ctl_tunnels.specs.Steps as steps
 use Rattle.hist_controller.specs.Left.{listed, newest_left, older_left}
 use Rattle.hist_controller.specs.Own.{own_orders}
-use Rattle.ctl_law.specs.Stands.{half_of, life_of, first_half, progress_of}
+use Rattle.ctl_law.specs.Stands.{life_of, first_half, progress_of}
 use Rattle.hist_controller.proofs.Left.{older-newest as left-two}
 use Rattle.hist_controller.proofs.Own.{one-own}
 use Rattle.ctl_law.proofs.Lists.{filter-append, filter-has, one-is}
-use Rattle.ctl_law.proofs.Own.{has_serial, half, foreign, own_at}
-use Rattle.ctl_law.proofs.Progresses.{progress, same-progress, same-first, made-first, older-left, newest-left}
+use Rattle.ctl_law.proofs.Own.{has_serial, foreign, own_at}
+use Rattle.ctl_law.proofs.Progresses.{same-progress, same-first, made-first, older-left, newest-left}
 
 last-has : (q : List ControllerOrder) (z : ControllerOrder) → Has z (q ++ z ∷ [])
 last-has [] z = inl refl
@@ -110,8 +106,8 @@ progress-remove-in p h g s n x d l i j e =
     let t : list_any (λ z. z.serial == x.serial) (left d h) ≡ true = any-has (λ (z : Association). z.serial == x.serial) x (left d h) j (eq-own x.serial) in
     let w = now-own p h g s n (RemoveIn x.serial) d l i (rw k t) (inr e) in
     same-progress _ _ _ _ _ _ _ _ _ _ refl refl (ap first_half w)
-        (ap (option_map (life_of h)) (rw k refl))
-        (ap (option_map (life_of h)) (rw k refl))
+    (ap (option_map (life_of h)) (rw k refl))
+    (ap (option_map (life_of h)) (rw k refl))
 
 pub progress-remove-out : (p : ℕ) (h : List ControllerAct) (g s n : ℕ) (x : Association) (d : Way) → IsControllerPast p (Ordered g s n (RemoveOut x.serial) ∷ h) → Has d (directions h) → Has x (left d h) → g ≡ d.sender
     → progress_of (Ordered g s n (RemoveOut x.serial) ∷ h) d ≡ steps.ordered (record { task = tasks.RemoveOut; serial = x.serial }) (progress_of h d)
@@ -120,8 +116,8 @@ progress-remove-out p h g s n x d l i j e =
     let t : list_any (λ z. z.serial == x.serial) (left d h) ≡ true = any-has (λ (z : Association). z.serial == x.serial) x (left d h) j (eq-own x.serial) in
     let w = now-own p h g s n (RemoveOut x.serial) d l i (rw k t) (inl e) in
     same-progress _ _ _ _ _ _ _ _ _ _ refl refl (ap first_half w)
-        (ap (option_map (life_of h)) (rw k refl))
-        (ap (option_map (life_of h)) (rw k refl))
+    (ap (option_map (life_of h)) (rw k refl))
+    (ap (option_map (life_of h)) (rw k refl))
 
 pub progress-put-out : (p : ℕ) (h : List ControllerAct) (g s n : ℕ) (x : Association) (d : Way) → IsControllerPast p (Ordered g s n (PutOut x) ∷ h) → Has d (directions h) → (d.id == x.way.id) ≡ true → g ≡ d.sender
     → progress_of (Ordered g s n (PutOut x) ∷ h) d ≡ steps.ordered (record { task = tasks.PutOut; serial = x.serial }) (progress_of h d)
@@ -129,8 +125,8 @@ progress-put-out p h g s n x d l i t e =
     let k : left d (Ordered g s n (PutOut x) ∷ h) ≡ left d h = append-nil (left d h) in
     let w = now-own p h g s n (PutOut x) d l i t (inl e) in
     same-progress _ _ _ _ _ _ _ _ _ _ refl refl (ap first_half w)
-        (ap (option_map (life_of (Ordered g s n (PutOut x) ∷ h))) (rw k refl) ∙ sym (made-first (steps.sent_life x.serial) (life_of h) (life_of (Ordered g s n (PutOut x) ∷ h)) (older_left d h) (λ z u. life z (z.serial == x.serial) refl)))
-        (ap (option_map (life_of (Ordered g s n (PutOut x) ∷ h))) (rw k refl) ∙ sym (made-first (steps.sent_life x.serial) (life_of h) (life_of (Ordered g s n (PutOut x) ∷ h)) (newest_left d h) (λ z u. life z (z.serial == x.serial) refl)))
+    (ap (option_map (life_of (Ordered g s n (PutOut x) ∷ h))) (rw k refl) ∙ sym (made-first (steps.sent_life x.serial) (life_of h) (life_of (Ordered g s n (PutOut x) ∷ h)) (older_left d h) (λ z u. life z (z.serial == x.serial) refl)))
+    (ap (option_map (life_of (Ordered g s n (PutOut x) ∷ h))) (rw k refl) ∙ sym (made-first (steps.sent_life x.serial) (life_of h) (life_of (Ordered g s n (PutOut x) ∷ h)) (newest_left d h) (λ z u. life z (z.serial == x.serial) refl)))
   where
     life : (z : Association) (b : Bool) → (z.serial == x.serial) ≡ b → (if z.serial == x.serial then lives.sent (life_of h z) else life_of h z) ≡ life_of (Ordered g s n (PutOut x) ∷ h) z
     life z true u = rw u refl

@@ -1,21 +1,20 @@
 -- The orders of a direction's own that wait.
-use Rattle.std.proofs.Common.{◌≡◌, ℕ, ◌+◌, ◌<◌, ◌≤◌, Bool, true, false, ◌==◌, not, ◌&&◌, ◌||◌, List, [], ◌∷◌, ◌++◌, Option, Some, None, ◌⊎◌, inl, inr, length, refl, sym, subst, ap, ◌∙◌, arith, if◌then◌else◌}
+use Rattle.std.proofs.Common.{◌≡◌, ℕ, ◌≤◌, Bool, true, false, ◌==◌, ◌||◌, List, [], ◌∷◌, ◌++◌, Option, Some, inl, inr, length, refl, sym, subst, ap, ◌∙◌, arith, if◌then◌else◌}
 use Rattle.std.proofs.lemmas.Grind.{common_steps}
 use Rattle.std.specs.List.{filter, list_any}
 use Rattle.hist_controller.specs.Acts.{Way, Association, ControllerOrder, Read, Policy, PutIn, PutOut, RemoveIn, RemoveOut, ControllerAct}
-use Rattle.hist_controller.specs.Past.{queue, directions, left, is_own, is_kind, Kind, PuttingIn, PuttingOut, RemovingIn, RemovingOut, is_put_of}
+use Rattle.hist_controller.specs.Past.{queue, directions, left, is_own}
 use Rattle.hist_controller.specs.Clauses.{Has, IsControllerPast}
 use Rattle.hist_controller.proofs.Turns.{any-has}
-use Rattle.hist_controller.proofs.Serials.{has-more, one, one-way}
+use Rattle.hist_controller.proofs.Serials.{one, one-way}
 use Rattle.hist_controller.proofs.Homes.{own-way}
 use Rattle.ctl_tunnels.specs.declared.life.HalfOrder.{HalfOrder}
 use Rattle.ctl_tunnels.specs.declared.life.Task.{Task}
 use Rattle.ctl_tunnels.specs.declared.life.Task.TheVariants as tasks
 use Rattle.ctl_tunnels.specs.Lives as lives
-use Rattle.hist_controller.specs.Own.{own_orders, IsOfLeft}
 use Rattle.ctl_law.specs.Stands.{half_of}
 use Rattle.hist_controller.proofs.Own.{waiting-left, one-own}
-use Rattle.ctl_law.proofs.Lists.{filter-none, filter-has, filter-passes, one-is}
+use Rattle.ctl_law.proofs.Lists.{filter-passes}
 
 -- the order is of this serial
 abbrev pub has_serial : ℕ → ControllerOrder → Bool

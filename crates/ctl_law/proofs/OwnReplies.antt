@@ -1,25 +1,20 @@
 -- What an answer to an order of its own makes of a direction.
-use Rattle.std.proofs.Common.{◌≡◌, ℕ, ◌+◌, ◌<◌, ◌≤◌, Bool, true, false, ◌==◌, not, ◌&&◌, ◌||◌, nat_le, nat_lt, List, [], ◌∷◌, ◌++◌, Option, Some, None, ◌⊎◌, inl, inr, length, refl, sym, subst, ap, ◌∙◌, arith, if◌then◌else◌}
-use Rattle.std.proofs.lemmas.Grind.{common_steps}
+use Rattle.std.proofs.Common.{◌≡◌, ℕ, Bool, true, false, ◌==◌, not, ◌&&◌, ◌||◌, nat_le, nat_lt, List, [], ◌∷◌, ◌++◌, Option, Some, None, ◌⊎◌, inl, inr, refl, sym, subst, ap, ◌∙◌, arith, if◌then◌else◌}
 use Rattle.std.specs.List.{filter, list_any}
 use Rattle.std.specs.Option.{option_map}
 use Rattle.ikeless_tree.specs.declared.command.Peer.{Peer}
 use Rattle.ikeless_tree.specs.declared.order.Answer.{Answer}
 use Rattle.hist_controller.specs.Acts.{Way, Association, ControllerOrder, Read, Policy, PutIn, PutOut, RemoveIn, RemoveOut, ControllerAct, Answered}
-use Rattle.hist_controller.specs.Past.{oldest, rest, queue, directions, is_over, is_wanted, left, newest_serial, is_own, PuttingIn, PuttingOut, RemovingIn, RemovingOut, is_kind, has_answer, is_out_ordered, is_spoiled, is_ended, is_cause_reading}
+use Rattle.hist_controller.specs.Past.{rest, queue, directions, is_over, is_wanted, left, newest_serial, is_own, RemovingIn, is_kind, is_cause_reading}
 use Rattle.hist_controller.specs.Law.{first}
 use Rattle.hist_controller.specs.Clauses.{Has, IsControllerPast}
 use Rattle.hist_controller.specs.Halves.{PlainAnswers}
 use Rattle.hist_controller.proofs.KeptState.{eq-own}
 use Rattle.hist_controller.proofs.Homes.{own-way}
 use Rattle.hist_controller.proofs.Gives.{first-some}
-use Rattle.hist_controller.proofs.Serials.{has-filter}
-use Rattle.hist_controller.proofs.Lists.{has-left, right-in}
-use Rattle.ctl_tunnels.specs.declared.life.HalfOrder.{HalfOrder}
 use Rattle.ctl_tunnels.specs.declared.life.Life.{Life}
 use Rattle.ctl_tunnels.specs.declared.life.Task.{Task}
 use Rattle.ctl_tunnels.specs.declared.life.Task.TheVariants as tasks
-use Rattle.ctl_tunnels.specs.declared.progress.Progress.{Progress}
 use Rattle.ctl_tunnels.specs.Lives as lives
 use Rattle.ctl_tunnels.specs.Steps as steps
 use Rattle.ctl_core.specs.Step.{front_effect}
@@ -27,12 +22,11 @@ use Rattle.hist_controller.specs.Left.{listed, newest_left, older_left}
 use Rattle.hist_controller.specs.Own.{own_orders}
 use Rattle.ctl_law.specs.Stands.{half_of, waiting_of, life_of, first_half, progress_of, direction_of}
 use Rattle.hist_controller.proofs.Left.{older-newest as left-two}
-use Rattle.hist_controller.proofs.Own.{one-own}
-use Rattle.ctl_law.proofs.Lists.{filter-none, filter-has, filter-passes, one-is, first-filter}
+use Rattle.ctl_law.proofs.Lists.{first-filter}
 use Rattle.ctl_law.proofs.Own.{half, OwnOrder, own-order, own_at, Awaits, nothing, at_sender, at_receiver, awaits}
-use Rattle.ctl_law.proofs.Progresses.{progress, same-progress, same-first, kept-first, older-left, newest-left}
+use Rattle.ctl_law.proofs.Progresses.{progress, same-progress, older-left, newest-left}
 use Rattle.ctl_law.proofs.Heard.{older-below, newest-is}
-use Rattle.ctl_law.proofs.Replies.{filter-all, filter-less, answered_life, by-parts, left-answered, left-stays, answered-other}
+use Rattle.ctl_law.proofs.Replies.{filter-less, answered_life, by-parts, left-answered, answered-other}
 
 -- ## the order that waited is gone
 
@@ -182,8 +176,8 @@ own-half : (h : List ControllerAct) (f s n : ℕ) (a : Answer) (o : ControllerOr
 own-half h f s n a o os d t m e k w r =
     by-parts h f s n a o os d e
     ∙ same-progress _ _ _ _ _ _ _ _ _ _ refl (ap (λ b. b || is_wanted d h) r.cause) (ap first_half (gone h f s n a o os d e k))
-        (ap (option_map (answered_life h f a o)) w.older ∙ kept-keep (lives.answered (record { task = t; serial = m }) a.status) (life_of h) (answered_life h f a o) (λ x. not (is_kind RemovingIn x.serial o)) (older_left d h) (λ x j. r.left x (older-left d h x j)))
-        (ap (option_map (answered_life h f a o)) w.newest ∙ kept-keep (lives.answered (record { task = t; serial = m }) a.status) (life_of h) (answered_life h f a o) (λ x. not (is_kind RemovingIn x.serial o)) (newest_left d h) (λ x j. r.left x (newest-left d h x j)))
+    (ap (option_map (answered_life h f a o)) w.older ∙ kept-keep (lives.answered (record { task = t; serial = m }) a.status) (life_of h) (answered_life h f a o) (λ x. not (is_kind RemovingIn x.serial o)) (older_left d h) (λ x j. r.left x (older-left d h x j)))
+    (ap (option_map (answered_life h f a o)) w.newest ∙ kept-keep (lives.answered (record { task = t; serial = m }) a.status) (life_of h) (answered_life h f a o) (λ x. not (is_kind RemovingIn x.serial o)) (newest_left d h) (λ x j. r.left x (newest-left d h x j)))
     ∙ sym (ap (λ b. if b then progress (is_over d h) (is_wanted d h) None (steps.kept (lives.answered (record { task = t; serial = m }) a.status) (option_map (life_of h) (older_left d h))) (steps.kept (lives.answered (record { task = t; serial = m }) a.status) (option_map (life_of h) (newest_left d h))) else progress_of h d) waits)
   where
     waits : steps.awaits m (first_half (own_orders d h)) ≡ true

@@ -1,21 +1,19 @@
 -- The pass over the directions gives the orders of the law, and leaves what stands for the past after them.
-use Rattle.std.proofs.Common.{◌≡◌, ℕ, ◌+◌, ◌<◌, ◌≤◌, Bool, true, false, ◌==◌, not, ◌&&◌, ◌||◌, List, [], ◌∷◌, ◌++◌, Option, Some, None, ◌⊎◌, inl, inr, length, refl, sym, subst, ap, ◌∙◌, arith, if◌then◌else◌, append-nil}
-use Rattle.std.proofs.lemmas.Grind.{common_steps}
+use Rattle.std.proofs.Common.{◌≡◌, ℕ, ◌+◌, ◌≤◌, Bool, true, false, ◌==◌, List, [], ◌∷◌, ◌++◌, inl, inr, length, refl, sym, subst, ap, ◌∙◌, arith, if◌then◌else◌, append-nil}
 use Rattle.std.specs.List.{list_any}
 use Rattle.ikeless_tree.specs.declared.command.Peer.{Peer}
 use Rattle.hist_acts.specs.Past.{after}
 use Rattle.hist_controller.specs.Acts.{Way, Association, ControllerOrder, PutIn, PutOut, RemoveIn, RemoveOut, ControllerAct, Opened, Cut, Answered, Heard, Ordered, Accepted, Refused}
-use Rattle.hist_controller.specs.Past.{directions, serials, spare, is_over, is_wanted, left, is_own, is_busy, inbound_put}
+use Rattle.hist_controller.specs.Past.{directions, serials, spare, is_over, left, is_own, is_busy}
 use Rattle.hist_controller.specs.Law.{give, pass, key_put, out_put, in_remove, out_remove, first, may_out_remove, may_in_remove, may_out_put, may_in_put}
 use Rattle.hist_controller.specs.Clauses.{Has, IsControllerPast}
 use Rattle.hist_controller.specs.Halves.{PlainAnswers}
 use Rattle.hist_controller.proofs.Clauses.{past-after, may-given, after-append}
 use Rattle.hist_controller.proofs.Gives.{Given, nothing, out_removed, in_removed, out_was_put, in_was_put, given, ways-give}
 use Rattle.hist_controller.proofs.Homes.{own-way}
-use Rattle.hist_controller.proofs.KeptState.{Rising, eq-own}
+use Rattle.hist_controller.proofs.KeptState.{Rising}
 use Rattle.hist_controller.proofs.Serials.{one, from}
 use Rattle.ctl_tunnels.specs.declared.progress.Progress.{Progress}
-use Rattle.ctl_tunnels.specs.declared.tunnel.Direction.{Direction}
 use Rattle.ctl_tunnels.specs.declared.tunnel.Pair.{Pair}
 use Rattle.ctl_tunnels.specs.declared.tunnel.Tunnel.{Tunnel}
 use Rattle.ctl_tunnels.specs.Tunnels as tunnels
@@ -256,9 +254,9 @@ pass-is ps ss ks ready ch h (d ∷ e ∷ ds) ts qs x m l y r f b n (spent_too _ 
     let late : (z : Way) → Has z ds → m + 1 + 1 ≤ z.id = λ z k. from (m + 1 + 1) ds z r.1.1 k in
     let g : (z : Way) → Has z ds → Has z (directions h) = λ z k. f z (inr (inr k)) in
     pass-spent ps h d e ds ts qs ss ks ready ch x i j
-        (untouched-pass (length ps) h ds d l g (f d (inl refl)) (λ z k. let q = late z k in let w = r.0 in grind arith))
-        (untouched-pass (length ps) h ds e l g (f e (inr (inl refl))) (λ z k. let q = late z k in let w = r.1.0 in grind arith))
-        (pass-is ps ss ks ready ch h ds ts qs x (m + 1 + 1) l y r.1.1 g b n c)
+    (untouched-pass (length ps) h ds d l g (f d (inl refl)) (λ z k. let q = late z k in let w = r.0 in grind arith))
+    (untouched-pass (length ps) h ds e l g (f e (inr (inl refl))) (λ z k. let q = late z k in let w = r.1.0 in grind arith))
+    (pass-is ps ss ks ready ch h ds ts qs x (m + 1 + 1) l y r.1.1 g b n c)
 pass-is ps ss ks ready ch h (d ∷ e ∷ ds) (t ∷ ts) (q ∷ qs) x m l y r f b n (changed _ _ _ _ _ _ _ a v w c) =
     let late : (z : Way) → Has z ds → m + 1 + 1 ≤ z.id = λ z k. from (m + 1 + 1) ds z r.1.1 k in
     let hd : Has d (directions h) = f d (inl refl) in
@@ -276,15 +274,15 @@ pass-is ps ss ks ready ch h (d ∷ e ∷ ds) (t ∷ ts) (q ∷ qs) x m l y r f b
     let n2 : (second_draft ps h d e x).serials ≡ serials (second_past h d e) = serials-given ps (first_past h d) e (first_draft ps h d x) (give (first_past h d) e) n1 (given (first_past h d) e) in
     let f2 : (z : Way) → Has z ds → Has z (directions (second_past h d e)) = λ z k. has-give (first_past h d) e z (has-give h d z (f z (inr (inr k)))) in
     let moved : (z : Way) → Has z ds → Untouched h (second_past h d e) z = λ z k.
-        and-untouched h (first_past h d) (second_past h d e) z
-            (untouched-give (length ps) h d z l hd (f z (inr (inr k))) (let o = late z k in let i = r.0 in grind arith))
-            (untouched-give (length ps) (first_past h d) e z l1 he1 (has-give h d z (f z (inr (inr k)))) (let o = late z k in let i = r.1.0 in grind arith)) in
+    and-untouched h (first_past h d) (second_past h d e) z
+    (untouched-give (length ps) h d z l hd (f z (inr (inr k))) (let o = late z k in let i = r.0 in grind arith))
+    (untouched-give (length ps) (first_past h d) e z l1 he1 (has-give h d z (f z (inr (inr k)))) (let o = late z k in let i = r.1.0 in grind arith)) in
     pass-two ps h d e ds t ts q qs ss ks ready ch x a v w
-        (drafts ps h d ss ks ready x l y hd b n)
-        (untouched-give (length ps) h d e l hd he apart.1)
-        (drafts ps (first_past h d) e ss ks ready (first_draft ps h d x) l1 y1 he1 b1 n1)
-        (and-untouched (first_past h d) (second_past h d e) (last_past h d e ds) d
-            (untouched-give (length ps) (first_past h d) e d l1 he1 hd1 apart.0)
-            (untouched-pass (length ps) (second_past h d e) ds d l2 f2 (has-give (first_past h d) e d hd1) (λ z k. let o = late z k in let i = r.0 in grind arith)))
-        (untouched-pass (length ps) (second_past h d e) ds e l2 f2 (has-give (first_past h d) e e he1) (λ z k. let o = late z k in let i = r.1.0 in grind arith))
-        (pass-is ps ss ks ready ch (second_past h d e) ds ts qs (second_draft ps h d e x) (m + 1 + 1) l2 y2 r.1.1 f2 b2 n2 (changed-moves ch h (second_past h d e) ds ts qs c moved))
+    (drafts ps h d ss ks ready x l y hd b n)
+    (untouched-give (length ps) h d e l hd he apart.1)
+    (drafts ps (first_past h d) e ss ks ready (first_draft ps h d x) l1 y1 he1 b1 n1)
+    (and-untouched (first_past h d) (second_past h d e) (last_past h d e ds) d
+    (untouched-give (length ps) (first_past h d) e d l1 he1 hd1 apart.0)
+    (untouched-pass (length ps) (second_past h d e) ds d l2 f2 (has-give (first_past h d) e d hd1) (λ z k. let o = late z k in let i = r.0 in grind arith)))
+    (untouched-pass (length ps) (second_past h d e) ds e l2 f2 (has-give (first_past h d) e e he1) (λ z k. let o = late z k in let i = r.1.0 in grind arith))
+    (pass-is ps ss ks ready ch (second_past h d e) ds ts qs (second_draft ps h d e x) (m + 1 + 1) l2 y2 r.1.1 f2 b2 n2 (changed-moves ch h (second_past h d e) ds ts qs c moved))

@@ -1,11 +1,10 @@
 -- How far a direction has come is told by five parts.
-use Rattle.std.proofs.Common.{◌≡◌, ℕ, Bool, true, false, ◌==◌, not, ◌&&◌, ◌||◌, List, [], ◌∷◌, ◌++◌, Option, Some, None, ◌⊎◌, inl, inr, refl, sym, subst, ap, ◌∙◌, arith, if◌then◌else◌}
+use Rattle.std.proofs.Common.{◌≡◌, Bool, ◌||◌, List, ◌++◌, Option, Some, None, refl, ap, arith}
 use Rattle.std.specs.Option.{option_map}
 use Rattle.std.specs.List.{list_any}
 use Rattle.hist_controller.specs.Acts.{Way, Association, ControllerAct}
 use Rattle.hist_controller.specs.Past.{left}
-use Rattle.hist_controller.specs.Clauses.{Has, IsControllerPast}
-use Rattle.hist_controller.specs.Halves.{PlainAnswers}
+use Rattle.hist_controller.specs.Clauses.{Has}
 use Rattle.hist_controller.proofs.Gives.{first-some}
 use Rattle.ctl_tunnels.specs.declared.life.HalfOrder.{HalfOrder}
 use Rattle.ctl_tunnels.specs.declared.life.Life.{Life}

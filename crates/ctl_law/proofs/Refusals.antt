@@ -6,7 +6,7 @@ use Rattle.ikeless_tree.specs.declared.command.Peer.{Peer}
 use Rattle.ikeless_tree.specs.declared.command.Refusal.{Refusal}
 use Rattle.ikeless_tree.specs.declared.command.Refusal.TheVariants as refusals
 use Rattle.ikeless_tree.specs.declared.entry.SpdEntry.{SpdEntry}
-use Rattle.hist_controller.specs.Acts.{PlacedTunnel, SetPolicy, Tunnel, End, Rekey, Keys, ControllerAct}
+use Rattle.hist_controller.specs.Acts.{PlacedTunnel, SetPolicy, ControllerAct}
 use Rattle.hist_controller.specs.Past.{directions}
 use Rattle.hist_controller.specs.Law.{refusal, placed_command, peer_number, event_refusal, one_or_none}
 use Rattle.hist_controller.specs.Law as law

@@ -1,41 +1,32 @@
 -- What an answer to an order makes of a direction.
-use Rattle.std.proofs.Common.{◌≡◌, ℕ, ◌+◌, ◌<◌, ◌≤◌, ◌^◌, Bool, true, false, ◌==◌, not, ◌&&◌, ◌||◌, nat_le, nat_lt, List, [], ◌∷◌, ◌++◌, Option, Some, None, ◌⊎◌, inl, inr, length, refl, sym, subst, ap, ◌∙◌, arith, if◌then◌else◌}
-use Rattle.std.proofs.lemmas.Grind.{common_steps}
+use Rattle.std.proofs.Common.{◌≡◌, ℕ, ◌<◌, ◌^◌, Bool, true, false, ◌==◌, not, ◌||◌, nat_lt, List, [], ◌∷◌, Option, Some, None, inl, inr, refl, sym, subst, ap, ◌∙◌, arith, if◌then◌else◌}
 use Rattle.std.specs.List.{filter, list_any}
 use Rattle.std.specs.Option.{option_map}
 use Rattle.std.specs.Str.{bytes_eq}
 use Rattle.ikeless_tree.specs.declared.command.Peer.{Peer}
 use Rattle.ikeless_tree.specs.declared.order.Answer.{Answer}
 use Rattle.hist_controller.specs.Acts.{Way, Association, in_name, out_name, ControllerOrder, Read, Policy, PutIn, PutOut, RemoveIn, RemoveOut, ControllerAct, Answered}
-use Rattle.hist_controller.specs.Past.{oldest, rest, queue, directions, is_over, is_wanted, left, newest_serial, is_own, Kind, PuttingIn, PuttingOut, RemovingIn, RemovingOut, is_kind, is_answer_to, has_answer, is_out_ordered, is_shown, is_spoiled, is_ended, is_cause_reading, is_unseen}
+use Rattle.hist_controller.specs.Past.{rest, queue, directions, is_over, is_wanted, left, newest_serial, is_own, Kind, PuttingIn, PuttingOut, RemovingIn, RemovingOut, is_kind, has_answer, is_out_ordered, is_shown, is_spoiled, is_ended, is_cause_reading, is_unseen}
 use Rattle.hist_controller.specs.Law.{first}
 use Rattle.hist_controller.specs.Clauses.{Has, IsControllerPast}
 use Rattle.hist_controller.specs.Halves.{PlainAnswers}
-use Rattle.hist_controller.proofs.Lists.{has-left, right-in}
-use Rattle.hist_controller.proofs.KeptState.{eq-own}
 use Rattle.hist_controller.proofs.Homes.{own-way}
-use Rattle.hist_controller.proofs.Gives.{first-some}
-use Rattle.hist_controller.proofs.Serials.{has-filter}
-use Rattle.ctl_tunnels.specs.declared.life.HalfOrder.{HalfOrder}
 use Rattle.ctl_tunnels.specs.declared.life.Life.{Life}
 use Rattle.ctl_tunnels.specs.declared.life.Task.{Task}
 use Rattle.ctl_tunnels.specs.declared.life.Task.TheVariants as tasks
-use Rattle.ctl_tunnels.specs.declared.progress.Progress.{Progress}
 use Rattle.ctl_tunnels.specs.Halves.{half_named, names_in, names_out, shows_in, shows_out}
 use Rattle.ctl_tunnels.specs.Lives as lives
 use Rattle.ctl_tunnels.specs.Steps as steps
 use Rattle.ctl_tunnels.proofs.HalfNames.{half-is}
-use Rattle.ctl_core.specs.Step.{front_effect, read_effect}
-use Rattle.hist_controller.specs.Left.{listed, newest_left, older_left}
+use Rattle.ctl_core.specs.Step.{front_effect}
+use Rattle.hist_controller.specs.Left.{newest_left, older_left}
 use Rattle.hist_controller.specs.Own.{own_orders}
-use Rattle.ctl_law.specs.Stands.{half_of, waiting_of, life_of, first_half, progress_of, direction_of}
+use Rattle.ctl_law.specs.Stands.{waiting_of, life_of, first_half, progress_of, direction_of}
 use Rattle.hist_controller.proofs.Left.{older-newest as left-two}
 use Rattle.hist_controller.proofs.KeysInTurn.{left-serial}
-use Rattle.hist_controller.proofs.Own.{one-own}
-use Rattle.ctl_law.proofs.Lists.{any-same, filter-same, filter-none, filter-has, filter-passes, one-is, first-filter}
-use Rattle.ctl_law.proofs.Own.{has_serial, half, home, OwnOrder, own-order, foreign, own_at, Awaits, nothing, at_sender, at_receiver, awaits}
-use Rattle.ctl_law.proofs.Progresses.{progress, same-progress, same-first, made-first, kept-first, older-left, newest-left, any-two}
-use Rattle.ctl_law.proofs.Heard.{older-below, newest-is}
+use Rattle.ctl_law.proofs.Lists.{any-same, filter-none, filter-has}
+use Rattle.ctl_law.proofs.Own.{has_serial, foreign, Awaits, nothing, at_sender, at_receiver, awaits}
+use Rattle.ctl_law.proofs.Progresses.{progress, same-progress, same-first, made-first, older-left, newest-left, any-two}
 
 pub kind-serial : (k : Kind) (n : ℕ) (o : ControllerOrder) → has_serial n o ≡ false → is_kind k n o ≡ false
 kind-serial PuttingIn n Read e = refl
@@ -162,8 +153,8 @@ pub answered-read : (p : ℕ) (h : List ControllerAct) (f s n : ℕ) (a : Answer
 answered-read p h f s n a os ps d l y i e =
     by-stays h f s n a Read os d (λ x. steps.read_life (d.receiver == f) (shows_in a.names) (life_of h x)) e (stays p h f s n a Read os d l i e refl) read
     ∙ same-progress _ _ _ _ _ _ _ _ _ _ refl (ap (λ b. b || is_wanted d h) missing) refl
-        (sym (made-first (steps.read_life (d.receiver == f) (shows_in a.names)) (life_of h) (λ x. steps.read_life (d.receiver == f) (shows_in a.names) (life_of h x)) (older_left d h) (λ x j. refl)))
-        (sym (made-first (steps.read_life (d.receiver == f) (shows_in a.names)) (life_of h) (λ x. steps.read_life (d.receiver == f) (shows_in a.names) (life_of h x)) (newest_left d h) (λ x j. refl)))
+    (sym (made-first (steps.read_life (d.receiver == f) (shows_in a.names)) (life_of h) (λ x. steps.read_life (d.receiver == f) (shows_in a.names) (life_of h x)) (older_left d h) (λ x j. refl)))
+    (sym (made-first (steps.read_life (d.receiver == f) (shows_in a.names)) (life_of h) (λ x. steps.read_life (d.receiver == f) (shows_in a.names) (life_of h x)) (newest_left d h) (λ x j. refl)))
   where
     small : (x : Association) → Has x (left d h) → x.serial < 2 ^ 32
     small x j = let q = left-serial p h l d x j in omega arith

@@ -1,31 +1,29 @@
 -- A session opened or cut.
-use Rattle.std.proofs.Common.{◌≡◌, ℕ, ◌+◌, ◌<◌, Bool, true, false, ◌==◌, not, ◌&&◌, ◌||◌, List, [], ◌∷◌, ◌++◌, Option, Some, None, length, map, refl, sym, subst, ap, ◌∙◌, arith, if◌then◌else◌}
+use Rattle.std.proofs.Common.{◌≡◌, ℕ, ◌+◌, ◌<◌, Bool, true, false, ◌==◌, not, ◌&&◌, ◌||◌, List, [], ◌∷◌, Option, Some, None, length, refl, sym, subst, ap, ◌∙◌, arith, if◌then◌else◌}
 use Rattle.ikeless_tree.specs.declared.command.Peer.{Peer}
 use Rattle.ikeless_tree.specs.declared.entry.SpdEntry.{SpdEntry}
 use Rattle.ikeless_tree.specs.declared.order.Order.TheVariants as tree
 use Rattle.hist_acts.specs.Past.{after}
-use Rattle.hist_controller.specs.Acts.{Way, ControllerOrder, Read, Policy, ControllerAct, Opened, Cut, Ordered, Cuts}
+use Rattle.hist_controller.specs.Acts.{Way, Read, ControllerAct, Opened, Cut, Cuts}
 use Rattle.hist_controller.specs.Past.{is_open, is_first_answered, is_read, openings, queue, newest_list, directions}
 use Rattle.hist_controller.specs.Law.{order, with_list, read_put, going}
-use Rattle.hist_controller.specs.Clauses.{Has, IsControllerPast, ControllerMayActAll}
+use Rattle.hist_controller.specs.Clauses.{Has, IsControllerPast}
 use Rattle.hist_controller.specs.Halves.{PlainAnswers}
 use Rattle.hist_controller.proofs.Accepts.{placings}
 use Rattle.hist_controller.proofs.Clauses.{may-read-put, may-block, past-after}
 use Rattle.hist_controller.proofs.KeptState.{eq-own}
 use Rattle.hist_controller.proofs.Waits.{shut-queue}
 use Rattle.ctl_core.specs.declared.peer.Session.TheVariants as sessions
-use Rattle.ctl_core.specs.declared.peer.Station.{Station}
 use Rattle.ctl_core.specs.Core as core
 use Rattle.ctl_core.specs.Core.{Core, at}
 use Rattle.ctl_core.specs.Drafts.{Drafted, given}
-use Rattle.ctl_core.specs.Pass as passes
 use Rattle.ctl_core.specs.Step as step
-use Rattle.ctl_law.specs.Stands.{waiting_of, session_of, station_of, numbered, progress_of, direction_of, IsSpent, StandsFor}
+use Rattle.ctl_law.specs.Stands.{station_of, StandsFor}
 use Rattle.ctl_law.proofs.Drafts.{drafting, with_order}
 use Rattle.ctl_law.proofs.Follows.{Follows, follows-still, follows-at}
-use Rattle.ctl_law.proofs.Goes.{Asked, Runs, Ran, runs, longer, all_orders}
+use Rattle.ctl_law.proofs.Goes.{Asked, Ran, runs, longer, all_orders}
 use Rattle.ctl_law.proofs.Heard.{progress-opened}
-use Rattle.ctl_law.proofs.Lines.{Orders, orders_for, Same, same-after}
+use Rattle.ctl_law.proofs.Lines.{same-after}
 use Rattle.ctl_law.proofs.Looks.{open-at, closed-at, list-at, reads-at, reads-set, station-after, changes}
 use Rattle.ctl_law.proofs.Lost.{progress-cut}
 use Rattle.ctl_law.proofs.Numbered.{numbered-at}

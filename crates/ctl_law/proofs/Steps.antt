@@ -1,10 +1,7 @@
 -- Every step follows the law, and so does every run.
-use Rattle.std.proofs.Common.{◌≡◌, ℕ, ◌+◌, ◌<◌, ◌≤◌, Bool, true, false, ◌==◌, not, ◌&&◌, ◌||◌, nat_lt, List, [], ◌∷◌, ◌++◌, Option, Some, None, ◌⊎◌, inl, inr, length, map, drop, refl, sym, subst, ap, ◌∙◌, arith, if◌then◌else◌, append_assoc}
-use Rattle.std.proofs.lemmas.Grind.{common_steps}
+use Rattle.std.proofs.Common.{◌≡◌, ℕ, ◌+◌, ◌<◌, ◌≤◌, Bool, true, false, List, [], ◌∷◌, ◌++◌, Option, Some, None, length, map, drop, refl, sym, subst, ap, ◌∙◌, arith, if◌then◌else◌, append_assoc}
 use Rattle.std.specs.List.{list_any}
 use Rattle.std.specs.Option.{option_map}
-use Rattle.ikeless_tree.specs.declared.command.Command.{Command}
-use Rattle.ikeless_tree.specs.declared.command.Command.TheVariants as commands
 use Rattle.ikeless_tree.specs.declared.command.Peer.{Peer}
 use Rattle.ikeless_tree.specs.declared.command.Refusal.{Refusal}
 use Rattle.ikeless_tree.specs.declared.entry.SpdEntry.{SpdEntry}
@@ -12,27 +9,23 @@ use Rattle.ikeless_tree.specs.declared.order.Answer.{Answer}
 use Rattle.ikeless_tree.specs.declared.order.Notice.{Notice}
 use Rattle.ikeless_tree.specs.declared.order.Notice.TheVariants as notices
 use Rattle.hist_acts.specs.Past.{after}
-use Rattle.hist_controller.specs.Acts.{Way, ControllerOrder, Read, Policy, PutIn, PutOut, RemoveIn, RemoveOut, PlacedCommand, SetPolicy, Tunnel, End, Rekey, Keys, ControllerAct, Opened, Cut, Answered, Heard, Ordered, Accepted, Refused, ControllerEvent, Told, Opens, Cuts, Answers, Notices}
+use Rattle.hist_controller.specs.Acts.{ControllerOrder, Read, Policy, PlacedCommand, SetPolicy, Tunnel, End, Rekey, Keys, ControllerAct, Opened, Cut, Answered, Heard, Ordered, Accepted, Refused, ControllerEvent}
 use Rattle.hist_controller.specs.Past.{is_open, openings, answered, oldest, queue, newest_list, directions, spare, serials, keys}
-use Rattle.hist_controller.specs.Law.{order, is_reading, with_list, read_put, by_command, by_notice, asked, pass, asked_then, going, placed_command, refusal, by_refusal, by_answer, block, history, event_refusal, one_or_none, refusals_in}
-use Rattle.hist_controller.specs.Clauses.{Has, IsControllerPast}
+use Rattle.hist_controller.specs.Law.{order, is_reading, with_list, by_command, by_notice, asked, asked_then, going, placed_command, refusal, by_refusal, by_answer, block, history, event_refusal, one_or_none, refusals_in}
+use Rattle.hist_controller.specs.Clauses.{IsControllerPast}
 use Rattle.hist_controller.specs.Halves.{is_plain, PlainAnswers}
 use Rattle.hist_controller.specs.Told.{order_told}
 use Rattle.hist_controller.proofs.Accepts.{few-keys, few-serials}
 use Rattle.hist_controller.proofs.Clauses.{may-block, past-after, after-append}
 use Rattle.hist_controller.proofs.KeysInTurn.{spare-keys}
 use Rattle.hist_controller.proofs.Reasons.{refuses}
-use Rattle.ctl_core.specs.declared.acts.CtlAct.{CtlAct}
-use Rattle.ctl_core.specs.declared.acts.CtlAct.TheVariants as done
 use Rattle.ctl_core.specs.declared.acts.CtlEvent.{CtlEvent}
 use Rattle.ctl_core.specs.declared.acts.CtlEvent.TheVariants as events
-use Rattle.ctl_core.specs.declared.peer.Station.{Station}
 use Rattle.ctl_core.specs.Core as core
 use Rattle.ctl_core.specs.Core.{Core, told_nothing, expected}
-use Rattle.ctl_core.specs.Step as step
 use Rattle.ctl_core.specs.Step.{stepped}
-use Rattle.ctl_law.specs.Stands.{waiting_of, station_of, numbered, TunnelsStand, no_more, StandsFor}
-use Rattle.ctl_law.specs.Told.{event_of, events_of, done_at, all_done, is_status_of, may_answer, MayBeTold, MayAllBeTold, run, run_core, refusals_of}
+use Rattle.ctl_law.specs.Stands.{waiting_of, station_of, numbered, no_more, StandsFor}
+use Rattle.ctl_law.specs.Told.{event_of, events_of, done_at, all_done, may_answer, MayBeTold, MayAllBeTold, run, run_core, refusals_of}
 use Rattle.ctl_law.proofs.AnswersFollow.{answered-follows, plain-status}
 use Rattle.ctl_law.proofs.Follows.{Follows}
 use Rattle.ctl_law.proofs.Lines.{Orders, orders-more, orders-pass}

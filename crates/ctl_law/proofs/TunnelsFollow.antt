@@ -1,12 +1,10 @@
 -- A tunnel commanded, and every other command.
-use Rattle.std.proofs.Common.{◌≡◌, ℕ, ◌+◌, ◌<◌, ◌≤◌, Bool, true, false, ◌==◌, not, ◌&&◌, ◌||◌, nat_le, nat_lt, List, [], ◌∷◌, ◌++◌, Option, Some, None, ◌⊎◌, inl, inr, length, refl, sym, subst, ap, ◌∙◌, arith, if◌then◌else◌, append-nil}
-use Rattle.std.proofs.lemmas.Grind.{common_steps}
+use Rattle.std.proofs.Common.{◌≡◌, ℕ, ◌<◌, false, List, [], ◌∷◌, ◌++◌, Option, Some, None, length, refl, sym, subst, ap, ◌∙◌, arith, append-nil}
 use Rattle.ikeless_tree.specs.declared.command.Command.{Command}
 use Rattle.ikeless_tree.specs.declared.command.Command.TheVariants as commands
 use Rattle.ikeless_tree.specs.declared.command.Peer.{Peer}
 use Rattle.ikeless_tree.specs.declared.command.Refusal.{Refusal}
-use Rattle.ikeless_tree.specs.declared.command.TunnelSpec.{TunnelSpec}
-use Rattle.hist_controller.specs.Acts.{Way, PlacedTunnel, PlacedCommand, Tunnel, ControllerAct, Accepted}
+use Rattle.hist_controller.specs.Acts.{Way, PlacedTunnel, Tunnel, ControllerAct, Accepted}
 use Rattle.hist_controller.specs.Past.{directions, both_ways, is_made_by, is_over, left}
 use Rattle.hist_controller.specs.Past as past
 use Rattle.hist_controller.specs.Law.{going, by_refusal, refusal, placed_command, peer_number}
@@ -23,7 +21,7 @@ use Rattle.ctl_core.specs.Core as core
 use Rattle.ctl_core.specs.Core.{Core}
 use Rattle.ctl_core.specs.Pass as passes
 use Rattle.ctl_core.specs.Step as step
-use Rattle.ctl_law.specs.Stands.{progress_of, station_of, direction_of, IsTunnel, IsSpent, TunnelsStand, StandsFor}
+use Rattle.ctl_law.specs.Stands.{station_of, IsSpent, StandsFor}
 use Rattle.ctl_law.proofs.CommandsFollow.{quietly, policy-follows, end-follows, rekey-follows, keys-follow}
 use Rattle.ctl_law.proofs.Follows.{Follows, follows-refused}
 use Rattle.ctl_law.proofs.Heard.{progress-tunnel, progress-new}
@@ -58,8 +56,8 @@ taken : (ps : List Peer) (h : List ControllerAct) (c : Core) (t : PlacedTunnel) 
 taken ps h c t l y f w =
     quietly ps h (step.with_tunnel c (tunnels.of_spec t.spec t.first t.second) t.spec.now) step.nothing (Tunnel t) l y w f.gateways (f.keys ∙ sym (append-nil (past.keys h))) f.serials
     (changed-more step.nothing (Accepted (Tunnel t) ∷ h) (directions h) (both_ways (length (directions h)) t) (changes.unspent_tunnels c.tunnels c.pairs) (tunnels.of_spec t.spec t.first t.second ∷ []) (changes.unspent_pairs c.tunnels c.pairs) (tunnels.begun t.spec.now ∷ [])
-        (all-changes step.nothing h (Accepted (Tunnel t) ∷ h) (directions h) _ _ (unspent-stand (length ps) h (directions h) c.tunnels c.pairs l y f.tunnels) (λ d j. sym (progress-tunnel h t d j)) (λ d j u. spent-then h t d j u))
-        (new-tunnel (length ps) h t l))
+    (all-changes step.nothing h (Accepted (Tunnel t) ∷ h) (directions h) _ _ (unspent-stand (length ps) h (directions h) c.tunnels c.pairs l y f.tunnels) (λ d j. sym (progress-tunnel h t d j)) (λ d j u. spent-then h t d j u))
+    (new-tunnel (length ps) h t l))
     (λ j. refl)
 
 pub same-refusal : (ps : List Peer) (h : List ControllerAct) (c : Core) (t : PlacedTunnel) → IsControllerPast (length ps) h → PlainAnswers h → StandsFor ps h c → step.tunnel_refusal c t.spec.reqid t.first t.second ≡ refusal (length ps) h (Tunnel t)

@@ -1,13 +1,12 @@
 -- Which tunnels are there, and how many.
-use Rattle.std.proofs.Common.{◌≡◌, ℕ, ◌+◌, ◌<◌, Bool, true, false, cond, ◌==◌, not, ◌&&◌, ◌||◌, List, [], ◌∷◌, ◌++◌, Option, Some, None, ◌⊎◌, inl, inr, length, refl, sym, subst, ap, ◌∙◌, arith, if◌then◌else◌, count_by}
-use Rattle.std.proofs.lemmas.Grind.{common_steps}
+use Rattle.std.proofs.Common.{◌≡◌, ℕ, ◌+◌, Bool, true, false, cond, ◌==◌, not, ◌&&◌, ◌||◌, List, [], ◌∷◌, ◌++◌, Option, Some, None, refl, sym, ap, ◌∙◌, arith, if◌then◌else◌}
 use Rattle.std.proofs.lemmas.List.Sums.{sum_by-cons}
 use Rattle.std.specs.List.{list_any}
 use Rattle.std.specs.Option.{option_map}
 use Rattle.hist_controller.specs.Acts.{Way, Association, ControllerAct}
-use Rattle.hist_controller.specs.Past.{directions, is_over, left}
+use Rattle.hist_controller.specs.Past.{is_over, left}
 use Rattle.hist_controller.specs.Law as law
-use Rattle.hist_controller.specs.Clauses.{Has, IsControllerPast}
+use Rattle.hist_controller.specs.Clauses.{IsControllerPast}
 use Rattle.hist_controller.specs.Halves.{PlainAnswers}
 use Rattle.hist_controller.specs.Left.{listed, newest_left, older_left}
 use Rattle.hist_controller.proofs.Left.{older-newest as left-two}
@@ -16,7 +15,7 @@ use Rattle.ctl_tunnels.specs.declared.tunnel.Pair.{Pair}
 use Rattle.ctl_tunnels.specs.declared.tunnel.Tunnel.{Tunnel}
 use Rattle.ctl_tunnels.specs.Steps as steps
 use Rattle.ctl_core.specs.Changes as changes
-use Rattle.ctl_law.specs.Stands.{life_of, progress_of, IsTunnel, IsSpent, TunnelsStand, no_more, left_out, stands}
+use Rattle.ctl_law.specs.Stands.{life_of, progress_of, IsSpent, TunnelsStand, no_more, left_out, stands}
 
 -- ## a tunnel of a reqid
 
@@ -105,9 +104,9 @@ tunnels-count p h _ _ _ l y (left_out d e ds ts qs a b k) =
 tunnels-count p h _ _ _ l y (stands d e ds t ts qs a k) =
     let ih : changes.count_tunnels qs ≡ law.tunnels h ds = tunnels-count p h ds ts qs l y k in
     let u : not (steps.is_spent (progress_of h d) && steps.is_spent (progress_of h e)) ≡ (law.is_counted h d || law.is_counted h e) =
-        ap (λ b. not (b && steps.is_spent (progress_of h e))) (spent-is p h d l y)
-        ∙ ap (λ b. not ((is_over d h && law.is_none (left d h)) && b)) (spent-is p h e l y)
-        ∙ counted-is (is_over d h) (law.is_none (left d h)) (is_over e h) (law.is_none (left e h)) in
+    ap (λ b. not (b && steps.is_spent (progress_of h e))) (spent-is p h d l y)
+    ∙ ap (λ b. not ((is_over d h && law.is_none (left d h)) && b)) (spent-is p h e l y)
+    ∙ counted-is (is_over d h) (law.is_none (left d h)) (is_over e h) (law.is_none (left e h)) in
     sum_by-cons (λ (q : Pair). cond (not (changes.is_spent q)) 1 0) (record { forth = progress_of h d; back = progress_of h e }) qs
     ∙ ap (λ b. cond b 1 0 + changes.count_tunnels qs) u
     ∙ ap (λ n. cond (law.is_counted h d || law.is_counted h e) 1 0 + n) ih

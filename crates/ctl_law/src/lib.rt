@@ -3,4 +3,6 @@
 
 mod laws;
 
-pub use laws::{begins, expects_oldest, keeps_within_bounds, refuses_first, runs_follow, steps_follow};
+pub use laws::{
+    begins, expects_oldest, keeps_within_bounds, refuses_first, runs_follow, steps_follow,
+};
