@@ -5,7 +5,8 @@ use Rattle.std.specs.Option.{option_map}
 use Rattle.std.specs.Str.{bytes_eq}
 use Rattle.ikeless_tree.specs.declared.command.Peer.{Peer}
 use Rattle.ikeless_tree.specs.declared.order.Answer.{Answer}
-use Rattle.hist_controller.specs.Acts.{Way, Association, in_name, out_name, ControllerOrder, Read, Policy, PutIn, PutOut, RemoveIn, RemoveOut, ControllerAct, Answered}
+use Rattle.ikeless_tree.specs.Half.{in_name, out_name}
+use Rattle.hist_controller.specs.Acts.{Way, Association, ControllerOrder, Read, Policy, PutIn, PutOut, RemoveIn, RemoveOut, ControllerAct, Answered}
 use Rattle.hist_controller.specs.Past.{rest, queue, directions, is_over, is_wanted, left, newest_serial, is_own, Kind, PuttingIn, PuttingOut, RemovingIn, RemovingOut, is_kind, has_answer, is_out_ordered, is_shown, is_spoiled, is_ended, is_cause_reading, is_unseen}
 use Rattle.hist_controller.specs.Law.{first}
 use Rattle.hist_controller.specs.Clauses.{Has, IsControllerPast}
