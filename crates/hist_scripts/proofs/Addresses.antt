@@ -30,7 +30,7 @@ quad-whole parts octets is = by-form (is_quad parts) refl is
         let e : map (digits_value 10) parts ≡ octets = cc in
         let n : (length parts == 4) ≡ true = (and_parts (length parts == 4) _ f).0 in
         let m : length parts ≡ 4 = grind arith in
-        sym (ap length e) ∙ (length-map (digits_value 10) parts ∙ m)
+        sym (ap length e) ∙ (length-map parts (digits_value 10) ∙ m)
 
     by-form : (b : Bool) → is_quad parts ≡ b → cond (not b) (Err Form) (cond (not (list_all fits_octet parts)) (Err Range) (Ok (map (digits_value 10) parts))) ≡ Ok octets → length octets ≡ 4
     by-form false f t = cc
