@@ -42,9 +42,6 @@ record Marked (h : List ControllerAct) : Type 0 where
 first-of-4 : (a b c : Bool) → (a && b && c) ≡ true → a ≡ true
 first-of-4 a b c e = grind arith
 
-old-ended : (h : List ControllerAct) (o : ControllerOrder) (x : Association) → is_kind PuttingIn x.serial o ≡ false → is_ended x h ≡ true → (not (is_kind PuttingIn x.serial o) && is_ended x h) ≡ true
-old-ended h o x r e = rw (r, e) refl
-
 pub old-left : (h : List ControllerAct) (d : Way) (x : Association) → Has x (left d h ++ []) → Has x (left d h)
 old-left h d x i = subst (Has x) (append-nil (left d h)) i
 

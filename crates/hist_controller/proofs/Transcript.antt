@@ -45,11 +45,6 @@ open-told ps (Ordered k s m o ∷ h) n f g i = open-told ps h n f.1 g i
 open-told ps (Accepted c ∷ h) n f g i = open-told ps h n f.1 g i
 open-told ps (Refused w ∷ h) n f g i = open-told ps h n f.1 g i
 
--- the number of an order's session is that of its gateway
-in-session : (b : Bool) (s t : ℕ) → s ≡ t → (b && (s == t)) ≡ b
-in-session true s t e = grind arith
-in-session false s t e = refl
-
 not-later : (b : Bool) (s t : ℕ) → s < t → (b && (s == t)) ≡ false
 not-later true s t e = grind arith
 not-later false s t e = refl

@@ -1,6 +1,6 @@
 -- The orders that wait in a transcript of the controller's acts are those of its queue, as they are told.
-use Rattle.std.proofs.Common.{◌≡◌, ℕ, ◌+◌, ◌<◌, ◌≤◌, Bool, true, false, ◌==◌, not, ◌&&◌, ◌||◌, List, [], ◌∷◌, ◌++◌, drop, map, length, refl, sym, subst, ◌∙◌, ap, arith, if◌then◌else◌}
-use Rattle.std.proofs.lemmas.List.{drop-append-le, drop-drop, map-append}
+use Rattle.std.proofs.Common.{◌≡◌, ℕ, ◌+◌, ◌<◌, ◌≤◌, Bool, true, false, ◌==◌, not, ◌&&◌, ◌||◌, List, [], ◌∷◌, ◌++◌, drop, map, take, length, refl, sym, subst, ◌∙◌, ap, arith, if◌then◌else◌}
+use Rattle.std.proofs.lemmas.List.{drop-append-le, drop-drop, map-append, take-append-drop}
 use Rattle.ikeless_tree.specs.declared.command.Peer.{Peer}
 use Rattle.ikeless_tree.specs.declared.order.Order.{Order}
 use Rattle.hist_acts.specs.Sessions as sessions
@@ -142,6 +142,16 @@ waiting ps p (Refused w ∷ h) l n f g i = let q = waiting ps p h l.1 n f.1 g i 
 
 pub waiting-told : (ps : List Peer) (p : ℕ) (h : List ControllerAct) → IsControllerPast p h → Named ps → AllFit (length ps) h → (g : ℕ) → g < length ps → sessions.orders_waiting (peer_name ps g) (openings g h) (past_told ps h) ≡ map (order_told ps) (queue g h)
 waiting-told ps p h l n f g i = (waiting ps p h l n f g i).same
+
+-- what was given in an open session was answered, or waits
+pub given-told : (ps : List Peer) (p : ℕ) (h : List ControllerAct) → IsControllerPast p h → Named ps → AllFit (length ps) h → (g : ℕ) → g < length ps → is_open g h ≡ true →
+    sessions.orders_given (peer_name ps g) (openings g h) (past_told ps h) ≡ sessions.orders_answered (peer_name ps g) (openings g h) (past_told ps h) ++ map (order_told ps) (queue g h)
+given-told ps p h l n f g i o =
+    let q = waiting ps p h l n f g i in
+    let given : List Order = sessions.orders_given (peer_name ps g) (openings g h) (past_told ps h) in
+    let count : ℕ = sessions.answered (peer_name ps g) (openings g h) (past_told ps h) in
+    let rest : drop count given ≡ map (order_told ps) (queue g h) = subst (λ z. (if z then [] else drop count given) ≡ map (order_told ps) (queue g h)) (q.uncut o) q.same in
+    sym (take-append-drop count given) ∙ ap (λ z. take count given ++ z) rest
 
 -- what a cut loses is what waited
 pub lost-told : (ps : List Peer) (p : ℕ) (h : List ControllerAct) (g s : ℕ) → IsControllerPast p (Cut g s ∷ h) → Named ps → AllFit (length ps) h → g < length ps → sessions.orders_lost (peer_name ps g) s (past_told ps (Cut g s ∷ h)) ≡ map (order_told ps) (queue g h)

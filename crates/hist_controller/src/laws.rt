@@ -194,7 +194,8 @@ pub fn fits_a_table()
 {}
 
 /// The controller's words of its sessions say the same as the words of the transcript in which its acts are told, where the
-/// peers have different names. The orders that wait are those of its queue, and a cut loses all of them.
+/// peers have different names. The orders that wait are those of its queue, those given before them were answered, and a cut loses
+/// all that wait.
 pub fn tells_a_transcript()
     ensures past { (ps : List Peer) (h xs : List ControllerAct) → past_told ps (after h xs) ≡ happened.after (past_told ps h) (all_told ps xs) }
     ensures openings { (ps : List Peer) (h : List ControllerAct) → Named ps → AllFit (length ps) h → (g : ℕ) → g < length ps → sessions.openings (peer_name ps g) (past_told ps h) ≡ openings g h }
@@ -203,6 +204,7 @@ pub fn tells_a_transcript()
     ensures answered { (ps : List Peer) (n : ℕ) (h : List ControllerAct) → IsControllerPast n h → Named ps → AllFit (length ps) h → (g : ℕ) → g < length ps → sessions.answered (peer_name ps g) (openings g h) (past_told ps h) ≡ answered g h }
     ensures read { (ps : List Peer) (n : ℕ) (h : List ControllerAct) → IsControllerPast n h → Named ps → AllFit (length ps) h → (g : ℕ) → g < length ps → sessions.is_read (peer_name ps g) (past_told ps h) ≡ is_read g h }
     ensures waiting { (ps : List Peer) (n : ℕ) (h : List ControllerAct) → IsControllerPast n h → Named ps → AllFit (length ps) h → (g : ℕ) → g < length ps → sessions.orders_waiting (peer_name ps g) (openings g h) (past_told ps h) ≡ map (order_told ps) (queue g h) }
+    ensures given { (ps : List Peer) (n : ℕ) (h : List ControllerAct) → IsControllerPast n h → Named ps → AllFit (length ps) h → (g : ℕ) → g < length ps → is_open g h ≡ true → sessions.orders_given (peer_name ps g) (openings g h) (past_told ps h) ≡ sessions.orders_answered (peer_name ps g) (openings g h) (past_told ps h) ++ map (order_told ps) (queue g h) }
     ensures lost { (ps : List Peer) (n : ℕ) (h : List ControllerAct) (g s : ℕ) → IsControllerPast n (Cut g s ∷ h) → Named ps → AllFit (length ps) h → g < length ps → sessions.orders_lost (peer_name ps g) s (past_told ps (Cut g s ∷ h)) ≡ map (order_told ps) (queue g h) }
     ensures order { (ps : List Peer) (h : List ControllerAct) → Named ps → AllFit (length ps) h → (g s n : ℕ) → g < length ps → sessions.order_at (peer_name ps g) s n (past_told ps h) ≡ option_map (order_told ps) (numbered g s n h) }
 {}

@@ -47,7 +47,7 @@ use Rattle.hist_gateway.specs.Block.{Gateway, GatewayEvent, Let, Arrive, Clock, 
 use Rattle.hist_gateway.specs.May.{has_half}
 use Rattle.hist_gateway.specs.Notices.{is_notice, is_bad_spi_of, AsksToSeal, LacksHalf, LacksNumber, LacksSpi, is_let, is_arrive}
 use Rattle.hist_gateway.proofs.KeepsLemmas.{same-refl, same-is}
-use Rattle.hist_gateway.proofs.ReadingsLemmas.{live-is, overflow-is}
+use Rattle.hist_gateway.proofs.PlainReadings.{live-is, overflow-is}
 use Rattle.hist_gateway.proofs.Expiries.{clock-if, goings-quiet}
 
 -- no expiry is such a notice

@@ -1,7 +1,7 @@
 -- In each block what a limit ends and tells is there exactly where it is reached at a look.
 use Rattle.std.proofs.Common.{◌≡◌, ◌⊎◌, inl, inr, ℕ, ◌+◌, ◌==◌, max, Bool, true, false, not, ◌&&◌, ◌||◌, nat_le, nat_lt, List, [], ◌∷◌, ◌++◌, length, Option, Some, None, Result, Ok, Err, refl, sym, ◌∙◌, ap, subst, arith, if◌then◌else◌}
 use Rattle.std.proofs.Math.Bool.{or-false, and-false}
-use Rattle.std.proofs.lemmas.Bool.{and_parts, and_left, or_parts, not-true}
+use Rattle.std.proofs.lemmas.Bool.{false≢true, and_parts, and_left, or_parts, not-true}
 use Rattle.std.proofs.lemmas.Grind.{common_steps}
 use Rattle.std.specs.List.{list_any}
 use Rattle.std.specs.Str.{bytes_eq}
@@ -50,8 +50,8 @@ use Rattle.hist_gateway.specs.May.{has_half, are_apart, AreInstalled}
 use Rattle.hist_gateway.specs.Expiries.{is_hard_end, is_hard_expiry, is_soft_expiry, reaches_hard, reaches_soft}
 use Rattle.hist_gateway.specs.Notices.{is_looked_at, is_reached_in, is_hard_reached_in, is_soft_reached_in}
 use Rattle.hist_gateway.proofs.KeepsLemmas.{same-refl, same-is, same-sym}
-use Rattle.hist_gateway.proofs.HalvesLemmas.{halves-are}
-use Rattle.hist_gateway.proofs.BlocksLemmas.{UseAct, use-packet}
+use Rattle.hist_gateway.proofs.LiveHalves.{halves-are}
+use Rattle.hist_gateway.proofs.MachineBlocks.{UseAct, use-packet}
 use Rattle.hist_gateway.proofs.Expiries.{clock-if, look-end, look-hard, look-soft}
 
 -- ---- one half among others
@@ -115,21 +115,21 @@ one-of-name x p own e es a i false n = own e n
 
 -- ---- what is asked of a block
 
--- what is told at a look, and of no other act
+abbrev is_expiry : Notice → Bool
+is_expiry (notices.Expire y soft c) = true
+is_expiry _ = false
+
+-- the act is neither the end of a half nor an expiry
+abbrev is_plain : Act → Bool
+is_plain (acts.Gone f y w) = false
+is_plain (acts.Notice f s n) = not (is_expiry n)
+is_plain _ = true
+
+-- what is told at a look, and by no other act
 record IsTold (g x : List ℕ) (p : Act → Bool) (reaches : List Act → SadEntry → Bool) : Type 0 where
   pub looks : (h : List Act) (es : List SadEntry) → list_any p (look g h es) ≡ list_any (reaches h) es
   pub named : (h : List Act) → OfName x (reaches h)
-  pub lets : (f o : List ℕ) → p (acts.Let f o) ≡ false
-  pub arrives : (f o : List ℕ) → p (acts.Arrived f o) ≡ false
-  pub sends : (f y o : List ℕ) (n : ℕ) → p (acts.Sent f y n o) ≡ false
-  pub gives : (f y o : List ℕ) (n : ℕ) → p (acts.Gave f y n o) ≡ false
-  pub clears : (f o : List ℕ) → p (acts.Clear f o) ≡ false
-  pub passes : (f o : List ℕ) → p (acts.Pass f o) ≡ false
-  pub drops : (f : List ℕ) (w : DropWhy) → p (acts.Drop f w) ≡ false
-  pub nows : (t : ℕ) → p (acts.Now t) ≡ false
-  pub acquires : (f name : List ℕ) (s : ℕ) (v : Packet) → p (acts.Notice f s (notices.Acquire name (flow_of v))) ≡ false
-  pub overflows : (f y : List ℕ) (s : ℕ) → p (acts.Notice f s (notices.SeqOverflow y)) ≡ false
-  pub spis : (f : List ℕ) (s spi : ℕ) → p (acts.Notice f s (notices.BadSpi spi)) ≡ false
+  pub plain : (a : Act) → is_plain a ≡ true → p a ≡ false
 
 -- the acts, after what was before them, are told exactly where they reach it
 abbrev Agrees : (Act → Bool) → (List Act → SadEntry → Bool) → List ℕ → List ℕ → List Act → List Act → Type 0
@@ -194,7 +194,7 @@ unless-agrees g x p reaches false h k n e = ap (λ z. z || false) e
 
 let-agrees : (c : Gateway) (x : List ℕ) (p : Act → Bool) (reaches : List Act → SadEntry → Bool) (h : List Act) (o : List ℕ) → IsTold c.name x p reaches → are_apart (live c.name h) ≡ true → Agrees p reaches c.name x h (gw_block c h (Let o))
 unfolding let_acts
-let-agrees c x p reaches h o is apart = idle-agrees c.name x p reaches (acts.Let c.name o) h (let_by_view c.name c.seq_last past o (view_of o)) (is.lets c.name o) refl (by-view (view_of o))
+let-agrees c x p reaches h o is apart = idle-agrees c.name x p reaches (acts.Let c.name o) h (let_by_view c.name c.seq_last past o (view_of o)) (is.plain (acts.Let c.name o) refl) refl (by-view (view_of o))
   where
     g : List ℕ
     g = c.name
@@ -203,26 +203,26 @@ let-agrees c x p reaches h o is apart = idle-agrees c.name x p reaches (acts.Let
     past = acts.Let c.name o ∷ h
 
     dropped : (w : DropWhy) (more : List Act) → Agrees p reaches g x (acts.Drop g w ∷ past) more → Agrees p reaches g x past (acts.Drop g w ∷ more)
-    dropped w more rest = idle-agrees g x p reaches (acts.Drop g w) past more (is.drops g w) (let-idle g x g o w h) rest
+    dropped w more rest = idle-agrees g x p reaches (acts.Drop g w) past more (is.plain (acts.Drop g w) refl) (let-idle g x g o w h) rest
 
     by-number : (v : Packet) (e : SadEntry) (b : Bool) → InList e (live g h) →
         Agrees p reaches g x past (if b then acts.Drop g why.SeqLimit ∷ unless (was_overflow_given g e.name h) (tells g past (notices.SeqOverflow e.name)) else send_acts g past e (sent g e.name h + 1) (datagram e (sent g e.name h + 1) v o))
     by-number v e true i =
         dropped why.SeqLimit (unless (was_overflow_given g e.name h) (tells g past (notices.SeqOverflow e.name)))
-        (unless-agrees g x p reaches (was_overflow_given g e.name h) (acts.Drop g why.SeqLimit ∷ past) past (notices.SeqOverflow e.name) (is.overflows g e.name (sessions.session_taken g past)))
+        (unless-agrees g x p reaches (was_overflow_given g e.name h) (acts.Drop g why.SeqLimit ∷ past) past (notices.SeqOverflow e.name) (is.plain (acts.Notice g (sessions.session_taken g past) (notices.SeqOverflow e.name)) refl))
     by-number v e false i =
         let n : ℕ = sent g e.name h + 1 in
-        use-agrees g x p reaches is (acts.Sent g e.name n (datagram e n v o)) past e (is.sends g e.name (datagram e n v o) n) (ap (λ z. z && bytes_eq e.name x) (same-refl g)) apart i
+        use-agrees g x p reaches is (acts.Sent g e.name n (datagram e n v o)) past e (is.plain (acts.Sent g e.name n (datagram e n v o)) refl) (ap (λ z. z && bytes_eq e.name x) (same-refl g)) apart i
 
     by-half : (v : Packet) (q : SpdEntry) (found : Option SadEntry) → newest q.reqid v (live g h) ≡ found → Agrees p reaches g x past (let_by_half g c.seq_last past o v q found)
     by-half v q None e =
         dropped why.NoSa (unless (does_acquire_stand g q.name h) (tells g past (notices.Acquire q.name (flow_of v))))
-        (unless-agrees g x p reaches (does_acquire_stand g q.name h) (acts.Drop g why.NoSa ∷ past) past (notices.Acquire q.name (flow_of v)) (is.acquires g q.name (sessions.session_taken g past) v))
+        (unless-agrees g x p reaches (does_acquire_stand g q.name h) (acts.Drop g why.NoSa ∷ past) past (notices.Acquire q.name (flow_of v)) (is.plain (acts.Notice g (sessions.session_taken g past) (notices.Acquire q.name (flow_of v))) refl))
     by-half v q (Some e) n = by-number v e (nat_le c.seq_last (sent g e.name h)) (newest-in q.reqid v e (live g h) n)
 
     by-action : (v : Packet) (q : SpdEntry) (d : Action) → Agrees p reaches g x past (let_by_action g c.seq_last past o v q d)
     by-action v q actions.Protect = by-half v q (newest q.reqid v (live g h)) refl
-    by-action v q actions.Bypass = idle-agrees g x p reaches (acts.Clear g o) past [] (is.clears g o) refl refl
+    by-action v q actions.Bypass = idle-agrees g x p reaches (acts.Clear g o) past [] (is.plain (acts.Clear g o) refl) refl refl
     by-action v q actions.Discard = dropped why.Discard [] refl
 
     by-entry : (v : Packet) (q : Option SpdEntry) → Agrees p reaches g x past (let_by_entry g c.seq_last past o v q)
@@ -244,8 +244,8 @@ fault-closed faults.Fragment = refl
 fault-closed f = refl
 
 use-quiet : (g x : List ℕ) (p : Act → Bool) (reaches : List Act → SadEntry → Bool) → IsTold g x p reaches → (e : SadEntry) (n : ℕ) (a : Act) → UseAct g e n a → p a ≡ false
-use-quiet g x p reaches is e n a (inl (q, same)) = ap p same ∙ is.gives g e.name q n
-use-quiet g x p reaches is e n a (inr (w, same, op)) = ap p same ∙ is.drops g w
+use-quiet g x p reaches is e n a (inl (q, same)) = ap p same ∙ is.plain (acts.Gave g e.name n q) refl
+use-quiet g x p reaches is e n a (inr (w, same, op)) = ap p same ∙ is.plain (acts.Drop g w) refl
 
 use-looked : (g x o : List ℕ) (h : List Act) (e : SadEntry) (n : ℕ) (a : Act) → by_spi (spi_of (esp_of o)) (live g h) ≡ Some e → UseAct g e n a → is_looked_at g x a (acts.Arrived g o ∷ h) ≡ bytes_eq e.name x
 use-looked g x o h e n a found (inl (q, same)) = rw same (ap (λ z. z && bytes_eq e.name x) (same-refl g))
@@ -253,7 +253,7 @@ use-looked g x o h e n a found (inr (w, same, op)) = rw (same, op, same-refl g, 
 
 arrive-agrees : (c : Gateway) (x : List ℕ) (p : Act → Bool) (reaches : List Act → SadEntry → Bool) (h : List Act) (o : List ℕ) → IsTold c.name x p reaches → are_apart (live c.name h) ≡ true → Agrees p reaches c.name x h (gw_block c h (Arrive o))
 unfolding arrive.arrive_acts
-arrive-agrees c x p reaches h o is apart = idle-agrees c.name x p reaches (acts.Arrived c.name o) h (arrive.arrive_by_view c.name c.address past o (view_of o)) (is.arrives c.name o) refl (by-view (view_of o) refl)
+arrive-agrees c x p reaches h o is apart = idle-agrees c.name x p reaches (acts.Arrived c.name o) h (arrive.arrive_by_view c.name c.address past o (view_of o)) (is.plain (acts.Arrived c.name o) refl) refl (by-view (view_of o) refl)
   where
     g : List ℕ
     g = c.name
@@ -262,7 +262,7 @@ arrive-agrees c x p reaches h o is apart = idle-agrees c.name x p reaches (acts.
     past = acts.Arrived c.name o ∷ h
 
     dropped : (w : DropWhy) (more : List Act) → is_opened w ≡ false → Agrees p reaches g x (acts.Drop g w ∷ past) more → Agrees p reaches g x past (acts.Drop g w ∷ more)
-    dropped w more closed rest = idle-agrees g x p reaches (acts.Drop g w) past more (is.drops g w) (closed-idle g x w past closed) rest
+    dropped w more closed rest = idle-agrees g x p reaches (acts.Drop g w) past more (is.plain (acts.Drop g w) refl) (closed-idle g x w past closed) rest
 
     by-text : (e : SadEntry) (n : ℕ) (t : Option (List ℕ)) → by_spi (spi_of (esp_of o)) (live g h) ≡ Some e → Agrees p reaches g x past (arrive.by_text g past e n t)
     by-text e n None f = dropped why.Auth [] refl refl
@@ -281,7 +281,7 @@ arrive-agrees c x p reaches h o is apart = idle-agrees c.name x p reaches (acts.
     by-half v None s f =
         let spi : ℕ = spi_of v.payload in
         dropped why.BadSpi (unless (does_bad_spi_stand g spi h) (tells g past (notices.BadSpi spi))) refl
-        (unless-agrees g x p reaches (does_bad_spi_stand g spi h) (acts.Drop g why.BadSpi ∷ past) past (notices.BadSpi spi) (is.spis g (sessions.session_taken g past) spi))
+        (unless-agrees g x p reaches (does_bad_spi_stand g spi h) (acts.Drop g why.BadSpi ∷ past) past (notices.BadSpi spi) (is.plain (acts.Notice g (sessions.session_taken g past) (notices.BadSpi spi)) refl))
     by-half v (Some e) s f =
         let n : ℕ = number_of e (numbers_taken g e.name h) v.payload in
         by-verdict v.payload e n (verdict_over e.window (numbers_taken g e.name h) n) (ap (λ z. by_spi (spi_of z) (live g h)) s ∙ f)
@@ -292,7 +292,7 @@ arrive-agrees c x p reaches h o is apart = idle-agrees c.name x p reaches (acts.
 
     by-action : (d : Action) → Agrees p reaches g x past (arrive.arrive_by_action g o d ∷ [])
     by-action actions.Protect = dropped why.ClearRefused [] refl refl
-    by-action actions.Bypass = idle-agrees g x p reaches (acts.Pass g o) past [] (is.passes g o) refl refl
+    by-action actions.Bypass = idle-agrees g x p reaches (acts.Pass g o) past [] (is.plain (acts.Pass g o) refl) refl refl
     by-action actions.Discard = dropped why.Discard [] refl refl
 
     by-entry : (q : Option SpdEntry) → Agrees p reaches g x past (arrive.arrive_by_entry g o q ∷ [])
@@ -325,7 +325,7 @@ clock-agrees c x p reaches h t is =
     let past : List Act = acts.Now (max t (clock h)) ∷ h in
     let raised = raises t (clock h) (nat_lt (clock h) (max t (clock h))) (nat_lt (clock h) t) refl refl in
     let reached : Bool = list_any (reaches past) (live g h) in
-    ap (λ z. z || list_any p (clock_acts g past (nat_lt (clock h) t))) (is.nows (max t (clock h)))
+    ap (λ z. z || list_any p (clock_acts g past (nat_lt (clock h) t))) (is.plain (acts.Now (max t (clock h))) refl)
     ∙ (clock-if p g past reached (nat_lt (clock h) t) (is.looks past (live g h))
     ∙ (ap (λ z. z && reached) (sym raised)
     ∙ (sym (or-false (nat_lt (clock h) (max t (clock h)) && reached))
@@ -333,93 +333,59 @@ clock-agrees c x p reaches h t is =
 
 -- ---- each of the three
 
+no-end : (x : List ℕ) (a : Act) → is_plain a ≡ true → is_hard_end x a ≡ false
+no-end x (acts.Gone f y w) e = absurd (false≢true e)
+no-end x a e = refl
+
+no-hard : (x : List ℕ) (a : Act) → is_plain a ≡ true → is_hard_expiry x a ≡ false
+no-hard x (acts.Notice f s (notices.Expire y soft c)) e = absurd (false≢true e)
+no-hard x a e = refl
+
+no-soft : (x : List ℕ) (a : Act) → is_plain a ≡ true → is_soft_expiry x a ≡ false
+no-soft x (acts.Notice f s (notices.Expire y soft c)) e = absurd (false≢true e)
+no-soft x a e = refl
+
+hard-name : (g x : List ℕ) (h : List Act) → OfName x (reaches_hard g h x)
+hard-name g x h e n = and_left (bytes_eq e.name x) (is_reached e.hard (counts g e.name h)) n
+
+soft-name : (g x : List ℕ) (h : List Act) → OfName x (reaches_soft g h x)
+soft-name g x h e n = and_left (bytes_eq e.name x) (not (is_reached e.hard (counts g e.name h)) && (is_reached e.soft (counts g e.name h) && not (was_soft_given g e.name h))) n
+
 hard-end-is : (g x : List ℕ) → IsTold g x (is_hard_end x) (λ k. reaches_hard g k x)
-hard-end-is g x = record {
-  looks = λ h es. look-end g x h es;
-  named = λ h e n. and_left (bytes_eq e.name x) (is_reached e.hard (counts g e.name h)) n;
-  lets = λ f o. refl;
-  arrives = λ f o. refl;
-  sends = λ f y o n. refl;
-  gives = λ f y o n. refl;
-  clears = λ f o. refl;
-  passes = λ f o. refl;
-  drops = λ f w. refl;
-  nows = λ t. refl;
-  acquires = λ f name s v. refl;
-  overflows = λ f y s. refl;
-  spis = λ f s spi. refl;
-}
+hard-end-is g x = record { looks = look-end g x; named = hard-name g x; plain = no-end x }
 
 hard-expiry-is : (g x : List ℕ) → IsTold g x (is_hard_expiry x) (λ k. reaches_hard g k x)
-hard-expiry-is g x = record {
-  looks = λ h es. look-hard g x h es;
-  named = λ h e n. and_left (bytes_eq e.name x) (is_reached e.hard (counts g e.name h)) n;
-  lets = λ f o. refl;
-  arrives = λ f o. refl;
-  sends = λ f y o n. refl;
-  gives = λ f y o n. refl;
-  clears = λ f o. refl;
-  passes = λ f o. refl;
-  drops = λ f w. refl;
-  nows = λ t. refl;
-  acquires = λ f name s v. refl;
-  overflows = λ f y s. refl;
-  spis = λ f s spi. refl;
-}
+hard-expiry-is g x = record { looks = look-hard g x; named = hard-name g x; plain = no-hard x }
 
 soft-expiry-is : (g x : List ℕ) → IsTold g x (is_soft_expiry x) (λ k. reaches_soft g k x)
-soft-expiry-is g x = record {
-  looks = λ h es. look-soft g x h es;
-  named = λ h e n. and_left (bytes_eq e.name x) (not (is_reached e.hard (counts g e.name h)) && (is_reached e.soft (counts g e.name h) && not (was_soft_given g e.name h))) n;
-  lets = λ f o. refl;
-  arrives = λ f o. refl;
-  sends = λ f y o n. refl;
-  gives = λ f y o n. refl;
-  clears = λ f o. refl;
-  passes = λ f o. refl;
-  drops = λ f w. refl;
-  nows = λ t. refl;
-  acquires = λ f name s v. refl;
-  overflows = λ f y s. refl;
-  spis = λ f s spi. refl;
-}
+soft-expiry-is g x = record { looks = look-soft g x; named = soft-name g x; plain = no-soft x }
 
--- every event
+-- ---- every event
+
+-- a request reaches nothing
+changed-agrees : (g x : List ℕ) (p : Act → Bool) (reaches : List Act → SadEntry → Bool) (h : List Act) (r : table.Outcome) (s k : ℕ) (a : Change) → IsTold g x p reaches →
+    ((name : List ℕ) → p (acts.Gone g name gone.Removed) ≡ false) → Agrees p reaches g x h (change_acts g r a ++ acts.Handled g s k (answer_of r) ∷ [])
+changed-agrees g x p reaches h r s k changes.Nothing is removed = ap (λ z. z || false) (is.plain (acts.Handled g s k (answer_of r)) refl)
+changed-agrees g x p reaches h r s k changes.Spd is removed = rw (is.plain (acts.Policy g r.tree.spd) refl, is.plain (acts.Handled g s k (answer_of r)) refl) refl
+changed-agrees g x p reaches h r s k (changes.Put e) is removed = rw (is.plain (acts.Put g e) refl, is.plain (acts.Handled g s k (answer_of r)) refl) refl
+changed-agrees g x p reaches h r s k (changes.Gone name) is removed = rw (removed name, is.plain (acts.Handled g s k (answer_of r)) refl) refl
+
 block-agrees : (c : Gateway) (x : List ℕ) (p : Act → Bool) (reaches : List Act → SadEntry → Bool) (h : List Act) (e : GatewayEvent) → IsTold c.name x p reaches →
-    ((r : table.Outcome) (s k : ℕ) (a : Change) → Agrees p reaches c.name x h (change_acts c.name r a ++ acts.Handled c.name s k (answer_of r) ∷ [])) →
-    ((s k : ℕ) (a : Answer) → Agrees p reaches c.name x h (acts.Handled c.name s k a ∷ [])) → ((s : ℕ) → Agrees p reaches c.name x h (acts.Opened c.name s ∷ [])) →
-    are_apart (live c.name h) ≡ true → Agrees p reaches c.name x h (gw_block c h e)
-block-agrees c x p reaches h (Let o) is changed handled opened apart = let-agrees c x p reaches h o is apart
-block-agrees c x p reaches h (Arrive o) is changed handled opened apart = arrive-agrees c x p reaches h o is apart
-block-agrees c x p reaches h (Clock t) is changed handled opened apart = clock-agrees c x p reaches h t is
-block-agrees c x p reaches h (Handle (Ok ask)) is changed handled opened apart =
-    let r : table.Outcome = table.reply (tree_of c.name h) ask in changed r (sessions.session_taken c.name h) (requests c.name h + 1) r.change
-block-agrees c x p reaches h (Handle (Err fault)) is changed handled opened apart = handled (sessions.session_taken c.name h) (requests c.name h + 1) (fault_answer fault)
-block-agrees c x p reaches h Session_taken is changed handled opened apart = opened (sessions.openings c.name h + 1)
+    ((name : List ℕ) → p (acts.Gone c.name name gone.Removed) ≡ false) → AreInstalled c.name h → Agrees p reaches c.name x h (gw_block c h e)
+block-agrees c x p reaches h (Let o) is removed are = let-agrees c x p reaches h o is (halves-are c.name h are).apart
+block-agrees c x p reaches h (Arrive o) is removed are = arrive-agrees c x p reaches h o is (halves-are c.name h are).apart
+block-agrees c x p reaches h (Clock t) is removed are = clock-agrees c x p reaches h t is
+block-agrees c x p reaches h (Handle (Ok ask)) is removed are =
+    let r : table.Outcome = table.reply (tree_of c.name h) ask in
+    changed-agrees c.name x p reaches h r (sessions.session_taken c.name h) (requests c.name h + 1) r.change is removed
+block-agrees c x p reaches h (Handle (Err fault)) is removed are = ap (λ z. z || false) (is.plain (acts.Handled c.name (sessions.session_taken c.name h) (requests c.name h + 1) (fault_answer fault)) refl)
+block-agrees c x p reaches h Session_taken is removed are = ap (λ z. z || false) (is.plain (acts.Opened c.name (sessions.openings c.name h + 1)) refl)
 
 pub ends-reached : (c : Gateway) (h : List Act) (e : GatewayEvent) (x : List ℕ) → AreInstalled c.name h → list_any (is_hard_end x) (gw_block c h e) ≡ is_hard_reached_in c.name x h (gw_block c h e)
-ends-reached c h e x are = block-agrees c x (is_hard_end x) (λ k. reaches_hard c.name k x) h e (hard-end-is c.name x) changed (λ s k a. refl) (λ s. refl) (halves-are c.name h are).apart
-  where
-    changed : (r : table.Outcome) (s k : ℕ) (a : Change) → Agrees (is_hard_end x) (λ k. reaches_hard c.name k x) c.name x h (change_acts c.name r a ++ acts.Handled c.name s k (answer_of r) ∷ [])
-    changed r s k changes.Nothing = refl
-    changed r s k changes.Spd = refl
-    changed r s k (changes.Put e) = refl
-    changed r s k (changes.Gone name) = refl
+ends-reached c h e x are = block-agrees c x (is_hard_end x) (λ k. reaches_hard c.name k x) h e (hard-end-is c.name x) (λ name. refl) are
 
 pub hard-reached : (c : Gateway) (h : List Act) (e : GatewayEvent) (x : List ℕ) → AreInstalled c.name h → list_any (is_hard_expiry x) (gw_block c h e) ≡ is_hard_reached_in c.name x h (gw_block c h e)
-hard-reached c h e x are = block-agrees c x (is_hard_expiry x) (λ k. reaches_hard c.name k x) h e (hard-expiry-is c.name x) changed (λ s k a. refl) (λ s. refl) (halves-are c.name h are).apart
-  where
-    changed : (r : table.Outcome) (s k : ℕ) (a : Change) → Agrees (is_hard_expiry x) (λ k. reaches_hard c.name k x) c.name x h (change_acts c.name r a ++ acts.Handled c.name s k (answer_of r) ∷ [])
-    changed r s k changes.Nothing = refl
-    changed r s k changes.Spd = refl
-    changed r s k (changes.Put e) = refl
-    changed r s k (changes.Gone name) = refl
+hard-reached c h e x are = block-agrees c x (is_hard_expiry x) (λ k. reaches_hard c.name k x) h e (hard-expiry-is c.name x) (λ name. refl) are
 
 pub soft-reached : (c : Gateway) (h : List Act) (e : GatewayEvent) (x : List ℕ) → AreInstalled c.name h → list_any (is_soft_expiry x) (gw_block c h e) ≡ is_soft_reached_in c.name x h (gw_block c h e)
-soft-reached c h e x are = block-agrees c x (is_soft_expiry x) (λ k. reaches_soft c.name k x) h e (soft-expiry-is c.name x) changed (λ s k a. refl) (λ s. refl) (halves-are c.name h are).apart
-  where
-    changed : (r : table.Outcome) (s k : ℕ) (a : Change) → Agrees (is_soft_expiry x) (λ k. reaches_soft c.name k x) c.name x h (change_acts c.name r a ++ acts.Handled c.name s k (answer_of r) ∷ [])
-    changed r s k changes.Nothing = refl
-    changed r s k changes.Spd = refl
-    changed r s k (changes.Put e) = refl
-    changed r s k (changes.Gone name) = refl
+soft-reached c h e x are = block-agrees c x (is_soft_expiry x) (λ k. reaches_soft c.name k x) h e (soft-expiry-is c.name x) (λ name. refl) are

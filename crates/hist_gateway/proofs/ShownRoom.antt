@@ -20,8 +20,8 @@ use Rattle.hist_gateway.specs.Handle.{reply_acts, requests}
 use Rattle.hist_gateway.specs.Block.{Gateway, Handle, gw_block, gw_history}
 use Rattle.hist_gateway.specs.May.{has_half, has_inbound_spi}
 use Rattle.hist_gateway.proofs.KeepsLemmas.{same-refl}
-use Rattle.hist_gateway.proofs.MayLemmas.{any-map}
-use Rattle.hist_gateway.proofs.ReadingsLemmas.{any-end}
+use Rattle.hist_gateway.proofs.MayAct.{any-map}
+use Rattle.hist_gateway.proofs.PlainReadings.{any-end}
 use Rattle.hist_gateway.proofs.Shown.{b, gateway_b, done, refusal, half, between, first_site, second_site, address_a, address_b, limits}
 
 -- ---- a half that is put where its name and its SPI are free

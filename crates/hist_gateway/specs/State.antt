@@ -105,25 +105,13 @@ abbrev pub with_put : List Half → List (List ℕ) → GatewayState → Gateway
 with_put halves names s = record s { halves = halves; acquires = names; arrival = None }
 
 abbrev pub with_notice : List Half → List (List ℕ) → List ℕ → GatewayState → GatewayState
-with_notice halves names spis s = record {
-  spd = s.spd;
-  halves = halves;
-  acquires = names;
-  bad_spis = spis;
-  clock = s.clock;
-  openings = s.openings;
-  session = s.session;
-  requests = s.requests;
-  arrival = None;
-}
+with_notice halves names spis s = record s { halves = halves; acquires = names; bad_spis = spis; arrival = None }
 
 abbrev pub with_session : ℕ → List Half → GatewayState → GatewayState
-with_session session halves s = record {
-  spd = s.spd;
+with_session session halves s = record s {
   halves = halves;
   acquires = [];
   bad_spis = [];
-  clock = s.clock;
   openings = s.openings + 1;
   session = session;
   requests = 0;
@@ -132,13 +120,11 @@ with_session session halves s = record {
 
 -- a gateway that restarted has nothing but the clock, and the number of sessions goes on
 abbrev pub restarted : GatewayState → GatewayState
-restarted s = record {
+restarted s = record s {
   spd = [];
   halves = [];
   acquires = [];
   bad_spis = [];
-  clock = s.clock;
-  openings = s.openings;
   session = 0;
   requests = 0;
   arrival = None;

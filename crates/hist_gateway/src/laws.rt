@@ -1,5 +1,5 @@
 // Laws for the crates above: each is the contract of a function with an empty body, or one that only calls such functions.
-ghost use Rattle.std.specs.Prelude.{◌≡◌, ℕ, true, false, List, [], ◌∷◌, ◌++◌, Some, Ok, Result, ◌&&◌, length, map, max, nat_le, nat_lt, slice_get, take};
+ghost use Rattle.std.specs.Prelude.{◌≡◌, ℕ, ◌==◌, true, false, List, [], ◌∷◌, ◌++◌, Some, Ok, Result, ◌&&◌, length, map, max, nat_le, nat_lt, slice_get, take};
 ghost use Rattle.std.specs.List.{list_all, list_any, sum};
 ghost use Rattle.std.specs.Str.{bytes_eq};
 ghost use Rattle.ikl_base.specs.Address.{AreOneFamily};
@@ -207,10 +207,11 @@ pub fn tells_where_none_stands()
 {}
 
 /// An SPI stands exactly where it was told at the gateway, fewer than 64 were told there after it, and since then no session was
-/// taken there and it has not restarted.
+/// taken there and it has not restarted. What is kept has those that stand.
 pub fn keeps_told_spis()
     ensures stands { (g : List ℕ) (spi : ℕ) (h : List Act) → does_bad_spi_stand g spi h ≡ true → WasSpiTold g spi 64 h }
     ensures told { (g : List ℕ) (spi : ℕ) (h : List Act) → WasSpiTold g spi 64 h → does_bad_spi_stand g spi h ≡ true }
+    ensures kept { (g : List ℕ) (spi : ℕ) (h : List Act) → list_any (λ k. k == spi) (state_of g h).bad_spis ≡ does_bad_spi_stand g spi h }
 {}
 
 /// What is counted of a half is counted since its last installation: its age from the clock then, the octets of its uses and how

@@ -141,16 +141,7 @@ put-order gs g x e (acts.Put f d ∷ h) l q =
 put-order gs g x e (acts.Order f t j (asks.Put d) ∷ h) l q = let r = put-order gs g x e h l.1 q in put-older g x f t j e d h (other gs x f d h l.1 l.0.4 r.1) r
 put-order gs g x e (a ∷ h) l q = put-order gs g x e h l.1 q
 
--- what was put has an entry, and the other way round
-some-new : (b c : Bool) (d : SadEntry) (o : Option SadEntry) → (c ≡ true → (e : SadEntry) × (o ≡ Some e)) → (b || c) ≡ true → (e : SadEntry) × ((if b then Some d else o) ≡ Some e)
-some-new true c d o ih q = (d, refl)
-some-new false c d o ih q = ih q
-
-pub put-some : (g x : List ℕ) (h : List Act) → was_put g x h ≡ true → (e : SadEntry) × (put_of g x h ≡ Some e)
-put-some g x [] q = absurd (no q)
-put-some g x (acts.Put f d ∷ h) q = some-new (is_half f d.name g x) (was_put g x h) d (put_of g x h) (put-some g x h) q
-put-some g x (a ∷ h) q = put-some g x h q
-
+-- what has an entry was put
 was-some : (b c : Bool) (d e : SadEntry) (o : Option SadEntry) → (o ≡ Some e → c ≡ true) → (if b then Some d else o) ≡ Some e → (b || c) ≡ true
 was-some true c d e o ih q = refl
 was-some false c d e o ih q = ih q

@@ -30,15 +30,6 @@ order-ordered x e [] q = absurd (grind arith)
 order-ordered x e (acts.Order f s k (asks.Put d) ∷ h) q = order-some (bytes_eq d.name x) (was_order_given x h) d e (order_of x h) (order-ordered x e h) q
 order-ordered x e (a ∷ h) q = order-ordered x e h q
 
-pub order-name : (x : List ℕ) (e : SadEntry) (h : List Act) → order_of x h ≡ Some e → e.name ≡ x
-order-name x e [] q = absurd (grind arith)
-order-name x e (acts.Order f s k (asks.Put d) ∷ h) q =
-    elim (if-cases (bytes_eq d.name x) d e (order_of x h) q) as (λ z. e.name ≡ x) [
-      | inl r ↦ ap (λ (z : SadEntry). z.name) (sym r.1) ∙ name-is d.name x r.0
-      | inr r ↦ order-name x e h r
-    ]
-order-name x e (a ∷ h) q = order-name x e h q
-
 -- and stands as the order with its number, in its session, at its gateway
 stands-new : (f x : List ℕ) (t j : ℕ) (d : SadEntry) (h : List Act) (b : Bool) → b ≡ true →
     order_at (if b then f else site x h) (if b then t else session_of x h) (if b then j else place_of x h) (acts.Order f t j (asks.Put d) ∷ h) ≡ Some (asks.Put d)

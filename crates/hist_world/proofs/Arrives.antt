@@ -37,7 +37,7 @@ use Rattle.hist_gateway.specs.Let.{unless}
 use Rattle.hist_gateway.specs.Arrive.{arrive_acts, arrive_by_action, arrive_by_entry, arrive_by_half, by_inner, by_packet, by_text, by_verdict, arrive_by_view, drops, esp_acts, is_sealed_for, is_told_version, use_acts}
 use Rattle.hist_gateway.specs.Block.{Gateway}
 use Rattle.hist_gateway.specs.May.{GatewayMayActAll, IsDelivery, IsOpenedArrival, GatewayMayDrop, GatewayMayAct, OpensArrival}
-use Rattle.hist_gateway.proofs.DeliveryLemmas.{delivers-is}
+use Rattle.hist_gateway.proofs.Delivery.{delivers-is}
 use Rattle.hist_safety.specs.Carried.{ComesTo, Delivers, IsGenuine, IsOpened, IsUndelivered, address_of, keying_of}
 use Rattle.hist_safety.specs.Law.{AllMayHappen, MayHappen, is_ready}
 use Rattle.hist_safety.proofs.Basics.{no, both-left, both-right, eq-nat, name-is, name-self}

@@ -14,8 +14,8 @@ use Rattle.hist_acts.specs.Sessions.{handled, next_request, session_taken}
 use Rattle.hist_halves.specs.Halves.{is_live, live, put_of, without}
 use Rattle.hist_gateway.specs.May.{are_apart, has_half}
 use Rattle.hist_gateway.specs.Rows.{row_of, tree_of}
-use Rattle.hist_gateway.proofs.HalvesLemmas.{apart-more, apart-without}
-use Rattle.hist_gateway.proofs.ReadingsLemmas.{live-is}
+use Rattle.hist_gateway.proofs.LiveHalves.{apart-more, apart-without}
+use Rattle.hist_gateway.proofs.PlainReadings.{live-is}
 use Rattle.hist_safety.specs.Kept.{IsOneOf}
 use Rattle.hist_safety.specs.Law.{IsLawful, is_ready}
 use Rattle.hist_safety.specs.Orders.{order_of}

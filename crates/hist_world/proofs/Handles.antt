@@ -18,8 +18,8 @@ use Rattle.hist_halves.specs.Halves.{is_live, live}
 use Rattle.hist_gateway.specs.Rows.{row_of, tree_of}
 use Rattle.hist_gateway.specs.May.{AreNumbered, has_half}
 use Rattle.hist_gateway.specs.Handle.{answer_of, handle_acts, reply_acts, requests}
-use Rattle.hist_gateway.proofs.ReadingsLemmas.{live-is}
-use Rattle.hist_gateway.proofs.SessionsLemmas.{requests-are}
+use Rattle.hist_gateway.proofs.PlainReadings.{live-is}
+use Rattle.hist_gateway.proofs.Requests.{requests-are}
 use Rattle.hist_safety.specs.Law.{IsLawful, AllMayHappen, is_ready}
 use Rattle.hist_safety.proofs.Basics.{no, eq-nat, name-is}
 use Rattle.hist_safety.proofs.Sessions.{openings-at}

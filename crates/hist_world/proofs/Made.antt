@@ -32,7 +32,7 @@ use Rattle.hist_world.specs.Parts.{controllers_part}
 use Rattle.hist_world.specs.Puts.{IsCreated, NoneRefused}
 use Rattle.hist_world.specs.Stands.{Meet}
 use Rattle.hist_world.proofs.Fresh.{name-free, spi-free}
-use Rattle.hist_gateway.proofs.SessionsLemmas.{requests-are}
+use Rattle.hist_gateway.proofs.Requests.{requests-are}
 use Rattle.hist_world.proofs.Handles.{numbered, row-is-live}
 use Rattle.hist_world.proofs.Parts.{order-at-part}
 use Rattle.hist_world.proofs.Room.{room}

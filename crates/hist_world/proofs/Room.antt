@@ -13,7 +13,7 @@ use Rattle.hist_acts.specs.Sessions.{handled, next_request, session_taken}
 use Rattle.hist_halves.specs.Halves.{is_live, live}
 use Rattle.hist_gateway.specs.May.{are_apart, has_half}
 use Rattle.hist_gateway.specs.Rows.{row_of, tree_of}
-use Rattle.hist_gateway.proofs.ReadingsLemmas.{live-is}
+use Rattle.hist_gateway.proofs.PlainReadings.{live-is}
 use Rattle.hist_controller.specs.Acts.{Way, Association, PutIn, PutOut, ControllerAct}
 use Rattle.hist_controller.specs.Past.{RemovingIn, directions, has_answer, left}
 use Rattle.hist_controller.specs.Clauses.{Has, IsControllerPast}

@@ -20,7 +20,7 @@ use Rattle.hist_acts.specs.Sessions.{next_answer, next_notice, next_request, ses
 use Rattle.hist_gateway.specs.Block as node
 use Rattle.hist_gateway.specs.Handle.{answer_of, requests}
 use Rattle.hist_gateway.specs.Rows.{tree_of}
-use Rattle.hist_gateway.proofs.MayLemmas.{may-arrive, may-let}
+use Rattle.hist_gateway.proofs.MayAct.{may-arrive, may-let}
 use Rattle.hist_controller.specs.Acts as controller
 use Rattle.hist_controller.specs.Law.{peer_number}
 use Rattle.hist_controller.specs.Told.{all_told, peer_name}

@@ -1,5 +1,5 @@
 use Rattle.hist_controller.proofs.Transcript.{told-after, openings-told, open-told, orders-told, answered-told, read-told, order-told}
-use Rattle.hist_controller.proofs.WaitingOrders.{waiting-told, lost-told}
+use Rattle.hist_controller.proofs.WaitingOrders.{waiting-told, given-told, lost-told}
 use Rattle.hist_controller.proofs.laws.tells_a_transcript.Goals as goal
 
 pub returns-clause-past : goal.returns-clause-past
@@ -28,3 +28,6 @@ returns-clause-waiting c = waiting-told
 
 pub returns-clause-lost : goal.returns-clause-lost
 returns-clause-lost c = lost-told
+
+pub returns-clause-given : goal.returns-clause-given
+returns-clause-given c = given-told

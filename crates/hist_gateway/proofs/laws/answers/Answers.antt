@@ -1,5 +1,5 @@
 use Rattle.std.proofs.Common.{refl}
-use Rattle.hist_gateway.proofs.AnswersLemmas.{one-let, one-arrive, none-clock, none-handle}
+use Rattle.hist_gateway.proofs.OneAnswer.{one-let, one-arrive, none-clock, none-handle}
 use Rattle.hist_gateway.proofs.laws.answers.Goals as goal
 
 pub returns-clause-packet : goal.returns-clause-packet

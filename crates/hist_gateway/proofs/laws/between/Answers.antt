@@ -1,4 +1,4 @@
-use Rattle.hist_gateway.proofs.BetweenLemmas.{acts-quiet, next-quiet}
+use Rattle.hist_gateway.proofs.Quiet.{acts-quiet, next-quiet}
 use Rattle.hist_gateway.proofs.laws.between.Goals as goal
 
 pub returns-clause-acts : goal.returns-clause-acts

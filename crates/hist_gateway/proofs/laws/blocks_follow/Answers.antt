@@ -1,5 +1,5 @@
-use Rattle.hist_gateway.proofs.MayLemmas.{may-block}
-use Rattle.hist_gateway.proofs.SafeLemmas.{lawful-block, lawful-history}
+use Rattle.hist_gateway.proofs.MayAct.{may-block}
+use Rattle.hist_gateway.proofs.Safety.{lawful-block, lawful-history}
 use Rattle.hist_gateway.proofs.laws.blocks_follow.Goals as goal
 
 pub returns-clause-acts : goal.returns-clause-acts

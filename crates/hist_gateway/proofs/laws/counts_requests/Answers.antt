@@ -1,5 +1,5 @@
-use Rattle.hist_gateway.proofs.SessionsLemmas.{requests-are}
-use Rattle.hist_gateway.proofs.MayLemmas.{lawful-numbered}
+use Rattle.hist_gateway.proofs.Requests.{requests-are}
+use Rattle.hist_gateway.proofs.MayAct.{lawful-numbered}
 use Rattle.hist_gateway.proofs.laws.counts_requests.Goals as goal
 
 pub returns-clause-handled : goal.returns-clause-handled

@@ -1,4 +1,4 @@
-use Rattle.hist_gateway.proofs.DeliveryLemmas.{delivers-is}
+use Rattle.hist_gateway.proofs.Delivery.{delivers-is}
 use Rattle.hist_gateway.proofs.laws.delivers.Goals as goal
 
 pub returns : goal.returns

@@ -1,5 +1,5 @@
 use Rattle.std.proofs.Common.{refl}
-use Rattle.hist_gateway.proofs.StepsLemmas.{after-append, history-push}
+use Rattle.hist_gateway.proofs.KeptSteps.{after-append, history-push}
 use Rattle.hist_gateway.proofs.laws.goes_on.Goals as goal
 
 pub returns-clause-block : goal.returns-clause-block

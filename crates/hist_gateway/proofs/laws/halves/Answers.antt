@@ -1,6 +1,6 @@
 use Rattle.hist_gateway.specs.Block.{gw_block}
-use Rattle.hist_gateway.proofs.HalvesLemmas.{halves-are, half-for, half-of-spi}
-use Rattle.hist_gateway.proofs.MayLemmas.{may-block, installed, lawful-installed}
+use Rattle.hist_gateway.proofs.LiveHalves.{halves-are, half-for, half-of-spi}
+use Rattle.hist_gateway.proofs.MayAct.{may-block, installed, lawful-installed}
 use Rattle.hist_gateway.proofs.laws.halves.Goals as goal
 
 pub returns-clause-kept : goal.returns-clause-kept

@@ -1,4 +1,4 @@
-use Rattle.hist_gateway.proofs.SafeLemmas.{safe-history, safe-lawful}
+use Rattle.hist_gateway.proofs.Safety.{safe-history, safe-lawful}
 use Rattle.hist_gateway.proofs.laws.is_every_history_safe.Goals as goal
 
 pub returns-clause-history : goal.returns-clause-history

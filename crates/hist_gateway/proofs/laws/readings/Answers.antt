@@ -1,4 +1,4 @@
-use Rattle.hist_gateway.proofs.ReadingsLemmas.{live-is, acquires-is, taken-is, sent-is, soft-is, overflow-is}
+use Rattle.hist_gateway.proofs.PlainReadings.{live-is, acquires-is, taken-is, sent-is, soft-is, overflow-is}
 use Rattle.hist_gateway.proofs.laws.readings.Goals as goal
 
 pub returns-clause-live : goal.returns-clause-live

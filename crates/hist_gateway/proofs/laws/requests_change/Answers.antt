@@ -1,4 +1,4 @@
-use Rattle.hist_gateway.proofs.TreeLemmas.{tree-after}
+use Rattle.hist_gateway.proofs.Databases.{tree-after}
 use Rattle.hist_gateway.proofs.laws.requests_change.Goals as goal
 
 pub returns : goal.returns

@@ -1,4 +1,4 @@
-use Rattle.hist_gateway.proofs.DeliveryLemmas.{sealed-is}
+use Rattle.hist_gateway.proofs.Delivery.{sealed-is}
 use Rattle.hist_gateway.proofs.laws.sealed.Goals as goal
 
 pub returns : goal.returns

@@ -1,5 +1,5 @@
-use Rattle.hist_gateway.proofs.BlocksLemmas.{acts-are}
-use Rattle.hist_gateway.proofs.StepsLemmas.{next-is, run-is}
+use Rattle.hist_gateway.proofs.MachineBlocks.{acts-are}
+use Rattle.hist_gateway.proofs.KeptSteps.{next-is, run-is}
 use Rattle.hist_gateway.proofs.laws.steps.Goals as goal
 
 pub returns-clause-acts : goal.returns-clause-acts

@@ -45,7 +45,7 @@ use Rattle.hist_gateway.specs.Block.{Gateway, GatewayEvent, Let, Arrive, Clock, 
 use Rattle.hist_gateway.specs.State.{half_of, state_of, sent_under, given_under, opened_under}
 use Rattle.hist_gateway.specs.Machine.{goings_of, expiries_of, look_of, sends_of, out_by_half, out_by_action, out_by_entry, out_by_view, uses_of, in_by_text, in_by_verdict, in_by_number, in_by_half, in_esp, in_by_view, row_from, tree_from, handles, ticks, acts_of}
 use Rattle.hist_gateway.proofs.KeepsLemmas.{same-refl, sent-split, gave-split, opened-split, window-top, NumberFor, number-either}
-use Rattle.hist_gateway.proofs.ReadingsLemmas.{acquires-is}
+use Rattle.hist_gateway.proofs.PlainReadings.{acquires-is}
 
 -- ---- looks
 

@@ -24,9 +24,9 @@ use Rattle.hist_gateway.specs.Block.{Gateway, Handle, gw_block}
 use Rattle.hist_gateway.specs.May.{has_half}
 use Rattle.hist_gateway.specs.Machine.{row_from}
 use Rattle.hist_gateway.proofs.KeepsLemmas.{same-refl, put-half, put-fresh, no-half}
-use Rattle.hist_gateway.proofs.BlocksLemmas.{row-is}
-use Rattle.hist_gateway.proofs.MayLemmas.{AllFit, any-map}
-use Rattle.hist_gateway.proofs.StepsLemmas.{after-append}
+use Rattle.hist_gateway.proofs.MachineBlocks.{row-is}
+use Rattle.hist_gateway.proofs.MayAct.{AllFit, any-map}
+use Rattle.hist_gateway.proofs.KeptSteps.{after-append}
 
 -- what a reply's change makes of the databases
 abbrev pub AllMake : Type 0

@@ -14,9 +14,9 @@ use Rattle.hist_gateway.specs.Block.{Gateway, GatewayEvent, gw_block, gw_history
 use Rattle.hist_gateway.specs.May.{GatewayMayAct, IsGatewayPast}
 use Rattle.hist_gateway.specs.Safe.{numbers, IsGatewaySafe}
 use Rattle.hist_gateway.proofs.KeepsLemmas.{same-is}
-use Rattle.hist_gateway.proofs.MayLemmas.{AllFit, may-block}
-use Rattle.hist_gateway.proofs.StepsLemmas.{after-append}
-use Rattle.hist_gateway.proofs.HalvesLemmas.{lawful-after}
+use Rattle.hist_gateway.proofs.MayAct.{AllFit, may-block}
+use Rattle.hist_gateway.proofs.KeptSteps.{after-append}
+use Rattle.hist_gateway.proofs.LiveHalves.{lawful-after}
 
 -- ---- numbers are at most the count
 

@@ -7,8 +7,8 @@ use Rattle.hist_gateway.specs.State.{state_of, did_all}
 use Rattle.hist_gateway.specs.Machine.{next, run}
 use Rattle.hist_gateway.specs.May.{AreNewHalves}
 use Rattle.hist_gateway.proofs.KeepsLemmas.{keeps}
-use Rattle.hist_gateway.proofs.BlocksLemmas.{Judges, acts-are}
-use Rattle.hist_gateway.proofs.MayLemmas.{AllFit, may-block, new-halves}
+use Rattle.hist_gateway.proofs.MachineBlocks.{Judges, acts-are}
+use Rattle.hist_gateway.proofs.MayAct.{AllFit, may-block, new-halves}
 
 pub keeps-all : (g : List ℕ) (h block : List Act) → AreNewHalves g h block → state_of g (after h block) ≡ did_all g (state_of g h) block
 keeps-all g h [] new = refl

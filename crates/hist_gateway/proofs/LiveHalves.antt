@@ -18,7 +18,7 @@ use Rattle.hist_gateway.specs.Let.{newer, newest}
 use Rattle.hist_gateway.specs.Block.{Gateway}
 use Rattle.hist_gateway.specs.May.{has_half, GatewayMayActAll, IsGatewayPast, IsInstallable, AreInstalled, are_apart, has_inbound_spi, are_spis_apart, ArePut, AreHalves, IsHalfFor, IsHalfOf}
 use Rattle.hist_gateway.proofs.KeepsLemmas.{same-refl, same-sym}
-use Rattle.hist_gateway.proofs.ReadingsLemmas.{any-end, live-is, without-half}
+use Rattle.hist_gateway.proofs.PlainReadings.{any-end, live-is, without-half}
 
 -- ---- halves but one
 
