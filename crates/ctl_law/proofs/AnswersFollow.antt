@@ -4,6 +4,7 @@ use Rattle.std.specs.List.{filter}
 use Rattle.ikeless_tree.specs.declared.command.Peer.{Peer}
 use Rattle.ikeless_tree.specs.declared.order.Answer.{Answer}
 use Rattle.hist_acts.specs.Past.{after}
+use Rattle.std.proofs.Math.Bool.{or-true}
 use Rattle.hist_controller.specs.Acts.{Way, ControllerOrder, Read, Policy, PutIn, PutOut, RemoveIn, RemoveOut, ControllerAct, Answered}
 use Rattle.hist_controller.specs.Past.{is_open, is_first_answered, is_read, openings, answered, oldest, queue, directions, is_answer_to, RemovingIn}
 use Rattle.hist_controller.specs.Law.{going, by_answer}
@@ -18,13 +19,14 @@ use Rattle.ctl_core.specs.declared.peer.Session.TheVariants as sessions
 use Rattle.ctl_core.specs.Core as core
 use Rattle.ctl_core.specs.Core.{Core, at}
 use Rattle.ctl_core.specs.Step as step
-use Rattle.ctl_law.specs.Stands.{waiting_of, station_of, IsSpent, StandsFor}
+use Rattle.ctl_law.specs.Stands.{waiting_of, station_of, StandsFor}
 use Rattle.ctl_law.specs.Told.{is_status_of, may_answer}
 use Rattle.ctl_law.proofs.Follows.{Follows, follows-still, follows-at}
 use Rattle.ctl_law.proofs.Goes.{Ran, runs, longer, all_orders}
 use Rattle.ctl_law.proofs.Looks.{queue-at, oldest-at, reads-set, station-after, changes}
 use Rattle.ctl_law.proofs.Numbered.{numbered-at}
 use Rattle.ctl_law.proofs.OwnReplies.{progress-answered}
+use Rattle.ctl_law.proofs.Spends.{IsSpent}
 
 -- a status of a put is 201, or refuses it
 put-status : (n : ℕ) → ((n == 201) || (n == 409)) ≡ true → ((n == 201) || nat_le 400 n) ≡ true
@@ -49,10 +51,6 @@ open-by p h g o os l e false t = absurd (let w : o ∷ os ≡ [] = sym e ∙ shu
 
 read-then : (n : ℕ) (f : Bool) → (f ≡ true) ⊎ (n ≡ 0) → ((n + 1 == 1) || f) ≡ true
 read-then n f (inl e) = rw e (or-true (n + 1 == 1))
-  where
-    or-true : (b : Bool) → (b || true) ≡ true
-    or-true true = refl
-    or-true false = refl
 read-then n f (inr e) = rw e refl
 
 spent-answered : (h : List ControllerAct) (g s n : ℕ) (a : Answer) (d : Way) → IsSpent h d → IsSpent (Answered g s n a ∷ h) d

@@ -1,11 +1,12 @@
 -- A command.
-use Rattle.std.proofs.Common.{◌≡◌, ℕ, ◌<◌, Bool, true, false, ◌==◌, ◌||◌, nat_lt, List, [], ◌∷◌, ◌++◌, Option, Some, None, length, refl, sym, subst, ap, ◌∙◌, arith, if◌then◌else◌, append-nil}
+use Rattle.std.proofs.Common.{◌≡◌, ℕ, ◌<◌, Bool, true, false, ◌==◌, nat_lt, List, [], ◌∷◌, ◌++◌, Option, Some, None, length, refl, sym, subst, ap, ◌∙◌, arith, if◌then◌else◌, append-nil}
 use Rattle.ikeless_tree.specs.declared.command.Peer.{Peer}
 use Rattle.ikeless_tree.specs.declared.command.Refusal.{Refusal}
 use Rattle.ikeless_tree.specs.declared.command.Refusal.TheVariants as refusals
 use Rattle.ikeless_tree.specs.declared.entry.SpdEntry.{SpdEntry}
 use Rattle.ikeless_tree.specs.declared.order.Order.TheVariants as tree
 use Rattle.hist_acts.specs.Past.{after}
+use Rattle.std.proofs.Math.Bool.{or-true}
 use Rattle.hist_controller.specs.Acts.{Way, Policy, PlacedCommand, SetPolicy, End, Rekey, Keys, ControllerAct, Accepted}
 use Rattle.hist_controller.specs.Past.{is_open, queue, newest_list, directions, new_ways, both_ways, is_made_by, is_over, left}
 use Rattle.hist_controller.specs.Past as past
@@ -23,7 +24,7 @@ use Rattle.ctl_core.specs.Core.{Core}
 use Rattle.ctl_core.specs.Drafts.{Drafted, given}
 use Rattle.ctl_core.specs.Pass as passes
 use Rattle.ctl_core.specs.Step as step
-use Rattle.ctl_law.specs.Stands.{station_of, numbered, progress_of, direction_of, IsSpent, TunnelsStand, StandsFor}
+use Rattle.ctl_law.specs.Stands.{station_of, numbered, progress_of, direction_of, TunnelsStand, StandsFor}
 use Rattle.ctl_law.proofs.Drafts.{drafting}
 use Rattle.ctl_law.proofs.Follows.{Follows, follows-refused, follows-run, follows-at}
 use Rattle.ctl_law.proofs.Goes.{Asked, Ran, runs, longer, all_orders}
@@ -32,6 +33,7 @@ use Rattle.ctl_law.proofs.Looks.{open-at, reads-at, station-after, count-of, cha
 use Rattle.ctl_law.proofs.Numbered.{numbered-same, numbered-at}
 use Rattle.ctl_law.proofs.Pass.{Changed}
 use Rattle.ctl_law.proofs.TunnelsKnown.{tunnel-known}
+use Rattle.ctl_law.proofs.Spends.{IsSpent}
 
 -- ## a list of policies
 
@@ -131,10 +133,6 @@ ended ps h c r l y f w =
     (kept-ways (step.end_effect r) h (Accepted (End r) ∷ h) c.tunnels c.pairs refl f.tunnels (λ d j. sym (progress-end (length ps) h r d l j)) (λ d j u. record { over = spent d u; left = u.left }))
     (λ j. refl)
   where
-    or-true : (b : Bool) → (b || true) ≡ true
-    or-true true = refl
-    or-true false = refl
-
     spent : (d : Way) → IsSpent h d → is_over d (Accepted (End r) ∷ h) ≡ true
     spent d u = let o : is_over d h ≡ true = u.over in rw o (or-true (d.tunnel.reqid == r))
 

@@ -45,7 +45,7 @@ follows-at ps h os a c ch ready x g f n r w = record {
 
 refused-tunnels : (h : List ControllerAct) (w : Refusal) (ds : List Way) (ts : List Tunnel) (qs : List Pair) → TunnelsStand h ds ts qs → TunnelsStand (Refused w ∷ h) ds ts qs
 refused-tunnels h w _ _ _ no_more = no_more
-refused-tunnels h w _ _ _ (left_out d e ds ts qs a b r) = left_out d e ds ts qs (record { over = a.over; left = a.left }) (record { over = b.over; left = b.left }) (refused-tunnels h w ds ts qs r)
+refused-tunnels h w _ _ _ (left_out d e ds ts qs a b r) = left_out d e ds ts qs a b (refused-tunnels h w ds ts qs r)
 refused-tunnels h w _ _ _ (stands d e ds t ts qs a r) = stands d e ds t ts qs a (refused-tunnels h w ds ts qs r)
 
 pub follows-refused : (ps : List Peer) (h : List ControllerAct) (c : Core) (w : Refusal) → StandsFor ps h c → Follows ps h (Refused w ∷ []) (step.refused c w)

@@ -7,6 +7,7 @@ use Rattle.ikeless_tree.specs.declared.command.Refusal.{Refusal}
 use Rattle.ikeless_tree.specs.declared.entry.SpdEntry.{SpdEntry}
 use Rattle.ikeless_tree.specs.declared.order.Notice.{Notice}
 use Rattle.ikeless_tree.specs.declared.order.Notice.TheVariants as notices
+use Rattle.std.proofs.Math.Bool.{or-false, and-false}
 use Rattle.hist_controller.specs.Acts.{Way, Association, ControllerOrder, Read, Policy, PutIn, PutOut, RemoveIn, RemoveOut, PlacedTunnel, SetPolicy, Tunnel, End, Rekey, Keys, ControllerAct, Opened, Heard, Accepted, Refused}
 use Rattle.hist_controller.specs.Past.{is_open, queue, directions, is_made_by, left, newest_serial, is_own, is_cause_notice, has_entry, newest_list, is_half_at, is_of_newest, is_in_progress, is_ended}
 use Rattle.hist_controller.specs.Clauses.{Has, IsControllerPast}
@@ -163,10 +164,6 @@ by-side : (a b : Bool) (s : Side) (n m : ℕ) (e : Bool) → (((a && is_in s n m
 by-side a b sides.In n m e = in-half a b (n == m) e
 by-side a b sides.Out n m e = out-half a b (n == m) e
 
-or-none : (b : Bool) → (b || false) ≡ b
-or-none true = refl
-or-none false = refl
-
 pub older-below : (d : Way) (h : List ControllerAct) (y : Association) → older_left d h ≡ Some y → (y.serial == newest_serial d h) ≡ false
 older-below d h y e = let t : nat_lt y.serial (newest_serial d h) ≡ true = (first-some (λ x. nat_lt x.serial (newest_serial d h)) (left d h) y e).1 in grind arith
 
@@ -178,18 +175,14 @@ alive p h d l a = ap (list_any (λ x. (x.serial == newest_serial d h) && not (is
   where
     case : (o m : Option Association) → older_left d h ≡ o → newest_left d h ≡ m → list_any (λ x. (x.serial == newest_serial d h) && not (is_ended x h)) (listed o ++ listed m) ≡ steps.when (λ x. not x.ended) (option_map (life_of h) m)
     case None None e f = refl
-    case None (Some x) e f = let t = newest-is d h x f in rw t (or-none (not (is_ended x h)))
+    case None (Some x) e f = let t = newest-is d h x f in rw t (or-false (not (is_ended x h)))
     case (Some y) None e f = let t = older-below d h y e in rw t refl
-    case (Some y) (Some x) e f = let t = newest-is d h x f in let u = older-below d h y e in rw (t, u) (or-none (not (is_ended x h)))
+    case (Some y) (Some x) e f = let t = newest-is d h x f in let u = older-below d h y e in rw (t, u) (or-false (not (is_ended x h)))
 
 -- a half of the association put last, which is not ended
 abbrev worn_half : List ControllerAct → Way → ℕ → Option HalfName → Option Association → Bool
 worn_half h d g None m = false
 worn_half h d g (Some half) m = steps.when (λ x. steps.is_side (d.sender == g) (d.receiver == g) half.side && (x.serial == half.serial) && not x.ended) (option_map (life_of h) m)
-
-and-none : (b : Bool) → (b && false) ≡ false
-and-none true = refl
-and-none false = refl
 
 by-half : (h : List ControllerAct) (d : Way) (g : ℕ) (half : Option HalfName) → worn_effect g half (direction_of d) (progress_of h d) ≡ steps.wanted_if (worn_half h d g half (newest_left d h)) (progress_of h d)
 by-half h d g None = refl
@@ -207,9 +200,9 @@ worn p h d g name l a = by-half h d g (half_named name) ∙ ap (λ b. steps.want
     case : (half : Option HalfName) (m : Option Association) → newest_left d h ≡ m → IsHalfName name half
         → list_any (λ x. (x.serial == newest_serial d h) && not (is_ended x h)) (left d h) ≡ steps.when (λ x. not x.ended) (option_map (life_of h) m)
         → worn_half h d g half m ≡ (is_half_at d g name (newest_serial d h) && list_any (λ x. (x.serial == newest_serial d h) && not (is_ended x h)) (left d h))
-    case None None e k u = rw u (sym (and-none (is_half_at d g name (newest_serial d h))))
+    case None None e k u = rw u (sym (and-false (is_half_at d g name (newest_serial d h))))
     case None (Some x) e k u = rw (side d g name (newest_serial d h) None k (is-small x e), no-half d g (newest_serial d h)) refl
-    case (Some half) None e k u = rw u (sym (and-none (is_half_at d g name (newest_serial d h))))
+    case (Some half) None e k u = rw u (sym (and-false (is_half_at d g name (newest_serial d h))))
     case (Some half) (Some x) e k u =
         rw (u, side d g name (newest_serial d h) (Some half) k (is-small x e), is-newest x e)
         (sym (by-side (d.receiver == g) (d.sender == g) half.side x.serial half.serial (not (is_ended x h))))

@@ -8,6 +8,7 @@ pub mod OwnReplies
 pub mod Ordered
 pub mod Next
 pub mod Drafts
+pub mod Spends
 pub mod Pass
 pub mod Numbered
 pub mod Lines
@@ -23,3 +24,4 @@ pub mod TunnelsFollow
 pub mod Steps
 pub mod Refusals
 pub mod Spis
+pub mod Shown

@@ -5,6 +5,10 @@ use Rattle.hist_controller.specs.Acts.{Association}
 use Rattle.hist_controller.specs.Law.{first}
 use Rattle.hist_controller.specs.Clauses.{Has}
 
+pub not-true : (b : Bool) → (b ≡ true → ⊥) → b ≡ false
+not-true true f = absurd (f refl)
+not-true false f = refl
+
 pub filter-same : {A : Type 0} (p q : A → Bool) (xs : List A) → ((x : A) → Has x xs → p x ≡ q x) → filter p xs ≡ filter q xs
 filter-same p q [] e = refl
 filter-same p q (x ∷ xs) e =

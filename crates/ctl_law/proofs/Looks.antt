@@ -15,10 +15,11 @@ use Rattle.ctl_core.specs.declared.peer.Station.{Station}
 use Rattle.ctl_core.specs.Core as core
 use Rattle.ctl_core.specs.Pass as passes
 use Rattle.ctl_core.specs.Step.{readiness, set_ready}
-use Rattle.ctl_law.specs.Stands.{waiting_of, session_of, station_of, numbered, progress_of, direction_of, IsSpent, TunnelsStand, no_more, left_out, stands}
+use Rattle.ctl_law.specs.Stands.{waiting_of, session_of, station_of, numbered, progress_of, direction_of, TunnelsStand, no_more, left_out, stands}
 use Rattle.ctl_law.proofs.Lines.{Orders, orders_for, same-after, queue-after}
 use Rattle.ctl_law.proofs.Numbered.{numbered-map, numbered-get, numbered-length, set-get}
 use Rattle.ctl_law.proofs.Pass.{Changed, none_changed, spent_too, changed}
+use Rattle.ctl_law.proofs.Spends.{IsSpent, spent-parts}
 
 -- ## one gateway
 
@@ -103,5 +104,5 @@ pub changes : (ch : passes.Effect) (h k : List ControllerAct) (ds : List Way) (t
     → ((d : Way) → Has d ds → IsSpent h d → IsSpent k d)
     → Changed ch k ds ts qs
 changes ch h k _ _ _ no_more f g = none_changed
-changes ch h k _ _ _ (left_out d e ds ts qs a b r) f g = spent_too d e ds ts qs (g d (inl refl) a) (g e (inr (inl refl)) b) (changes ch h k ds ts qs r (λ z i. f z (inr (inr i))) (λ z i. g z (inr (inr i))))
+changes ch h k _ _ _ (left_out d e ds ts qs a b r) f g = spent_too d e ds ts qs (g d (inl refl) (spent-parts h d a)) (g e (inr (inl refl)) (spent-parts h e b)) (changes ch h k ds ts qs r (λ z i. f z (inr (inr i))) (λ z i. g z (inr (inr i))))
 changes ch h k _ _ _ (stands d e ds t ts qs a r) f g = changed d e ds t ts _ qs a (f d (inl refl)) (f e (inr (inl refl))) (changes ch h k ds ts qs r (λ z i. f z (inr (inr i))) (λ z i. g z (inr (inr i))))

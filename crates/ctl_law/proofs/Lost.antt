@@ -2,6 +2,7 @@
 use Rattle.std.proofs.Common.{◌≡◌, ℕ, Bool, true, false, ◌==◌, ◌&&◌, ◌||◌, List, [], ◌∷◌, ◌++◌, Option, Some, None, refl, sym, subst, ap, ◌∙◌, arith, if◌then◌else◌}
 use Rattle.std.specs.List.{filter, list_any}
 use Rattle.std.specs.Option.{option_map}
+use Rattle.std.proofs.Math.Bool.{or-false}
 use Rattle.hist_controller.specs.Acts.{Way, Association, ControllerOrder, Read, Policy, PutIn, PutOut, RemoveIn, RemoveOut, ControllerAct, Cut}
 use Rattle.hist_controller.specs.Past.{queue, directions, is_over, is_wanted, left, is_own, is_kind, PuttingIn, PuttingOut, is_put_of}
 use Rattle.hist_controller.specs.Clauses.{Has, IsControllerPast}
@@ -58,14 +59,10 @@ own-puts d xs (PutOut y) t n e f = e ∙ ap lives.puts (task-of tasks.PutOut t y
 own-puts d xs (RemoveIn m) t n e f = ap lives.puts (task-of tasks.RemoveIn t m n f).0
 own-puts d xs (RemoveOut m) t n e f = ap lives.puts (task-of tasks.RemoveOut t m n f).0
 
-or-none : (b : Bool) → (b || false) ≡ b
-or-none true = refl
-or-none false = refl
-
 serial-puts : (k : ℕ) (o : ControllerOrder) (t : Task) (n : ℕ) → half_of o ≡ half t n → puts_serial k o ≡ (lives.puts t && (k == n))
 serial-puts k Read t n f = cc
 serial-puts k (Policy l) t n f = cc
-serial-puts k (PutIn y) t n f = let q = task-of tasks.PutIn t y.serial n f in rw (sym q.0, sym q.1) (or-none (k == y.serial))
+serial-puts k (PutIn y) t n f = let q = task-of tasks.PutIn t y.serial n f in rw (sym q.0, sym q.1) (or-false (k == y.serial))
 serial-puts k (PutOut y) t n f = let q = task-of tasks.PutOut t y.serial n f in rw (sym q.0, sym q.1) refl
 serial-puts k (RemoveIn m) t n f = let q = task-of tasks.RemoveIn t m n f in rw (sym q.0) refl
 serial-puts k (RemoveOut m) t n f = let q = task-of tasks.RemoveOut t m n f in rw (sym q.0) refl
@@ -127,10 +124,10 @@ one-lost p h d f s o t n l i e u v q w r =
     a ∙ ap (after_loss h d (o ∷ [])) q ∙ m ∙ sym c
   where
     life : (x : Association) → steps.lost_life (record { task = t; serial = n }) (life_of h x) ≡ lives.ended_if (list_any (puts_serial x.serial) (o ∷ [])) (life_of h x)
-    life x = ap (λ b. lives.ended_if b (life_of h x)) (sym (or-none (puts_serial x.serial o) ∙ serial-puts x.serial o t n u))
+    life x = ap (λ b. lives.ended_if b (life_of h x)) (sym (or-false (puts_serial x.serial o) ∙ serial-puts x.serial o t n u))
 
     lost : after_loss h d (o ∷ []) None ≡ steps.lost (record { task = t; serial = n }) (progress_of h d)
-    lost = same-progress _ _ _ _ _ _ _ _ _ _ refl (ap (λ b. b || is_wanted d h) (or-none (is_put_of d o) ∙ own-puts d (left d h) o t n v u)) refl
+    lost = same-progress _ _ _ _ _ _ _ _ _ _ refl (ap (λ b. b || is_wanted d h) (or-false (is_put_of d o) ∙ own-puts d (left d h) o t n v u)) refl
         (sym (made-first (steps.lost_life (record { task = t; serial = n })) (life_of h) (λ x. lives.ended_if (list_any (puts_serial x.serial) (o ∷ [])) (life_of h x)) (older_left d h) (λ x j. life x)))
         (sym (made-first (steps.lost_life (record { task = t; serial = n })) (life_of h) (λ x. lives.ended_if (list_any (puts_serial x.serial) (o ∷ [])) (life_of h x)) (newest_left d h) (λ x j. life x)))
 

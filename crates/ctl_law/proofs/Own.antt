@@ -14,7 +14,7 @@ use Rattle.ctl_tunnels.specs.declared.life.Task.TheVariants as tasks
 use Rattle.ctl_tunnels.specs.Lives as lives
 use Rattle.ctl_law.specs.Stands.{half_of}
 use Rattle.hist_controller.proofs.Own.{waiting-left, one-own}
-use Rattle.ctl_law.proofs.Lists.{filter-passes}
+use Rattle.ctl_law.proofs.Lists.{not-true, filter-passes}
 
 -- the order is of this serial
 abbrev pub has_serial : ℕ → ControllerOrder → Bool
@@ -75,27 +75,23 @@ own-order p h l d i g (RemoveOut n) j t =
     record { task = tasks.RemoveOut; association = q.0; is = ap (half tasks.RemoveOut) (sym q.2); left = q.1; at = w.4 ∙ ap (λ (z : Association). z.way.sender) (sym s) ∙ ap (λ (z : Way). z.sender) (sym e) }
 
 -- An order of another direction is of no association left in this one.
-by-test : (b : Bool) (P : Type 0) → (b ≡ true → ⊥) → b ≡ false
-by-test true P f = absurd (f refl)
-by-test false P f = refl
-
 pub foreign : (p : ℕ) (h : List ControllerAct) → IsControllerPast p h → (d : Way) → Has d (directions h) → (g : ℕ) (o : ControllerOrder) → Has o (queue g h) → is_own d (left d h) o ≡ false → (x : Association) → Has x (left d h) → has_serial x.serial o ≡ false
 foreign p h l d i g Read j t x k = refl
 foreign p h l d i g (Policy r) j t x k = refl
-foreign p h l d i g (PutIn y) j t x k = by-test (x.serial == y.serial) ⊥ (λ u.
+foreign p h l d i g (PutIn y) j t x k = not-true (x.serial == y.serial) (λ u.
     let w = waiting-left p h l g (PutIn y) j in
     let s : x ≡ y = one p h l d y.way x y k w.1 (grind arith) in
     let e : d ≡ x.way = own-way p h l d x i k in
     let f : (d.id == y.way.id) ≡ true = (let q : d.id ≡ y.way.id = ap (λ (z : Way). z.id) e ∙ ap (λ (z : Association). z.way.id) s in grind arith) in
     let v : true ≡ false = sym f ∙ t in cc)
-foreign p h l d i g (PutOut y) j t x k = by-test (x.serial == y.serial) ⊥ (λ u.
+foreign p h l d i g (PutOut y) j t x k = not-true (x.serial == y.serial) (λ u.
     let w = waiting-left p h l g (PutOut y) j in
     let s : x ≡ y = one p h l d y.way x y k w.1 (grind arith) in
     let e : d ≡ x.way = own-way p h l d x i k in
     let f : (d.id == y.way.id) ≡ true = (let q : d.id ≡ y.way.id = ap (λ (z : Way). z.id) e ∙ ap (λ (z : Association). z.way.id) s in grind arith) in
     let v : true ≡ false = sym f ∙ t in cc)
-foreign p h l d i g (RemoveIn n) j t x k = by-test (x.serial == n) ⊥ (λ u. let v : true ≡ false = sym (any-has (λ (z : Association). z.serial == n) x (left d h) k u) ∙ t in cc)
-foreign p h l d i g (RemoveOut n) j t x k = by-test (x.serial == n) ⊥ (λ u. let v : true ≡ false = sym (any-has (λ (z : Association). z.serial == n) x (left d h) k u) ∙ t in cc)
+foreign p h l d i g (RemoveIn n) j t x k = not-true (x.serial == n) (λ u. let v : true ≡ false = sym (any-has (λ (z : Association). z.serial == n) x (left d h) k u) ∙ t in cc)
+foreign p h l d i g (RemoveOut n) j t x k = not-true (x.serial == n) (λ u. let v : true ≡ false = sym (any-has (λ (z : Association). z.serial == n) x (left d h) k u) ∙ t in cc)
 
 -- ## which one waits, and where
 

@@ -4,6 +4,7 @@ use Rattle.std.specs.List.{filter, list_any}
 use Rattle.std.specs.Option.{option_map}
 use Rattle.ikeless_tree.specs.declared.command.Peer.{Peer}
 use Rattle.ikeless_tree.specs.declared.order.Answer.{Answer}
+use Rattle.std.proofs.Math.Bool.{or-false}
 use Rattle.hist_controller.specs.Acts.{Way, Association, ControllerOrder, Read, Policy, PutIn, PutOut, RemoveIn, RemoveOut, ControllerAct, Answered}
 use Rattle.hist_controller.specs.Past.{rest, queue, directions, is_over, is_wanted, left, newest_serial, is_own, RemovingIn, is_kind, is_cause_reading}
 use Rattle.hist_controller.specs.Law.{first}
@@ -192,10 +193,6 @@ put-in-reply h d f a y = record { is = refl; left = λ x j. life x (x.serial == 
     life x true t = rw t refl
     life x false t = rw t refl
 
-or-none : (b : Bool) → (b || false) ≡ b
-or-none true = refl
-or-none false = refl
-
 put-out-reply : (p : ℕ) (h : List ControllerAct) (d : Way) (f : ℕ) (a : Answer) (y : Association) → IsControllerPast p h → Has d (directions h) → (d.id == y.way.id) ≡ true → OwnReply h d f a (PutOut y) tasks.PutOut y.serial
 put-out-reply p h d f a y l i u = record { is = refl; left = λ x j. life x (same x j) (x.serial == y.serial) refl; cause = refl }
   where
@@ -203,7 +200,7 @@ put-out-reply p h d f a y l i u = record { is = refl; left = λ x j. life x (sam
     same x j = let w : x.way.id ≡ d.id = ap (λ (z : Way). z.id) (sym (own-way p h l d x i j)) in rw w u
 
     life : (x : Association) → (x.way.id == y.way.id) ≡ true → (b : Bool) → (x.serial == y.serial) ≡ b → (if x.serial == y.serial then lives.answered_own (life_of h x) a.status tasks.PutOut else Some (lives.ended_if (nat_lt x.serial y.serial && (a.status == 201)) (life_of h x))) ≡ Some (answered_life h f a (PutOut y) x)
-    life x v true t = let w : nat_lt x.serial y.serial ≡ false = grind arith in rw (t, v, w, or-none (nat_le 400 a.status)) refl
+    life x v true t = let w : nat_lt x.serial y.serial ≡ false = grind arith in rw (t, v, w, or-false (nat_le 400 a.status)) refl
     life x v false t = rw (t, v) refl
 
 remove-in-reply : (h : List ControllerAct) (d : Way) (f : ℕ) (a : Answer) (m : ℕ) → OwnReply h d f a (RemoveIn m) tasks.RemoveIn m

@@ -20,9 +20,11 @@ use Rattle.ctl_tunnels.specs.Tunnels as tunnels
 use Rattle.ctl_core.specs.declared.peer.Station.{Station}
 use Rattle.ctl_core.specs.Drafts.{Drafted}
 use Rattle.ctl_core.specs.Pass as passes
-use Rattle.ctl_law.specs.Stands.{progress_of, direction_of, IsTunnel, IsSpent, TunnelsStand, no_more, left_out, stands}
+use Rattle.ctl_law.specs.Stands.{progress_of, direction_of, IsTunnel, TunnelsStand, no_more, left_out, stands}
 use Rattle.ctl_law.proofs.Drafts.{drafting, AtHand, Drafts, drafts}
+use Rattle.ctl_law.proofs.Lists.{not-true}
 use Rattle.ctl_law.proofs.Ordered.{progress-other, no-inbound}
+use Rattle.ctl_law.proofs.Spends.{IsSpent, spent-whole}
 
 -- ## a direction is left as it is by the orders of others
 
@@ -48,13 +50,9 @@ any-none : (n : ℕ) (xs : List Association) → ((x : Association) → Has x xs
 any-none n [] f = refl
 any-none n (x ∷ xs) f = let t = f x (inl refl) in rw t (any-none n xs (λ y i. f y (inr i)))
 
-by-test : (b : Bool) → (b ≡ true → ⊥) → b ≡ false
-by-test true f = absurd (f refl)
-by-test false f = refl
-
 -- an association of another direction has another serial
 other-serial : (p : ℕ) (h : List ControllerAct) (d e : Way) → IsControllerPast p h → Has d (directions h) → Has e (directions h) → (e.id == d.id) ≡ false → (z : Association) → Has z (left d h) → list_any (λ y. y.serial == z.serial) (left e h) ≡ false
-other-serial p h d e l i j t z k = any-none z.serial (left e h) (λ y m. by-test (y.serial == z.serial) (λ u.
+other-serial p h d e l i j t z k = any-none z.serial (left e h) (λ y m. not-true (y.serial == z.serial) (λ u.
     let s : y ≡ z = one p h l e d y z m k (grind arith) in
     let v : e ≡ d = own-way p h l e y j m ∙ ap (λ (w : Association). w.way) s ∙ sym (own-way p h l d z i k) in
     let w : (e.id == d.id) ≡ true = (let q : e.id ≡ d.id = ap (λ (c : Way). c.id) v in grind arith) in
@@ -161,7 +159,7 @@ pass-spent : (ps : List Peer) (h : List ControllerAct) (d e : Way) (ds : List Wa
 pass-spent ps h d e ds ts qs ss ks ready ch x a b u v k = record {
   draft = k.draft ∙ ap (λ os. drafting ps os x) (sym none);
   serials = subst (λ os. (drafting ps os x).serials ≡ serials (after h os)) (sym none) k.serials;
-  stands = subst (λ os. TunnelsStand (after h os) (d ∷ e ∷ ds) ts (passes.pass_pairs ss ks ch ready ts qs x)) (sym none) (left_out d e ds ts _ (spent-stays h (after h (pass h ds)) d a u) (spent-stays h (after h (pass h ds)) e b v) k.stands);
+  stands = subst (λ os. TunnelsStand (after h os) (d ∷ e ∷ ds) ts (passes.pass_pairs ss ks ch ready ts qs x)) (sym none) (left_out d e ds ts _ (spent-whole _ d (spent-stays h (after h (pass h ds)) d a u)) (spent-whole _ e (spent-stays h (after h (pass h ds)) e b v)) k.stands);
 }
   where
     none : pass h (d ∷ e ∷ ds) ≡ pass h ds

@@ -4,6 +4,7 @@ use Rattle.ikeless_tree.specs.declared.command.Peer.{Peer}
 use Rattle.ikeless_tree.specs.declared.entry.SpdEntry.{SpdEntry}
 use Rattle.ikeless_tree.specs.declared.order.Order.TheVariants as tree
 use Rattle.hist_acts.specs.Past.{after}
+use Rattle.std.proofs.Math.Bool.{true-and}
 use Rattle.hist_controller.specs.Acts.{Way, Read, ControllerAct, Opened, Cut, Cuts}
 use Rattle.hist_controller.specs.Past.{is_open, is_first_answered, is_read, openings, queue, newest_list, directions}
 use Rattle.hist_controller.specs.Law.{order, with_list, read_put, going}
@@ -37,10 +38,6 @@ asked-list k g (Some l) = tt
 draft-list : (ps : List Peer) (k : List ControllerAct) (g : ℕ) (o : Option (List SpdEntry)) (x : Drafted) → step.with_list g o x ≡ drafting ps (with_list k g o) x
 draft-list ps k g None x = refl
 draft-list ps k g (Some l) x = refl
-
-true-and : (b : Bool) → (true && b) ≡ b
-true-and true = refl
-true-and false = refl
 
 opening : (ps : List Peer) (h : List ControllerAct) (c : Core) (g s : ℕ) → IsControllerPast (length ps) h → PlainAnswers h → StandsFor ps h c → g < length ps → is_open g h ≡ false → s ≡ openings g h + 1
     → Follows ps h (going h (Opened g s)) (step.opening_with c g (step.with_list g (core.list_at c.stations g) (given g tree.Read None (step.no_draft c))))

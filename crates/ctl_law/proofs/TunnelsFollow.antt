@@ -21,7 +21,7 @@ use Rattle.ctl_core.specs.Core as core
 use Rattle.ctl_core.specs.Core.{Core}
 use Rattle.ctl_core.specs.Pass as passes
 use Rattle.ctl_core.specs.Step as step
-use Rattle.ctl_law.specs.Stands.{station_of, IsSpent, StandsFor}
+use Rattle.ctl_law.specs.Stands.{station_of, StandsFor}
 use Rattle.ctl_law.proofs.CommandsFollow.{quietly, policy-follows, end-follows, rekey-follows, keys-follow}
 use Rattle.ctl_law.proofs.Follows.{Follows, follows-refused}
 use Rattle.ctl_law.proofs.Heard.{progress-tunnel, progress-new}
@@ -29,6 +29,7 @@ use Rattle.ctl_law.proofs.Looks.{count-of, changes as all-changes}
 use Rattle.ctl_law.proofs.Numbered.{numbered-number}
 use Rattle.ctl_law.proofs.Pass.{Changed, none_changed, spent_too, changed}
 use Rattle.ctl_law.proofs.TunnelsKnown.{tunnel-known, unspent-stand, tunnels-count}
+use Rattle.ctl_law.proofs.Spends.{IsSpent}
 
 changed-more : (ch : passes.Effect) (k : List ControllerAct) (ds es : List Way) (ts us : List tunnel.Tunnel) (qs rs : List Pair) → Changed ch k ds ts qs → Changed ch k es us rs → Changed ch k (ds ++ es) (ts ++ us) (qs ++ rs)
 changed-more ch k _ es _ us _ rs none_changed m = m

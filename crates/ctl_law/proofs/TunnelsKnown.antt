@@ -6,6 +6,7 @@ use Rattle.std.specs.Option.{option_map}
 use Rattle.hist_controller.specs.Acts.{Way, Association, ControllerAct}
 use Rattle.hist_controller.specs.Past.{is_over, left}
 use Rattle.hist_controller.specs.Law as law
+use Rattle.hist_controller.specs.Spent.{is_spent}
 use Rattle.hist_controller.specs.Clauses.{IsControllerPast}
 use Rattle.hist_controller.specs.Halves.{PlainAnswers}
 use Rattle.hist_controller.specs.Left.{listed, newest_left, older_left}
@@ -15,7 +16,8 @@ use Rattle.ctl_tunnels.specs.declared.tunnel.Pair.{Pair}
 use Rattle.ctl_tunnels.specs.declared.tunnel.Tunnel.{Tunnel}
 use Rattle.ctl_tunnels.specs.Steps as steps
 use Rattle.ctl_core.specs.Changes as changes
-use Rattle.ctl_law.specs.Stands.{life_of, progress_of, IsSpent, TunnelsStand, no_more, left_out, stands}
+use Rattle.ctl_law.specs.Stands.{life_of, progress_of, TunnelsStand, no_more, left_out, stands}
+use Rattle.ctl_law.proofs.Spends.{and-both, spent-parts}
 
 -- ## a tunnel of a reqid
 
@@ -37,8 +39,8 @@ known-one r a b c m n x z e f g = rw (e, f, g) (either-way (a == r) m n z)
 pub tunnel-known : (h : List ControllerAct) (r : ℕ) (ds : List Way) (ts : List Tunnel) (qs : List Pair) → TunnelsStand h ds ts qs → changes.has_tunnel r ts qs ≡ list_any (λ d. (d.tunnel.reqid == r) && not (is_over d h)) ds
 tunnel-known h r _ _ _ no_more = refl
 tunnel-known h r _ _ _ (left_out d e ds ts qs a b k) =
-    let u : is_over d h ≡ true = a.over in
-    let v : is_over e h ≡ true = b.over in
+    let u : is_over d h ≡ true = (spent-parts h d a).over in
+    let v : is_over e h ≡ true = (spent-parts h e b).over in
     tunnel-known h r ds ts qs k ∙ sym (rw (u, v) (gone-both (d.tunnel.reqid == r) (e.tunnel.reqid == r) (list_any (λ d. (d.tunnel.reqid == r) && not (is_over d h)) ds)))
 tunnel-known h r _ _ _ (stands d e ds t ts qs a k) =
     let ih : changes.has_tunnel r ts qs ≡ list_any (λ d. (d.tunnel.reqid == r) && not (is_over d h)) ds = tunnel-known h r ds ts qs k in
@@ -60,18 +62,8 @@ and-last false b c = refl
 spent-is : (p : ℕ) (h : List ControllerAct) (d : Way) → IsControllerPast p h → PlainAnswers h → steps.is_spent (progress_of h d) ≡ (is_over d h && law.is_none (left d h))
 spent-is p h d l y = and-last (is_over d h) _ _ ∙ ap (λ b. is_over d h && b) (sym (ap law.is_none (left-two p h l y d) ∙ none-listed h (older_left d h) (newest_left d h)))
 
-no-left : (xs : List Association) → law.is_none xs ≡ true → xs ≡ []
-no-left [] e = refl
-no-left (x ∷ xs) e = cc
-
-and-both : (a b : Bool) → (a && b) ≡ true → (a ≡ true) × (b ≡ true)
-and-both true b e = (refl, e)
-and-both false b e = cc
-
-spent-there : (p : ℕ) (h : List ControllerAct) (d : Way) → IsControllerPast p h → PlainAnswers h → steps.is_spent (progress_of h d) ≡ true → IsSpent h d
-spent-there p h d l y e =
-    let q = and-both (is_over d h) (law.is_none (left d h)) (sym (spent-is p h d l y) ∙ e) in
-    record { over = q.0; left = no-left (left d h) q.1 }
+spent-there : (p : ℕ) (h : List ControllerAct) (d : Way) → IsControllerPast p h → PlainAnswers h → steps.is_spent (progress_of h d) ≡ true → is_spent d h ≡ true
+spent-there p h d l y e = sym (spent-is p h d l y) ∙ e
 
 pub unspent-stand : (p : ℕ) (h : List ControllerAct) (ds : List Way) (ts : List Tunnel) (qs : List Pair) → IsControllerPast p h → PlainAnswers h → TunnelsStand h ds ts qs → TunnelsStand h ds (changes.unspent_tunnels ts qs) (changes.unspent_pairs ts qs)
 unspent-stand p h _ _ _ l y no_more = no_more
@@ -96,10 +88,10 @@ counted-is false b c e = refl
 pub tunnels-count : (p : ℕ) (h : List ControllerAct) (ds : List Way) (ts : List Tunnel) (qs : List Pair) → IsControllerPast p h → PlainAnswers h → TunnelsStand h ds ts qs → changes.count_tunnels qs ≡ law.tunnels h ds
 tunnels-count p h _ _ _ l y no_more = refl
 tunnels-count p h _ _ _ l y (left_out d e ds ts qs a b k) =
-    let u : is_over d h ≡ true = a.over in
-    let v : is_over e h ≡ true = b.over in
-    let m : left d h ≡ [] = a.left in
-    let n : left e h ≡ [] = b.left in
+    let u : is_over d h ≡ true = (spent-parts h d a).over in
+    let v : is_over e h ≡ true = (spent-parts h e b).over in
+    let m : left d h ≡ [] = (spent-parts h d a).left in
+    let n : left e h ≡ [] = (spent-parts h e b).left in
     tunnels-count p h ds ts qs l y k ∙ sym (rw (u, v, m, n) refl)
 tunnels-count p h _ _ _ l y (stands d e ds t ts qs a k) =
     let ih : changes.count_tunnels qs ≡ law.tunnels h ds = tunnels-count p h ds ts qs l y k in

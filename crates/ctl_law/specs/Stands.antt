@@ -3,7 +3,8 @@ use Rattle.std.specs.Prelude.{◌≡◌, ℕ, ◌+◌, Bool, true, false, List, 
 use Rattle.std.specs.Option.{option_map}
 use Rattle.ikeless_tree.specs.declared.command.Peer.{Peer}
 use Rattle.hist_controller.specs.Acts.{Way, Association, ControllerOrder, Read, Policy, PutIn, PutOut, RemoveIn, RemoveOut, ControllerAct}
-use Rattle.hist_controller.specs.Past.{is_open, is_first_answered, newest_list, queue, keys, serials, directions, is_over, is_wanted, left, is_out_ordered, has_answer, is_ended, PuttingIn, PuttingOut, RemovingOut}
+use Rattle.hist_controller.specs.Past.{is_open, is_first_answered, newest_list, queue, keys, serials, directions, is_over, is_wanted, is_out_ordered, has_answer, is_ended, PuttingIn, PuttingOut, RemovingOut}
+use Rattle.hist_controller.specs.Spent.{is_spent}
 use Rattle.hist_controller.specs.Told.{order_told}
 use Rattle.ctl_tunnels.specs.declared.life.HalfOrder.{HalfOrder}
 use Rattle.ctl_tunnels.specs.declared.life.Life.{Life}
@@ -102,16 +103,11 @@ pub record IsTunnel (t : Tunnel) (d e : Way) : Type 0 where
   pub forth : tunnels.forth t ≡ direction_of d
   pub back : tunnels.back t ≡ direction_of e
 
--- the tunnel of a direction is ended, and no association of it is left
-pub record IsSpent (h : List ControllerAct) (d : Way) : Type 0 where
-  pub over : is_over d h ≡ true
-  pub left : left d h ≡ []
-
 -- Tunnels and how far they have come stand for the directions, two by two and in their order; a tunnel that is spent in both
 -- directions may be left out.
 pub data TunnelsStand (h : List ControllerAct) : List Way → List Tunnel → List Pair → Type 0 where
   no_more : TunnelsStand h [] [] []
-  left_out : (d e : Way) (ds : List Way) (ts : List Tunnel) (ps : List Pair) → IsSpent h d → IsSpent h e → TunnelsStand h ds ts ps → TunnelsStand h (d ∷ e ∷ ds) ts ps
+  left_out : (d e : Way) (ds : List Way) (ts : List Tunnel) (ps : List Pair) → is_spent d h ≡ true → is_spent e h ≡ true → TunnelsStand h ds ts ps → TunnelsStand h (d ∷ e ∷ ds) ts ps
   stands : (d e : Way) (ds : List Way) (t : Tunnel) (ts : List Tunnel) (ps : List Pair) → IsTunnel t d e → TunnelsStand h ds ts ps → TunnelsStand h (d ∷ e ∷ ds) (t ∷ ts) (record { forth = progress_of h d; back = progress_of h e } ∷ ps)
 
 -- ## the whole
