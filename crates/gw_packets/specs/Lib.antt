@@ -1,0 +1,4 @@
+pub mod Outcome
+pub mod Looks
+pub mod Outbound
+pub mod Inbound
