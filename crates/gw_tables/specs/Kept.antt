@@ -18,7 +18,6 @@ pub record Kept : Type 0 where
 
 -- ---- after requests, sessions and the start
 
-
 abbrev pub with_halves : List Half → Kept → Kept
 with_halves halves k = record k { halves = halves }
 
