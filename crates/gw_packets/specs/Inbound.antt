@@ -11,7 +11,7 @@ use Rattle.ikeless_tree.specs.declared.entry.Direction.TheVariants.{In}
 use Rattle.ikeless_tree.specs.declared.sad.SadEntry.{SadEntry}
 use Rattle.ikeless_tree.specs.declared.order.Notice.TheVariants as notices
 use Rattle.ikeless_tree.specs.declared.reply.DropWhy.TheVariants as why
-use Rattle.esp_frame.specs.Esp.{keying, spi_of, seq_of}
+use Rattle.esp_frame.specs.Esp.{keying, spi_of}
 use Rattle.esp_frame.specs.Open as esp
 use Rattle.replay_win.specs.declared.verdict.Verdict.{Verdict}
 use Rattle.replay_win.specs.declared.verdict.Verdict.TheVariants as verdicts
@@ -19,6 +19,7 @@ use Rattle.replay_win.specs.Marks.{judged}
 use Rattle.spd_match.specs.Match.{first_entry, holds_packet}
 use Rattle.sad_store.specs.declared.half.Half.{Half}
 use Rattle.sad_store.specs.Halves.{take_number, is_half_of_spi}
+use Rattle.hist_halves.specs.Sealed.{number_from}
 use Rattle.hist_gateway.specs.Datagram.{fault_why}
 use Rattle.hist_gateway.specs.Arrive.{is_told_version, is_sealed_for}
 use Rattle.gw_packets.specs.declared.done.PacketAnswer.{PacketAnswer}
@@ -63,7 +64,7 @@ without_half spi k =
 -- the half at a place, where there is one
 abbrev pub opened_at : List ℕ → ℕ → Option Half → Kept → Outcome
 opened_at b i None k = without_half (spi_of b) k
-opened_at b i (Some x) k = opened_by_verdict b i x (seq_of b) (judged x.window (seq_of b)) k
+opened_at b i (Some x) k = opened_by_verdict b i x (number_from x.entry x.window.top b) (judged x.window (number_from x.entry x.window.top b)) k
 
 abbrev pub opened_by_place : List ℕ → Option ℕ → Kept → Outcome
 opened_by_place b None k = without_half (spi_of b) k
