@@ -1,0 +1,229 @@
+ghost use Rattle.std.specs.Prelude.{◌≡◌, ◌≤◌, IfOk, None, vec_capacity, length};
+
+use crate::acquires::{comes_in, copied_and, is_among, note, unstand};
+use crate::rows::rows;
+use ikeless_tree::{Entries, Names, SadEntry, Tree};
+use ikl_base::{Duplicate, Name, NoMemory};
+use sad_store::SadStore;
+use std::alloc::Global;
+use std::marker::Model;
+
+// One more than the SPIs that are kept.
+const BAD_SPI_ROOM: usize = 65;
+
+/// What a gateway keeps.
+///
+/// Contracts see the list in force, the halves in the order of installation, the names of the policies whose acquire stands, the
+/// SPIs whose notice stands with the newest first, and the clock in seconds.
+#[derive(Debug, Drop)]
+pub struct Tables {
+    spd: Entries,
+    halves: SadStore,
+    acquires: Vec<Name>,
+    bad_spis: Vec<u32>,
+    clock: u32,
+}
+
+impl Model for Tables {
+    ghost use Rattle.std.specs.Prelude.{◌≤◌, vec_capacity};
+    ghost use Rattle.gw_tables.specs.Kept.{Kept};
+    ghost use Rattle.gw_tables.specs.Sound.{IsSound};
+
+    ghost Value = { Kept };
+
+    ghost view = { λ t. record { spd = t.spd; halves = t.halves; acquires = t.acquires.items; bad_spis = t.bad_spis.items; clock = t.clock } };
+
+    ghost invariant = { λ t. IsSound (record { spd = t.spd; halves = t.halves; acquires = t.acquires.items; bad_spis = t.bad_spis.items; clock = t.clock }) × (65 ≤ vec_capacity t.bad_spis) };
+}
+
+impl Tables {
+    ghost use Rattle.std.specs.Prelude.{◌<◌, ◌==◌, ◌++◌, ◌∷◌, [], ℕ, Some, true, nat_lt, slice_get, option_map, OnOk, OnErr};
+    ghost use Rattle.std.specs.List.{list_any};
+    ghost use Rattle.std.specs.Str.{bytes_eq};
+    ghost use Rattle.ikeless_tree.specs.Check.{spd_fault, sad_fault};
+    ghost use Rattle.replay_win.specs.Marks.{judged};
+    ghost use Rattle.replay_win.specs.declared.verdict.Verdict.TheVariants.{Fresh};
+    ghost use Rattle.sad_store.specs.Install.{install_fault};
+    ghost use Rattle.gw_tables.specs.Kept.{booted, installed, removed, session_taken, with_list};
+    ghost use Rattle.gw_tables.specs.Rows.{tree_of};
+    ghost use Rattle.gw_tables.specs.Sound.{IsSound};
+    ghost use Rattle.gw_tables.specs.Uses.{looked_at, removed_all, sent_at, taken_at, told_at, with_acquires, with_bad_spi};
+
+    /// A gateway that has just started: nothing stands, and the clock is 0.
+    pub fn booted(alloc: Global) -> Result<Tables, NoMemory>
+        ensures { IfOk result (λ t. t ≡ booted) }
+    {
+        let bad_spis = Vec::with_capacity(alloc, BAD_SPI_ROOM)?;
+        Ok(Tables {
+            spd: Entries::new(alloc),
+            halves: SadStore::new(alloc),
+            acquires: Vec::new(alloc),
+            bad_spis,
+            clock: 0,
+        })
+    }
+
+    /// What always holds: the list in force and every entry are without a fault, there are at most 4,096 halves with names apart and
+    /// windows of their entries' sizes, and at most 64 SPIs. Nothing is done.
+    pub fn are_sound(&self)
+        ensures { IsSound self.now }
+    {}
+
+    /// The list of policies in force.
+    pub fn spd(&self) -> &Entries
+        ensures { result.now ≡ self.now.spd }
+    {
+        &self.spd
+    }
+
+    /// The halves, in the order of installation.
+    pub fn halves(&self) -> &SadStore
+        ensures { result.now ≡ self.now.halves }
+    {
+        &self.halves
+    }
+
+    /// The clock, in seconds.
+    pub fn clock(&self) -> u32
+        ensures { result ≡ self.now.clock }
+    {
+        self.clock
+    }
+
+    /// Whether an acquire of the policy of this name stands.
+    pub fn is_acquired(&self, name: &Name) -> bool
+        ensures { result ≡ list_any (λ q. bytes_eq q name.now) self.now.acquires }
+    {
+        is_among(name.as_slice(), &self.acquires)
+    }
+
+    /// Whether a notice of this SPI stands.
+    pub fn is_bad_spi(&self, spi: u32) -> bool
+        ensures { result ≡ list_any (λ s. s == spi) self.now.bad_spis }
+    {
+        self.bad_spis.iter().any(|s| *s == spi)
+    }
+
+    /// A copy of the names of the policies whose acquire stands, and one more.
+    pub fn acquires_and(&self, name: Name) -> Result<Names, NoMemory>
+        ensures { IfOk result (λ names. names ≡ self.now.acquires ++ name ∷ []) }
+    {
+        copied_and(&self.acquires, *self.acquires.allocator(), name)
+    }
+
+    /// A copy of both databases: the list in force, and each half with its counts at this clock and its greatest number.
+    pub fn tree(&self, alloc: Global) -> Result<Tree, NoMemory>
+        ensures { IfOk result (λ tree. tree ≡ tree_of self.now) }
+    {
+        Ok(Tree {
+            spd: self.spd.copy()?,
+            sad: rows(alloc, &self.halves, self.clock)?,
+        })
+    }
+
+    /// Another list is in force. No acquire stands then.
+    pub fn set_list(&mut self, list: Entries)
+        requires { spd_fault list ≡ None }
+        ensures { self.new ≡ with_list list self.old }
+    {
+        self.spd = list;
+        self.acquires.clear();
+    }
+
+    /// Installs a half. If it is outbound, no acquire of a policy with its `reqid` stands then.
+    pub fn install(&mut self, e: SadEntry) -> Result<(), NoMemory>
+        requires sound { sad_fault e ≡ None }
+        requires free { install_fault e self.old.halves ≡ None }
+        ensures ok { OnOk result (self.new ≡ installed e self.old) }
+        ensures err { OnErr result (self.new ≡ self.old) }
+    {
+        let reqid = e.reqid;
+        let is_in = comes_in(&e.name);
+        match self.halves.install(e, self.clock) {
+            Err(_) => Err(NoMemory),
+            Ok(()) => {
+                if !is_in {
+                    unstand(&mut self.acquires, reqid, &self.spd);
+                }
+                Ok(())
+            }
+        }
+    }
+
+    /// Takes the half of this name out, if there is one.
+    pub fn remove(&mut self, name: &Name)
+        ensures { self.new ≡ removed name.now self.old }
+    {
+        self.halves.remove(name);
+    }
+
+    /// Takes the halves of these names out.
+    pub fn remove_all(&mut self, names: &Names)
+        ensures { self.new ≡ removed_all names.now self.old }
+    {
+        for name in names.as_slice() {
+            self.remove(name);
+        }
+    }
+
+    /// A session is taken: no notice stands.
+    pub fn session(&mut self)
+        ensures { self.new ≡ session_taken self.old }
+    {
+        self.halves.session();
+        self.acquires.clear();
+        self.bad_spis.clear();
+    }
+
+    /// The acquires of these policies stand.
+    pub fn set_acquires(&mut self, names: Names)
+        ensures { self.new ≡ with_acquires names self.old }
+    {
+        self.acquires = names.into_items();
+    }
+
+    /// A notice of this SPI stands, and of the newest 63 before it.
+    pub fn add_bad_spi(&mut self, spi: u32)
+        ensures { self.new ≡ with_bad_spi spi self.old }
+    {
+        note(&mut self.bad_spis, spi);
+    }
+
+    /// An overflow of this half's numbers is told.
+    pub fn tell_overflow(&mut self, i: usize)
+        requires { i < length self.old.halves }
+        ensures { self.new ≡ told_at i self.old }
+    {
+        self.halves.overflow(i);
+    }
+
+    /// This half sends its next number, with these ESP octets, and is looked at.
+    pub fn send(&mut self, i: usize, octets: u64)
+        requires within { i < length self.old.halves }
+        requires last { option_map (λ x. nat_lt x.sent 4294967295) (slice_get self.old.halves i) ≡ Some true }
+        ensures { self.new ≡ sent_at octets i self.old }
+    {
+        self.halves.next_number(i);
+        self.halves.used(i, octets, self.clock);
+    }
+
+    /// This half takes a fresh number, with these ESP octets, and is looked at.
+    pub fn take_number(&mut self, i: usize, octets: u64, number: u64)
+        requires within { i < length self.old.halves }
+        requires fresh { option_map (λ x. judged x.window number) (slice_get self.old.halves i) ≡ Some Fresh }
+        ensures { self.new ≡ taken_at octets number i self.old }
+    {
+        self.halves.mark(i, number);
+        self.halves.used(i, octets, self.clock);
+    }
+
+    /// The clock is read, and all halves are looked at.
+    pub fn look(&mut self, clock: u32)
+        ensures { self.new ≡ looked_at clock self.old }
+    {
+        for i in 0..self.halves.len() {
+            self.halves.tick(i, clock);
+        }
+        self.clock = clock;
+    }
+}
