@@ -61,6 +61,7 @@ pub(crate) fn note(spis: &mut Vec<u32>, spi: u32)
     requires few { length spis.old.items ≤ 64 }
     requires room { 65 ≤ vec_capacity spis.old }
     ensures items { spis.new.items ≡ take 64 (spi ∷ spis.old.items) }
+    ensures few { length spis.new.items ≤ 64 }
     ensures room { 65 ≤ vec_capacity spis.new }
 {
     match spis.insert(0, spi) {

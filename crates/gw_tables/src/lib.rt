@@ -4,5 +4,6 @@
 mod acquires;
 mod rows;
 mod tables;
+mod uses;
 
 pub use tables::Tables;

@@ -2,6 +2,7 @@ ghost use Rattle.std.specs.Prelude.{◌≡◌, ◌≤◌, IfOk, None, vec_capaci
 
 use crate::acquires::{comes_in, copied_and, is_among, note, unstand};
 use crate::rows::rows;
+use crate::uses::{look_at_all, send_at, take_at, take_out};
 use ikeless_tree::{Entries, Names, SadEntry, Tree};
 use ikl_base::{Duplicate, Name, NoMemory};
 use sad_store::SadStore;
@@ -67,7 +68,9 @@ impl Tables {
     /// windows of their entries' sizes, and at most 64 SPIs. Nothing is done.
     pub fn are_sound(&self)
         ensures { IsSound self.now }
-    {}
+    {
+        let _ = &self.spd;
+    }
 
     /// The list of policies in force.
     pub fn spd(&self) -> &Entries
@@ -161,9 +164,7 @@ impl Tables {
     pub fn remove_all(&mut self, names: &Names)
         ensures { self.new ≡ removed_all names.now self.old }
     {
-        for name in names.as_slice() {
-            self.remove(name);
-        }
+        take_out(&mut self.halves, names);
     }
 
     /// A session is taken: no notice stands.
@@ -203,8 +204,7 @@ impl Tables {
         requires last { option_map (λ x. nat_lt x.sent 4294967295) (slice_get self.old.halves i) ≡ Some true }
         ensures { self.new ≡ sent_at octets i self.old }
     {
-        self.halves.next_number(i);
-        self.halves.used(i, octets, self.clock);
+        send_at(&mut self.halves, i, octets, self.clock);
     }
 
     /// This half takes a fresh number, with these ESP octets, and is looked at.
@@ -213,17 +213,14 @@ impl Tables {
         requires fresh { option_map (λ x. judged x.window number) (slice_get self.old.halves i) ≡ Some Fresh }
         ensures { self.new ≡ taken_at octets number i self.old }
     {
-        self.halves.mark(i, number);
-        self.halves.used(i, octets, self.clock);
+        take_at(&mut self.halves, i, octets, number, self.clock);
     }
 
     /// The clock is read, and all halves are looked at.
     pub fn look(&mut self, clock: u32)
         ensures { self.new ≡ looked_at clock self.old }
     {
-        for i in 0..self.halves.len() {
-            self.halves.tick(i, clock);
-        }
+        look_at_all(&mut self.halves, clock);
         self.clock = clock;
     }
 }
