@@ -1,7 +1,8 @@
 -- Lists from which a front or an end has been dealt with.
-use Rattle.std.proofs.Common.{◌≡◌, ◌≤◌, ◌<◌, ◌+◌, ℕ, zero, suc, Bool, true, false, not, List, [], ◌∷◌, ◌++◌, map, take, drop, length, get_or, remove, slice_get, Some, None, refl, ap, sym, ◌∙◌, arith}
+use Rattle.std.proofs.Common.{◌≡◌, ◌≤◌, ◌<◌, ◌+◌, ℕ, zero, suc, Bool, true, false, List, [], ◌∷◌, ◌++◌, map, take, drop, length, slice_get, Option, Some, None, IfSome, refl, ap, sym, ◌∙◌, if◌then◌else◌, arith}
+use Rattle.ip_packet.specs.View.{Packet}
 use Rattle.sad_store.specs.declared.half.Half.{Half}
-use Rattle.sad_store.specs.Halves.{changed}
+use Rattle.sad_store.specs.Halves.{changed, later_place, may_seal, newest_place}
 
 -- one more is dealt with, by its place
 pub mapped-next : {X Y : Type 0} → (f : X → Y) (xs : List X) (i : ℕ) (x : X) → slice_get xs i ≡ Some x → map f (take i xs) ++ f x ∷ [] ≡ map f (take (i + 1) xs)
@@ -26,3 +27,21 @@ pub changed-next : (f : Half → Half) (i : ℕ) (xs : List Half) → i < length
 changed-next f i [] e = absurd (omega arith)
 changed-next f zero (x ∷ xs) e = refl
 changed-next f (suc i) (x ∷ xs) e = let next : suc i + 1 ≡ suc (i + 1) = omega arith in rw next (ap (λ ys. f x ∷ ys) (changed-next f i xs (omega arith)))
+
+-- ---- places
+
+later : (b : Bool) (i n : ℕ) → (if b then Some 0 else None) ≡ Some i → i < suc n
+later true i n e = let zero-is : 0 ≡ i = cc in omega arith
+later false i n e = cc
+
+newest-by : (reqid : ℕ) (v : Packet) (x : Half) (n i : ℕ) (place : Option ℕ) → ((j : ℕ) → place ≡ Some j → j < n) → later_place reqid v x place ≡ Some i → i < suc n
+newest-by reqid v x n i None within e = later (may_seal reqid v x.entry) i n e
+newest-by reqid v x n i (Some j) within e = let below = within j refl in let next : j + 1 ≡ i = cc in omega arith
+
+pub newest-within : (reqid : ℕ) (v : Packet) (xs : List Half) (i : ℕ) → newest_place reqid v xs ≡ Some i → i < length xs
+newest-within reqid v [] i e = cc
+newest-within reqid v (x ∷ xs) i e = newest-by reqid v x (length xs) i (newest_place reqid v xs) (λ j at. newest-within reqid v xs j at) e
+
+pub if-some : (place : Option ℕ) (n : ℕ) → ((i : ℕ) → place ≡ Some i → i < n) → IfSome place (λ i. i < n)
+if-some None n within = tt
+if-some (Some i) n within = within i refl

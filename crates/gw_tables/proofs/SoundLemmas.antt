@@ -75,6 +75,12 @@ apart-left name xs apart = by (position (is_half_named name) xs) refl
     by None is = ap (λ ys. are_names_apart (names_of ys)) (without-absent name xs (none-there (is_half_named name) xs is)) ∙ apart
     by (Some i) is = (kept-without name xs (map spi_key (entries_of xs)) (map reqid_key (entries_of xs)) i (columns xs apart) (removed-there name xs i apart is)).apart
 
+pub half-at : (xs : List Half) (i : ℕ) (x : Half) → slice_get xs i ≡ Some x → AreHalves xs → IsHalf x
+half-at [] zero x is all = cc
+half-at [] (suc i) x is all = cc
+half-at (y ∷ ys) zero x is all = let same : y ≡ x = cc in subst IsHalf same all.0
+half-at (y ∷ ys) (suc i) x is all = half-at ys i x is all.1
+
 -- ---- a half that is installed
 
 passed : (b : Bool) (fault : InstallFault) (rest : Option InstallFault) → (if b then Some fault else rest) ≡ None → (b ≡ false) × (rest ≡ None)

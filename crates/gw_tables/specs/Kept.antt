@@ -3,8 +3,12 @@ use Rattle.std.specs.Prelude.{ℕ, Bool, not, List, [], ◌∷◌, ◌++◌, map
 use Rattle.ikeless_tree.specs.Half.{is_inbound}
 use Rattle.ikeless_tree.specs.declared.entry.SpdEntry.{SpdEntry}
 use Rattle.ikeless_tree.specs.declared.sad.SadEntry.{SadEntry}
+use Rattle.ikeless_tree.specs.declared.sad.Tree.{Tree}
+use Rattle.reply_table.specs.declared.ask.Change.{Change}
+use Rattle.reply_table.specs.declared.ask.Change.TheVariants as changes
 use Rattle.sad_store.specs.declared.half.Half.{Half}
 use Rattle.sad_store.specs.Halves.{fresh, hushed, halves_without}
+use Rattle.hist_gateway.specs.Machine.{row_from}
 use Rattle.hist_gateway.specs.Stands.{has_reqid}
 
 -- The list in force, the halves in the order of installation, the policies whose acquire stands, the SPIs whose notice stands with
@@ -49,3 +53,16 @@ installed e k = record k { halves = k.halves ++ fresh k.clock e ∷ []; acquires
 
 abbrev pub removed : List ℕ → Kept → Kept
 removed name k = with_halves (halves_without name k.halves) k
+
+-- ---- requests
+
+-- the databases, as requests see them
+abbrev pub tree_of : Kept → Tree
+tree_of k = record { spd = k.spd; sad = map (row_from k.clock) k.halves }
+
+-- after a request that leaves this list of policies and changes this
+abbrev pub kept_after : List SpdEntry → Change → Kept → Kept
+kept_after list changes.Nothing k = k
+kept_after list changes.Spd k = with_list list k
+kept_after list (changes.Put e) k = installed e k
+kept_after list (changes.Gone name) k = removed name k

@@ -5,7 +5,8 @@ use crate::rows::rows;
 use crate::uses::{look_at_all, send_at, take_at, take_out};
 use ikeless_tree::{Entries, Names, SadEntry, Tree};
 use ikl_base::{Duplicate, Name, NoMemory};
-use sad_store::SadStore;
+use ip_packet::View;
+use sad_store::{Half, SadStore};
 use std::alloc::Global;
 use std::marker::Model;
 
@@ -38,16 +39,17 @@ impl Model for Tables {
 }
 
 impl Tables {
-    ghost use Rattle.std.specs.Prelude.{◌<◌, ◌==◌, ◌++◌, ◌∷◌, [], ℕ, Some, true, nat_lt, slice_get, option_map, OnOk, OnErr};
+    ghost use Rattle.std.specs.Prelude.{◌<◌, ◌==◌, ◌++◌, ◌∷◌, [], ℕ, IfSome, position, Some, true, nat_lt, slice_get, option_map, OnOk, OnErr};
     ghost use Rattle.std.specs.List.{list_any};
     ghost use Rattle.std.specs.Str.{bytes_eq};
     ghost use Rattle.ikeless_tree.specs.Check.{spd_fault, sad_fault};
     ghost use Rattle.replay_win.specs.Marks.{judged};
     ghost use Rattle.replay_win.specs.declared.verdict.Verdict.TheVariants.{Fresh};
+    ghost use Rattle.ip_packet.specs.View.{seen};
+    ghost use Rattle.sad_store.specs.Halves.{is_half_of_spi, newest_place};
     ghost use Rattle.sad_store.specs.Install.{install_fault};
-    ghost use Rattle.gw_tables.specs.Kept.{booted, installed, removed, session_taken, with_list};
-    ghost use Rattle.gw_tables.specs.Rows.{tree_of};
-    ghost use Rattle.gw_tables.specs.Sound.{IsSound};
+    ghost use Rattle.gw_tables.specs.Kept.{booted, installed, removed, session_taken, tree_of, with_list};
+    ghost use Rattle.gw_tables.specs.Sound.{IsHalf, IsSound};
     ghost use Rattle.gw_tables.specs.Uses.{looked_at, removed_all, sent_at, taken_at, told_at, with_acquires, with_bad_spi};
 
     /// A gateway that has just started: nothing stands, and the clock is 0.
@@ -86,6 +88,31 @@ impl Tables {
         &self.halves
     }
 
+    /// The half at this place in the order of installation.
+    pub fn half(&self, i: usize) -> &Half
+        requires { i < length self.now.halves }
+        ensures half { slice_get self.now.halves i ≡ Some result.now }
+        ensures sound { IsHalf result.now }
+    {
+        self.halves.half(i)
+    }
+
+    /// Where the newest outbound half with this `reqid` is whose selector holds the packet (RFC 4301 section 5.1).
+    pub fn pick_out(&self, reqid: u64, v: &View) -> Option<usize>
+        ensures place { result ≡ newest_place reqid (seen v.now) self.now.halves }
+        ensures within { IfSome result (λ i. i < length self.now.halves) }
+    {
+        self.halves.pick_out(reqid, v)
+    }
+
+    /// Where the inbound half with this SPI is (RFC 4301 section 4.1).
+    pub fn by_spi(&self, spi: u32) -> Option<usize>
+        ensures place { result ≡ position (is_half_of_spi spi) self.now.halves }
+        ensures within { IfSome result (λ i. i < length self.now.halves) }
+    {
+        self.halves.by_spi(spi)
+    }
+
     /// The clock, in seconds.
     pub fn clock(&self) -> u32
         ensures { result ≡ self.now.clock }
@@ -115,12 +142,13 @@ impl Tables {
     }
 
     /// A copy of both databases: the list in force, and each half with its counts at this clock and its greatest number.
-    pub fn tree(&self, alloc: Global) -> Result<Tree, NoMemory>
-        ensures { IfOk result (λ tree. tree ≡ tree_of self.now) }
+    pub fn tree(&self) -> Result<Tree, NoMemory>
+        ensures tree { IfOk result (λ tree. tree ≡ tree_of self.now) }
+        ensures sound { IsSound self.now }
     {
         Ok(Tree {
             spd: self.spd.copy()?,
-            sad: rows(alloc, &self.halves, self.clock)?,
+            sad: rows(*self.acquires.allocator(), &self.halves, self.clock)?,
         })
     }
 
