@@ -55,6 +55,9 @@ opened_by_verdict b i x n verdicts.Old k = dropped why.Old k
 opened_by_verdict b i x n verdicts.Seen k = dropped why.Seen k
 opened_by_verdict b i x n verdicts.Fresh k = opened_by_text b i x n (esp.opened (keying x.entry.spi x.entry.key) b) k
 
+abbrev pub opened_by_number : List ℕ → ℕ → Half → ℕ → Kept → Outcome
+opened_by_number b i x n k = opened_by_verdict b i x n (judged x.window n) k
+
 -- no inbound half has this SPI: a notice, unless one stands
 abbrev pub without_half : ℕ → Kept → Outcome
 without_half spi k =
@@ -64,7 +67,7 @@ without_half spi k =
 -- the half at a place, where there is one
 abbrev pub opened_at : List ℕ → ℕ → Option Half → Kept → Outcome
 opened_at b i None k = without_half (spi_of b) k
-opened_at b i (Some x) k = opened_by_verdict b i x (number_from x.entry x.window.top b) (judged x.window (number_from x.entry x.window.top b)) k
+opened_at b i (Some x) k = opened_by_number b i x (number_from x.entry x.window.top b) k
 
 abbrev pub opened_by_place : List ℕ → Option ℕ → Kept → Outcome
 opened_by_place b None k = without_half (spi_of b) k
