@@ -1,2 +1,4 @@
 pub mod Used
 pub mod Outbound
+pub mod Inbound
+pub mod Clocks
