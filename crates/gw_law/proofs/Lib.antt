@@ -2,3 +2,5 @@ pub mod Used
 pub mod Outbound
 pub mod Inbound
 pub mod Clocks
+pub mod Requests
+pub mod Pasts
