@@ -1,5 +1,5 @@
 -- What is done with a datagram from outside is what the law of a gateway does.
-use Rattle.std.proofs.Common.{◌≡◌, ◌⊎◌, inl, inr, ℕ, ◌+◌, ◌==◌, ◌&&◌, Bool, true, false, not, nat_le, nat_lt, List, [], ◌∷◌, ◌++◌, length, find, position, Option, Some, None, Result, Ok, Err, map, take, refl, sym, ap, ◌∙◌, subst, option_and_then, slice_get, if◌then◌else◌}
+use Rattle.std.proofs.Common.{◌≡◌, ◌⊎◌, inl, inr, ℕ, ◌==◌, Bool, true, false, not, nat_lt, List, [], ◌∷◌, length, find, position, Option, Some, None, Result, Ok, Err, map, take, refl, sym, ap, ◌∙◌, subst, option_and_then, slice_get, if◌then◌else◌}
 use Rattle.std.specs.List.{list_any}
 use Rattle.std.specs.Str.{bytes_eq}
 use Rattle.ikl_base.specs.declared.address.Addr.{Addr}
@@ -13,7 +13,6 @@ use Rattle.ikeless_tree.specs.declared.entry.Direction.TheVariants.{In}
 use Rattle.ikeless_tree.specs.declared.order.Notice.TheVariants as notices
 use Rattle.ikeless_tree.specs.declared.reply.DropWhy.{DropWhy}
 use Rattle.ikeless_tree.specs.declared.reply.DropWhy.TheVariants as why
-use Rattle.ikeless_tree.specs.Half.{is_inbound}
 use Rattle.esp_frame.specs.Esp.{keying, spi_of}
 use Rattle.esp_frame.specs.Open as esp
 use Rattle.replay_win.specs.declared.verdict.Verdict.{Verdict}
@@ -28,9 +27,8 @@ use Rattle.hist_acts.specs.declared.act.Act.TheVariants as acts
 use Rattle.hist_halves.specs.Sealed.{by_spi, esp_of, is_opened, number_from, payload_of}
 use Rattle.hist_gateway.specs.Datagram.{fault_why}
 use Rattle.hist_gateway.specs.Uses.{octets_in}
-use Rattle.hist_gateway.specs.State.{GatewayState, did, given_under, number_opened, opened_under, quiet, with_arrival, with_halves}
-use Rattle.hist_gateway.specs.Machine.{in_by_half, in_by_number, in_by_text, in_by_verdict, in_by_view, in_esp, look_of, tells_of, uses_of}
-use Rattle.hist_gateway.specs.Let.{unless}
+use Rattle.hist_gateway.specs.State.{GatewayState, did, given_under, number_opened, quiet, with_arrival, with_halves}
+use Rattle.hist_gateway.specs.Machine.{in_by_half, in_by_text, in_by_verdict, in_by_view, in_esp, look_of, tells_of, uses_of}
 use Rattle.hist_gateway.specs.Arrive as arrive
 use Rattle.hist_gateway.proofs.KeepsLemmas.{same-refl}
 use Rattle.hist_gateway.proofs.PlacesLemmas.{bad-spi-at, given-at, opened-at}

@@ -4,3 +4,5 @@ pub mod Inbound
 pub mod Clocks
 pub mod Requests
 pub mod Pasts
+pub mod Events
+pub mod Runs

@@ -1,5 +1,5 @@
 -- What is done with a packet from inside is what the law of a gateway does.
-use Rattle.std.proofs.Common.{◌≡◌, ℕ, ◌+◌, Bool, true, false, nat_le, nat_lt, List, [], ◌∷◌, ◌++◌, length, Option, Some, None, Result, Ok, Err, map, take, refl, sym, ap, ◌∙◌, subst, option_and_then, slice_get, if◌then◌else◌}
+use Rattle.std.proofs.Common.{◌≡◌, ℕ, ◌+◌, Bool, true, false, nat_le, nat_lt, List, ◌∷◌, length, Option, Some, None, Result, Ok, Err, map, refl, ap, ◌∙◌, subst, option_and_then, slice_get, if◌then◌else◌}
 use Rattle.std.specs.List.{list_any}
 use Rattle.std.specs.Str.{bytes_eq}
 use Rattle.ikl_base.specs.Address.{AreOneFamily}
@@ -16,22 +16,20 @@ use Rattle.ikeless_tree.specs.declared.reply.DropWhy.TheVariants as why
 use Rattle.esp_frame.specs.Esp.{esp_len}
 use Rattle.spd_match.specs.Match.{first_entry}
 use Rattle.sad_store.specs.declared.half.Half.{Half}
-use Rattle.sad_store.specs.Halves.{changed, newest_half, newest_place, send, with_overflow}
+use Rattle.sad_store.specs.Halves.{changed, newest_place, send, with_overflow}
 use Rattle.sad_store.proofs.PlaceLemmas.{newest-there}
-use Rattle.hist_acts.specs.declared.act.Act.{Act}
 use Rattle.hist_acts.specs.declared.act.Act.TheVariants as acts
-use Rattle.hist_halves.specs.Sealed.{esp_of, is_opened}
+use Rattle.hist_halves.specs.Sealed.{is_opened}
 use Rattle.hist_gateway.specs.Datagram.{datagram, fault_why, flow_of}
 use Rattle.hist_gateway.specs.Uses.{octets_in}
 use Rattle.hist_gateway.specs.State.{GatewayState, did, quiet, sent_under, with_halves}
-use Rattle.hist_gateway.specs.Machine.{look_of, out_by_action, out_by_entry, out_by_half, out_by_view, sends_of, tells_of}
+use Rattle.hist_gateway.specs.Machine.{out_by_action, out_by_entry, out_by_half, out_by_view, sends_of, tells_of}
 use Rattle.hist_gateway.specs.Let.{unless}
 use Rattle.hist_gateway.proofs.KeepsLemmas.{same-refl}
 use Rattle.hist_gateway.proofs.PlacesLemmas.{acquire-at, overflow-at, sent-at}
 use Rattle.gw_packets.specs.declared.done.PacketAnswer.TheVariants as answers
-use Rattle.gw_packets.specs.Outcome.{dropped}
 use Rattle.gw_packets.specs.Looks.{used}
-use Rattle.gw_packets.specs.Outbound.{let_by_action, let_by_entry, let_by_view, let_in, protected_by, sealed_at, sealed_under, sent_under as sends, spent, without_half}
+use Rattle.gw_packets.specs.Outbound.{let_by_action, let_by_entry, let_by_view, let_in, protected_by, sealed_at, sent_under as sends, spent, without_half}
 use Rattle.gw_law.specs.Told.{kept_of}
 use Rattle.gw_law.specs.Orderly.{HasTunnel, IsOrderly}
 use Rattle.gw_law.proofs.Used.{IsTold, half-at, told-answer, told-drop, told-if, told-notice, told-unless, told-use}

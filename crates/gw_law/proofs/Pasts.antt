@@ -1,5 +1,5 @@
 -- What is kept of every lawful past is in order.
-use Rattle.std.proofs.Common.{◌≡◌, ◌≤◌, ℕ, zero, suc, Bool, true, false, not, ◌&&◌, ◌||◌, nat_le, List, [], ◌∷◌, ◌++◌, All, fold, length, map, take, refl, sym, ap, ◌∙◌, arith, if◌then◌else◌}
+use Rattle.std.proofs.Common.{◌≡◌, ℕ, zero, suc, Bool, true, false, not, ◌&&◌, ◌||◌, List, [], ◌∷◌, ◌++◌, All, fold, length, map, take, refl, ap, ◌∙◌, arith, if◌then◌else◌}
 use Rattle.std.proofs.lemmas.Bool.{leb-true}
 use Rattle.std.proofs.lemmas.List.Elements.{All-append, All-cons, All-head, All-map, All-nil, All-tail}
 use Rattle.std.specs.List.{list_any}
@@ -7,7 +7,6 @@ use Rattle.std.specs.Str.{bytes_eq}
 use Rattle.ikl_base.specs.Address.{AreOneFamily}
 use Rattle.ikeless_tree.specs.declared.sad.SadEntry.{SadEntry}
 use Rattle.replay_win.specs.Marks.{Marks, marked, no_marks}
-use Rattle.sad_store.specs.declared.half.Half.{Half}
 use Rattle.sad_store.specs.Halves.{names_of}
 use Rattle.sad_store.specs.Kept.{are_names_apart}
 use Rattle.hist_acts.specs.declared.act.Act.{Act}
@@ -15,7 +14,7 @@ use Rattle.hist_acts.specs.declared.act.Act.TheVariants as acts
 use Rattle.hist_acts.specs.Past.{after}
 use Rattle.hist_halves.specs.Halves.{live, numbers_taken, without}
 use Rattle.hist_gateway.specs.Block.{Gateway}
-use Rattle.hist_gateway.specs.May.{AreHalves, AreInstalled, IsGatewayPast, are_apart, has_half}
+use Rattle.hist_gateway.specs.May.{AreHalves, IsGatewayPast, are_apart, has_half}
 use Rattle.hist_gateway.specs.Stands.{bad_spis}
 use Rattle.hist_gateway.specs.State.{half_of, state_of}
 use Rattle.hist_gateway.proofs.HalvesLemmas.{halves-are}

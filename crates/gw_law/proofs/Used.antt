@@ -1,5 +1,5 @@
 -- What an answer, a notice and the use of a half make of what is kept.
-use Rattle.std.proofs.Common.{◌≡◌, ℕ, zero, suc, Bool, true, false, not, ◌&&◌, List, [], ◌∷◌, ◌++◌, Some, None, All, map, take, refl, sym, ap, ◌∙◌, subst, if◌then◌else◌}
+use Rattle.std.proofs.Common.{◌≡◌, ℕ, zero, suc, Bool, true, false, not, ◌&&◌, List, [], ◌∷◌, ◌++◌, Some, None, All, map, take, refl, ap, ◌∙◌, subst, if◌then◌else◌}
 use Rattle.std.proofs.lemmas.List.{append-nil}
 use Rattle.std.proofs.lemmas.List.Elements.{All-head, All-tail}
 use Rattle.std.specs.Prelude.{slice_get}
@@ -10,7 +10,7 @@ use Rattle.ikeless_tree.specs.declared.reply.GoneWhy.TheVariants as gone
 use Rattle.life_count.specs.declared.event.LifeEvent.TheVariants as events
 use Rattle.life_count.specs.Lifetime.{counts_of, event_at, expiry, is_reached}
 use Rattle.sad_store.specs.declared.half.Half.{Half}
-use Rattle.sad_store.specs.Halves.{changed, halves_without, look_at, names_of}
+use Rattle.sad_store.specs.Halves.{changed, look_at, names_of}
 use Rattle.sad_store.specs.Kept.{are_names_apart}
 use Rattle.hist_acts.specs.declared.act.Act.{Act}
 use Rattle.hist_acts.specs.declared.act.Act.TheVariants as acts
@@ -20,7 +20,7 @@ use Rattle.hist_gateway.specs.Let.{unless}
 use Rattle.hist_gateway.specs.State.{GatewayState, did, did_all, note, number_opened, quiet, with_acquire, with_halves, with_notice}
 use Rattle.hist_gateway.specs.Stands.{with_spi}
 use Rattle.hist_gateway.specs.Machine.{look_of, tells_of}
-use Rattle.hist_gateway.specs.Places.{names_reached, without_all}
+use Rattle.hist_gateway.specs.Places.{without_all}
 use Rattle.hist_gateway.proofs.KeepsLemmas.{same-refl}
 use Rattle.hist_gateway.proofs.LooksLemmas.{look-at-one}
 use Rattle.gw_tables.specs.Kept.{Kept}
@@ -28,7 +28,7 @@ use Rattle.gw_packets.specs.declared.done.PacketAnswer.{PacketAnswer}
 use Rattle.gw_packets.specs.Outcome.{Outcome, answered, dropped, dropped_and_told}
 use Rattle.gw_packets.specs.Looks.{gone_by, left_by, used}
 use Rattle.gw_law.specs.Told.{acts_told, answer_told, ends_told, kept_of, naming_of}
-use Rattle.gw_law.specs.Orderly.{HasTunnel, IsOrderly}
+use Rattle.gw_law.specs.Orderly.{IsOrderly}
 
 -- this is kept in place of what a state keeps, and nothing that arrived waits
 abbrev pub with_kept : Kept → GatewayState → GatewayState
@@ -158,5 +158,5 @@ told-use g s t a i f x o at keeps did-it =
     record {
       acts = ap (λ zs. answer_told g a ∷ zs) (look-told g s.session now y);
       kept = ap (λ z. did_all g z (look_of g s.session now (y ∷ []))) did-it
-        ∙ (looked ∙ ap (λ hs. with_halves hs s) (ends ∙ ap (left_by y.entry.name (event_at now y.life)) twice));
+          ∙ (looked ∙ ap (λ hs. with_halves hs s) (ends ∙ ap (left_by y.entry.name (event_at now y.life)) twice));
     }

@@ -1,5 +1,5 @@
 -- What holds of everything that a gateway keeps, in every past.
-use Rattle.std.specs.Prelude.{◌≡◌, ◌≤◌, true, List, All, Ok, length, take}
+use Rattle.std.specs.Prelude.{◌≡◌, ◌≤◌, true, List, [], ◌∷◌, All, Ok, length, take}
 use Rattle.ikl_base.specs.Address.{AreOneFamily}
 use Rattle.reply_table.specs.declared.ask.Ask.{Ask}
 use Rattle.reply_table.specs.declared.ask.Ask.TheVariants as asks
@@ -39,3 +39,12 @@ AsksTunnel _ = Unit {0}
 abbrev pub IsTunnelEvent : GatewayEvent → Type 0
 IsTunnelEvent (Handle (Ok ask)) = AsksTunnel ask
 IsTunnelEvent _ = Unit {0}
+
+abbrev pub AreTunnelEvents : List GatewayEvent → Type 0
+AreTunnelEvents [] = Unit {0}
+AreTunnelEvents (e ∷ es) = IsTunnelEvent e × AreTunnelEvents es
+
+-- the events of all lives
+abbrev pub AreTunnelLives : List (List GatewayEvent) → Type 0
+AreTunnelLives [] = Unit {0}
+AreTunnelLives (es ∷ more) = AreTunnelEvents es × AreTunnelLives more

@@ -1,17 +1,18 @@
 -- A gateway, one event after another: the acts that are told, and what is kept.
-use Rattle.std.specs.Prelude.{ℕ, ◌+◌, List, [], ◌∷◌, ◌++◌, Result, Ok, Err}
+use Rattle.std.specs.Prelude.{◌+◌, List, [], ◌∷◌, ◌++◌, Result, Ok, Err}
 use Rattle.reply_table.specs.declared.ask.Ask.{Ask}
 use Rattle.reply_table.specs.Reply as table
 use Rattle.hist_acts.specs.declared.act.Act.{Act}
 use Rattle.hist_acts.specs.declared.act.Act.TheVariants as acts
 use Rattle.hist_gateway.specs.Handle.{Fault}
-use Rattle.hist_gateway.specs.Block.{Gateway, GatewayEvent, Let, Arrive, Clock, Handle, Session_taken}
-use Rattle.gw_tables.specs.Kept.{Kept, kept_after, session_taken, tree_of}
+use Rattle.hist_acts.specs.Past.{after}
+use Rattle.hist_gateway.specs.Block.{Gateway, GatewayEvent, gw_history, Let, Arrive, Clock, Handle, Session_taken}
+use Rattle.gw_tables.specs.Kept.{Kept, booted, kept_after, session_taken, tree_of}
 use Rattle.gw_packets.specs.Outcome.{Outcome}
 use Rattle.gw_packets.specs.Outbound.{let_in}
 use Rattle.gw_packets.specs.Inbound.{arrive}
 use Rattle.gw_packets.specs.Looks.{clock_read}
-use Rattle.gw_law.specs.Told.{Naming, acts_told, fault_told, reply_told, with_request, with_session}
+use Rattle.gw_law.specs.Told.{Naming, acts_told, fault_told, reply_told, restarted, with_request, with_session}
 
 pub record Step : Type 0 where
   pub acts : List Act
@@ -40,7 +41,22 @@ step_of c n k (Clock t) = step_by n (acts.Now (clock_read t k).kept.clock) (cloc
 step_of c n k (Handle request) = handled n k request
 step_of c n k Session_taken = took_session n k
 
--- the acts of events, one after another
-abbrev pub run_of : Gateway → Naming → Kept → List GatewayEvent → List Act
-run_of c n k [] = []
-run_of c n k (e ∷ es) = (step_of c n k e).acts ++ run_of c (step_of c n k e).naming (step_of c n k e).kept es
+-- ---- events, one after another
+
+abbrev pub behind : List Act → Step → Step
+behind xs later = record later { acts = xs ++ later.acts }
+
+abbrev pub run_of : Gateway → Naming → Kept → List GatewayEvent → Step
+run_of c n k [] = record { acts = []; kept = k; naming = n }
+run_of c n k (e ∷ es) = behind (step_of c n k e).acts (run_of c (step_of c n k e).naming (step_of c n k e).kept es)
+
+-- Lives, each the events until the next restart. A gateway that starts anew keeps nothing, and is given the clock at once.
+abbrev pub lives_of : Gateway → Naming → Kept → List (List GatewayEvent) → List Act
+lives_of c n k [] = []
+lives_of c n k (es ∷ more) =
+    (run_of c n k es).acts ++ acts.Boot n.name ∷ lives_of c (restarted (run_of c n k es).naming) (clock_read (run_of c n k es).kept.clock booted).kept more
+
+-- the same by the law of the gateway, over its past
+abbrev pub lives_after : Gateway → List Act → List (List GatewayEvent) → List Act
+lives_after c h [] = []
+lives_after c h (es ∷ more) = gw_history c h es ++ acts.Boot c.name ∷ lives_after c (acts.Boot c.name ∷ after h (gw_history c h es)) more

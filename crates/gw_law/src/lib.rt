@@ -1,5 +1,10 @@
-//! The law of a gateway over what it keeps: what its packets, readings of the clock, requests and sessions make of that, told as acts,
-//! is its history.
+//! The law of a gateway over what it keeps: what packets, datagrams, readings of the clock, requests and sessions make of that, told
+//! as acts, is its history.
 #![tactic(auto)]
 
 mod laws;
+
+pub use laws::{
+    events_follow, is_every_run_safe, packets_follow, pasts_are_orderly, requests_follow,
+    restarts_follow, runs_follow,
+};
