@@ -6,3 +6,4 @@ pub mod Requests
 pub mod Pasts
 pub mod Events
 pub mod Runs
+pub mod Sound

@@ -1,5 +1,5 @@
 -- What is kept of every lawful past is in order.
-use Rattle.std.proofs.Common.{◌≡◌, ℕ, zero, suc, Bool, true, false, not, ◌&&◌, ◌||◌, List, [], ◌∷◌, ◌++◌, All, fold, length, map, take, refl, ap, ◌∙◌, arith, if◌then◌else◌}
+use Rattle.std.proofs.Common.{◌≡◌, ◌≤◌, ℕ, zero, suc, Bool, true, false, not, ◌&&◌, ◌||◌, List, [], ◌∷◌, ◌++◌, All, fold, length, map, take, refl, ap, ◌∙◌, arith, if◌then◌else◌}
 use Rattle.std.proofs.lemmas.Bool.{leb-true}
 use Rattle.std.proofs.lemmas.List.Elements.{All-append, All-cons, All-head, All-map, All-nil, All-tail}
 use Rattle.std.specs.List.{list_any}
@@ -27,7 +27,7 @@ names-any : (g : List ℕ) (h : List Act) (name : List ℕ) (es : List SadEntry)
 names-any g h name [] = refl
 names-any g h name (e ∷ es) = ap (λ b. bytes_eq e.name name || b) (names-any g h name es)
 
-apart-is : (g : List ℕ) (h : List Act) (es : List SadEntry) → are_names_apart (names_of (map (half_of g h) es)) ≡ are_apart es
+pub apart-is : (g : List ℕ) (h : List Act) (es : List SadEntry) → are_names_apart (names_of (map (half_of g h) es)) ≡ are_apart es
 apart-is g h [] = refl
 apart-is g h (e ∷ es) =
     ap (λ b. not b && are_names_apart (names_of (map (half_of g h) es))) (names-any g h e.name es) ∙ ap (λ b. not (has_half e.name es) && b) (apart-is g h es)
@@ -45,7 +45,7 @@ take-twice (suc n) (x ∷ xs) = ap (λ ys. x ∷ ys) (take-twice n xs)
 
 -- ---- windows
 
-size-is : (w : Marks) (ns : List ℕ) → (fold marked w ns).size ≡ w.size
+pub size-is : (w : Marks) (ns : List ℕ) → (fold marked w ns).size ≡ w.size
 size-is w [] = refl
 size-is w (n ∷ ns) = size-is (marked w n) ns
 
@@ -89,13 +89,17 @@ all-after Q h (x ∷ xs) p q = all-after Q (x ∷ h) xs (All-cons Q x h (All-hea
 abbrev HasTunnelEnds : SadEntry → Type 0
 HasTunnelEnds e = AreOneFamily e.local e.remote
 
-pub orderly-by : (g : List ℕ) (h : List Act) → AreHalves g h → All InstallsTunnel h → IsOrderly (state_of g h)
-orderly-by g h are l =
+pub few-halves : (g : List ℕ) (h : List Act) → AreHalves g h → length (map (half_of g h) (live g h)) ≤ 4096
+few-halves g h are =
     let few = leb-true (length (live g h)) 4096 are.few in
     let same = same-length g h (live g h) in
+    omega (arith, few, same)
+
+pub orderly-by : (g : List ℕ) (h : List Act) → AreHalves g h → All InstallsTunnel h → IsOrderly (state_of g h)
+orderly-by g h are l =
     record {
       apart = apart-is g h (live g h) ∙ are.apart;
-      few = omega (arith, few, same);
+      few = few-halves g h are;
       tunnels = All-map HasTunnel (half_of g h) (live g h) (live-all HasTunnelEnds InstallsTunnel (λ f e p. p) g h l);
       windows = windows-are g h (live g h);
       few_spis = take-twice 64 (bad_spis g h);

@@ -1,5 +1,5 @@
 // Laws for the crates above: each is the contract of a function that only calls such functions.
-ghost use Rattle.std.specs.Prelude.{◌≡◌, ◌+◌, ℕ, List, [], ◌∷◌, ◌++◌, All, Ok, Err};
+ghost use Rattle.std.specs.Prelude.{◌≡◌, ◌<◌, ◌+◌, ℕ, List, [], ◌∷◌, ◌++◌, All, Ok, Err};
 ghost use Rattle.reply_table.specs.declared.ask.Ask.{Ask};
 ghost use Rattle.reply_table.specs.Reply.{reply};
 ghost use Rattle.hist_acts.specs.declared.act.Act.{Act};
@@ -12,11 +12,13 @@ ghost use Rattle.hist_gateway.specs.Safe.{IsGatewaySafe};
 ghost use Rattle.hist_gateway.specs.State.{GatewayState, state_of};
 ghost use Rattle.hist_gateway.specs.Machine.{acts_of, next, tree_from};
 ghost use Rattle.gw_tables.specs.Kept.{Kept, booted, kept_after, session_taken, tree_of};
+ghost use Rattle.gw_tables.specs.Sound.{IsSound};
 ghost use Rattle.gw_packets.specs.Outbound.{let_in};
 ghost use Rattle.gw_packets.specs.Inbound.{arrive};
 ghost use Rattle.gw_packets.specs.Looks.{clock_read};
 ghost use Rattle.gw_law.specs.Told.{Naming, acts_told, begun, kept_of, naming_of, restarted};
 ghost use Rattle.gw_law.specs.Steps.{lives_after, lives_of, run_of, step_of};
+ghost use Rattle.gw_law.specs.Faultless.{HasNoFault};
 ghost use Rattle.gw_law.specs.Orderly.{AreTunnelEvents, AreTunnelLives, InstallsTunnel, IsOrderly};
 
 use esp_frame::seal_law;
@@ -36,6 +38,12 @@ pub fn pasts_are_orderly()
     sealed();
     seal_law();
 }
+
+/// What is kept of a past has no fault, where each act may follow those before it, and none puts a list or a half with a fault: no
+/// policy and no half has one, no half sent a number that doesn't fit its field, and nothing is more than there may be.
+pub fn pasts_have_no_fault()
+    ensures { (c : Gateway) (g : List ℕ) (h : List Act) → IsGatewayPast c h → c.seq_last < 4294967296 → All HasNoFault h → IsSound (kept_of (state_of g h)) }
+{}
 
 /// A packet from inside, a datagram from outside and a reading of the clock: behind the event's own act the acts told are those of the
 /// law, and what is kept then is what the law keeps.

@@ -5,6 +5,6 @@
 mod laws;
 
 pub use laws::{
-    events_follow, is_every_run_safe, packets_follow, pasts_are_orderly, requests_follow,
-    restarts_follow, runs_follow,
+    events_follow, is_every_run_safe, packets_follow, pasts_are_orderly, pasts_have_no_fault,
+    requests_follow, restarts_follow, runs_follow,
 };
