@@ -3,5 +3,17 @@
 #![tactic(auto)]
 
 mod done;
+mod flow;
+mod inbound;
+mod looks;
+mod notices;
+mod outbound;
+mod plan;
+mod seal;
+mod unseal;
 
 pub use done::{Config, Done, Notices, PacketAnswer};
+pub use inbound::plan_arrive;
+pub use looks::plan_clock;
+pub use outbound::plan_let;
+pub use plan::{Plan, TableChange, carry_out};
