@@ -1,14 +1,20 @@
 -- What plans come to.
-use Rattle.std.proofs.Common.{◌≡◌, ◌+◌, ◌<◌, ℕ, zero, suc, Bool, true, false, List, [], ◌∷◌, ◌++◌, take, length, append_assoc, append-nil, not, ◌&&◌, Option, Some, None, slice_get, refl, ap, sym, ◌∙◌, if◌then◌else◌, arith}
+use Rattle.std.proofs.Common.{◌≡◌, ◌+◌, ◌<◌, ℕ, zero, suc, Bool, true, false, List, [], ◌∷◌, ◌++◌, take, length, append_assoc, append-nil, not, ◌&&◌, Option, Some, None, Result, Ok, Err, IfOk, slice_get, refl, ap, sym, ◌∙◌, if◌then◌else◌, arith}
 use Rattle.ikeless_tree.specs.declared.order.Notice.{Notice}
 use Rattle.life_count.specs.declared.event.LifeEvent.{LifeEvent}
 use Rattle.life_count.specs.declared.event.LifeEvent.TheVariants as events
 use Rattle.life_count.specs.Lifetime.{counts_of, event_at, expiry, is_reached}
+use Rattle.esp_frame.specs.Open.{InnerPacket, inner_packet}
 use Rattle.sad_store.specs.declared.half.Half.{Half}
+use Rattle.sad_store.specs.Halves.{take_number}
 use Rattle.hist_gateway.specs.Places.{names_reached}
 use Rattle.gw_tables.specs.Kept.{Kept, with_halves}
 use Rattle.gw_packets.specs.Change.{going_by, gone_from}
-use Rattle.gw_packets.specs.Looks.{expiries, gone_by, left_by}
+use Rattle.gw_packets.specs.declared.done.PacketAnswer.{PacketAnswer}
+use Rattle.gw_packets.specs.declared.unseal.Unsealed.{Unsealed}
+use Rattle.gw_packets.specs.Inbound.{answer_by_packet, opened_by_text}
+use Rattle.gw_packets.specs.Looks.{expiries, gone_by, left_by, used}
+use Rattle.gw_packets.specs.Opened.{answer_by, taken_by, unsealed_by, unsealed_by_packet}
 
 -- a half that is gone leaves the others
 pub gone-left : (name : List ℕ) (event : LifeEvent) (xs : List Half) (k : Kept) → gone_from (going_by name event) (with_halves xs k) ≡ with_halves (left_by name event xs) k
@@ -58,3 +64,25 @@ reached-next now (y ∷ ys) (suc i) x e =
     rw next (ap (λ ns. ns ++ last) (sym (gone-first now y (names_reached now (take i ys))))
     ∙ (append_assoc own (names_reached now (take i ys)) last
     ∙ (ap (λ ns. own ++ ns) (reached-next now ys i x e) ∙ gone-first now y (names_reached now (take (i + 1) ys)))))
+
+-- ---- what was opened
+
+taken-packet : (b : List ℕ) (i : ℕ) (x : Half) (n : ℕ) (p : Option InnerPacket) (k : Kept) →
+    used (answer_by_packet x.entry n p) i (take_number k.clock (length b) n) (take_number k.clock (length b) n x) k ≡ taken_by b i x n (answer_by x.entry n (unsealed_by_packet p)) k
+taken-packet b i x n None k = refl
+taken-packet b i x n (Some p) k = refl
+
+taken-text : (b : List ℕ) (i : ℕ) (x : Half) (n : ℕ) (text : Option (List ℕ)) (k : Kept) → opened_by_text b i x n text k ≡ taken_by b i x n (answer_by x.entry n (unsealed_by text)) k
+taken-text b i x n None k = refl
+taken-text b i x n (Some text) k = taken-packet b i x n (inner_packet text) k
+
+-- the answer to octets that opened is that to their text
+pub taken-by-text : (b : List ℕ) (i : ℕ) (x : Half) (n : ℕ) (text : Option (List ℕ)) (u : Unsealed) (answer : PacketAnswer) (k : Kept) →
+    u ≡ unsealed_by text → answer_by x.entry n u ≡ Some answer →
+    used answer i (take_number k.clock (length b) n) (take_number k.clock (length b) n x) k ≡ opened_by_text b i x n text k
+taken-by-text b i x n text u answer k opened is =
+    ap (λ a. taken_by b i x n a k) (sym is ∙ ap (answer_by x.entry n) opened) ∙ sym (taken-text b i x n text k)
+
+pub if-ok-by : {X E : Type 0} {P Q : X → Type 0} → ((x : X) → P x → Q x) → (r : Result X E) → IfOk r P → IfOk r Q
+if-ok-by f (Ok x) p = f x p
+if-ok-by f (Err e) p = p

@@ -29,4 +29,4 @@ returns c =
     c.write_sealed.ensures
     ∙ (ap (λ (o : Outer). outer_header o ++ esp (keying_of c.key_of.result) n next p) (c.outer-o.ensures ∙ ap (outer_of e n v) size)
     ∙ ap (λ (k : Keying). outer_header (outer_of e n v (length b)) ++ esp k n next p) c.key_of.ensures) in
-    ?
+    c.from_items.ensures ∙ (with_items_is c.in_ok-octets.octets new (c.write_sealed.auto.out ∙ c.deref_mut.ensures.len) ∙ written)
