@@ -88,10 +88,10 @@ then-orders h a = joined (asked (a ∷ h) a) _ (asked-orders (a ∷ h) a) (pass-
 
 -- ---- what the controller and the world know alike
 
-open-meet : (ps : List Peer) (w : List happened.Act.Act) (c : List ControllerAct) (g : ℕ) → Named ps → Meet ps w c → g < length ps → sessions.is_open (peer_name ps g) w ≡ is_open g c
+pub open-meet : (ps : List Peer) (w : List happened.Act.Act) (c : List ControllerAct) (g : ℕ) → Named ps → Meet ps w c → g < length ps → sessions.is_open (peer_name ps g) w ≡ is_open g c
 open-meet ps w c g names m i = open-part (peer_name ps g) w ∙ ap (sessions.is_open (peer_name ps g)) m.part ∙ open-told ps c names m.fit g i
 
-openings-meet : (ps : List Peer) (w : List happened.Act.Act) (c : List ControllerAct) (g : ℕ) → Named ps → Meet ps w c → g < length ps → sessions.openings (peer_name ps g) w ≡ openings g c
+pub openings-meet : (ps : List Peer) (w : List happened.Act.Act) (c : List ControllerAct) (g : ℕ) → Named ps → Meet ps w c → g < length ps → sessions.openings (peer_name ps g) w ≡ openings g c
 openings-meet ps w c g names m i = openings-part (peer_name ps g) w ∙ ap (sessions.openings (peer_name ps g)) m.part ∙ openings-told ps c names m.fit g i
 
 orders-meet : (ps : List Peer) (w : List happened.Act.Act) (c : List ControllerAct) (g : ℕ) → Named ps → Meet ps w c → g < length ps → sessions.orders (peer_name ps g) (openings g c) w ≡ orders g c
