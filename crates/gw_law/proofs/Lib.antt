@@ -7,3 +7,4 @@ pub mod Pasts
 pub mod Events
 pub mod Runs
 pub mod Sound
+pub mod Plain

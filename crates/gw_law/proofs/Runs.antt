@@ -29,7 +29,8 @@ use Rattle.gw_law.specs.Steps.{Step, lives_after, lives_of, run_of, step_of}
 use Rattle.gw_law.specs.Orderly.{AreTunnelEvents, AreTunnelLives, InstallsTunnel, IsOrderly, IsTunnelEvent}
 use Rattle.gw_law.proofs.Outbound.{AreSized}
 use Rattle.gw_law.proofs.Pasts.{all-after, orderly-past}
-use Rattle.gw_law.proofs.Events.{step-installs, step-is}
+use Rattle.gw_law.proofs.Events.{step-is}
+use Rattle.gw_law.proofs.Plain.{step-installs}
 
 -- the law of the gateway, as the crate below proves it
 pub record Law : Type 0 where
