@@ -17,8 +17,8 @@ use Rattle.hist_gateway.specs.Block.{Gateway}
 use Rattle.hist_gateway.specs.May.{AreHalves, IsGatewayPast, are_apart, has_half}
 use Rattle.hist_gateway.specs.Stands.{bad_spis}
 use Rattle.hist_gateway.specs.State.{half_of, state_of}
-use Rattle.hist_gateway.proofs.HalvesLemmas.{halves-are}
-use Rattle.hist_gateway.proofs.MayLemmas.{lawful-installed}
+use Rattle.hist_gateway.proofs.LiveHalves.{halves-are}
+use Rattle.hist_gateway.proofs.MayAct.{lawful-installed}
 use Rattle.gw_law.specs.Orderly.{HasOwnWindow, HasTunnel, InstallsTunnel, IsOrderly}
 
 -- ---- names

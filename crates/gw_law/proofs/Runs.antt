@@ -20,7 +20,7 @@ use Rattle.hist_gateway.specs.State.{GatewayState, state_of}
 use Rattle.hist_gateway.specs.State as states
 use Rattle.hist_gateway.specs.Machine.{acts_of, next}
 use Rattle.hist_gateway.proofs.KeepsLemmas.{keeps, same-refl}
-use Rattle.hist_gateway.proofs.StepsLemmas.{after-append}
+use Rattle.hist_gateway.proofs.KeptSteps.{after-append}
 use Rattle.gw_tables.specs.Kept.{Kept, booted, with_clock}
 use Rattle.gw_packets.specs.Outcome.{Outcome, outcome}
 use Rattle.gw_packets.specs.Looks.{clock_read, looked}

@@ -15,9 +15,9 @@ use Rattle.hist_gateway.specs.Block.{Gateway}
 use Rattle.hist_gateway.specs.May.{IsGatewayPast}
 use Rattle.hist_gateway.specs.Stands.{bad_spis}
 use Rattle.hist_gateway.specs.State.{half_of, state_of}
-use Rattle.hist_gateway.proofs.HalvesLemmas.{halves-are}
+use Rattle.hist_gateway.proofs.LiveHalves.{halves-are}
 use Rattle.hist_gateway.proofs.KeepsLemmas.{same-is}
-use Rattle.hist_gateway.proofs.MayLemmas.{lawful-installed}
+use Rattle.hist_gateway.proofs.MayAct.{lawful-installed}
 use Rattle.gw_tables.specs.Sound.{AreHalves, IsHalf, IsSound}
 use Rattle.gw_law.specs.Told.{kept_of}
 use Rattle.gw_law.specs.Faultless.{HasNoFault}
