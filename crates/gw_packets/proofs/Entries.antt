@@ -1,5 +1,5 @@
 -- What an entry without a fault says of its key and its addresses.
-use Rattle.std.proofs.Common.{◌≡◌, ◌⊎◌, ◌==◌, ◌||◌, ℕ, Bool, true, false, not, nat_lt, length, Option, Some, None, IsTrue, refl, if◌then◌else◌, arith}
+use Rattle.std.proofs.Common.{◌≡◌, ◌⊎◌, ℕ, Bool, true, false, not, nat_lt, length, Option, Some, None, refl, if◌then◌else◌, arith}
 use Rattle.std.proofs.lemmas.Bool.Decides.{nat_tests}
 use Rattle.ikl_base.specs.Address.{is_one_family}
 use Rattle.ikeless_tree.specs.declared.sad.SadEntry.{SadEntry}

@@ -1,5 +1,5 @@
 -- What plans come to.
-use Rattle.std.proofs.Common.{◌≡◌, ◌+◌, ◌<◌, ℕ, zero, suc, Bool, true, false, List, [], ◌∷◌, ◌++◌, take, length, append_assoc, append-nil, not, ◌&&◌, Option, Some, None, Result, Ok, Err, IfOk, slice_get, refl, ap, sym, ◌∙◌, if◌then◌else◌, arith}
+use Rattle.std.proofs.Common.{◌≡◌, ◌+◌, ℕ, zero, suc, Bool, true, false, List, [], ◌∷◌, ◌++◌, take, length, append_assoc, append-nil, not, ◌&&◌, Option, Some, None, Result, Ok, Err, IfOk, slice_get, refl, ap, sym, ◌∙◌, if◌then◌else◌, arith}
 use Rattle.ikeless_tree.specs.declared.order.Notice.{Notice}
 use Rattle.life_count.specs.declared.event.LifeEvent.{LifeEvent}
 use Rattle.life_count.specs.declared.event.LifeEvent.TheVariants as events

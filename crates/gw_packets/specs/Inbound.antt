@@ -1,5 +1,5 @@
 -- What a gateway does at a datagram from outside (RFC 4301 section 5.2, RFC 4303 section 3.4).
-use Rattle.std.specs.Prelude.{ℕ, ◌==◌, Bool, nat_lt, not, List, [], ◌∷◌, length, position, take, Option, Some, None, Result, Ok, Err, slice_get, if◌then◌else◌}
+use Rattle.std.specs.Prelude.{ℕ, ◌==◌, nat_lt, not, List, ◌∷◌, length, position, take, Option, Some, None, Result, Ok, Err, slice_get, if◌then◌else◌}
 use Rattle.std.specs.List.{list_any}
 use Rattle.ikl_base.specs.declared.address.Addr.{Addr}
 use Rattle.ip_packet.specs.declared.packet.NotPacket.{NotPacket}

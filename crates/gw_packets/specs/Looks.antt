@@ -1,5 +1,5 @@
 -- What a look at halves ends and tells, and what it leaves (RFC 4301 section 4.4.2.1).
-use Rattle.std.specs.Prelude.{ℕ, Bool, nat_lt, List, [], ◌∷◌, ◌++◌, map, Option, Some, None, if◌then◌else◌}
+use Rattle.std.specs.Prelude.{ℕ, nat_lt, List, [], ◌∷◌, ◌++◌, map, Some, None, if◌then◌else◌}
 use Rattle.ikeless_tree.specs.declared.order.Notice.{Notice}
 use Rattle.life_count.specs.declared.event.LifeEvent.{LifeEvent}
 use Rattle.life_count.specs.declared.event.LifeEvent.TheVariants as events

@@ -1,7 +1,7 @@
 use Rattle.std.proofs.Common.{◌≡◌, List, ℕ, Some, length, ap, sym, ◌∙◌, slice_range}
 use Rattle.esp_frame.specs.Esp.{text_of}
 use Rattle.esp_frame.specs.Key.{keying_of}
-use Rattle.esp_frame.specs.Open.{InnerPacket, inner_packet, opened}
+use Rattle.esp_frame.specs.Open.{inner_packet, opened}
 use Rattle.std.proofs.lemmas.List.{with_items_is}
 use Rattle.gw_packets.specs.declared.unseal.Unsealed.TheVariants as unsealed
 use Rattle.gw_packets.specs.Opened.{unsealed_by, unsealed_by_packet}

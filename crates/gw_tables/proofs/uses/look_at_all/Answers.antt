@@ -1,4 +1,4 @@
-use Rattle.std.proofs.Common.{◌≡◌, ◌<◌, length, ap, sym, ◌∙◌, arith}
+use Rattle.std.proofs.Common.{◌<◌, length, ap, ◌∙◌, arith}
 use Rattle.sad_store.specs.Halves.{changed, look_at}
 use Rattle.gw_tables.proofs.Lists.{changed-length, changed-next}
 use Rattle.gw_tables.proofs.uses.look_at_all.Goals as goal

@@ -1,4 +1,4 @@
-use Rattle.std.proofs.Common.{◌≡◌, length, refl, ap, sym, ◌∙◌, arith}
+use Rattle.std.proofs.Common.{length, refl, ap, ◌∙◌, arith}
 use Rattle.sad_store.specs.Halves.{changed, look_at, mark_number, take_number, use_half}
 use Rattle.gw_tables.proofs.Lists.{changed-length, changed-twice}
 use Rattle.gw_tables.proofs.uses.take_at.Goals as goal

@@ -1,5 +1,3 @@
-use Rattle.std.proofs.Common.{ap, sym, ◌∙◌, slice_get}
-use Rattle.gw_tables.specs.Kept.{Kept}
 use Rattle.gw_tables.proofs.SoundLemmas.{half-at}
 use Rattle.gw_tables.proofs.tables.Tables.half.Goals as goal
 
