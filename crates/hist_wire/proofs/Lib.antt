@@ -1,0 +1,4 @@
+pub mod Dates
+pub mod Replied
+pub mod Histories
+pub mod Shows

@@ -1,0 +1,4 @@
+pub mod Dates
+pub mod Wire
+pub mod Replies
+pub mod Histories
