@@ -1,0 +1,6 @@
+//! The store of halves after any list of calls: what it is, looking back over them (RFC 4301 section 4.4.2).
+#![tactic(auto)]
+
+mod laws;
+
+pub use laws::{is_what_calls_give, looks_back_over_calls};
