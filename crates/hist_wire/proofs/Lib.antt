@@ -2,3 +2,4 @@ pub mod Dates
 pub mod Replied
 pub mod Histories
 pub mod Shows
+pub mod Shown
