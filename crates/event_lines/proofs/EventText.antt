@@ -1,13 +1,12 @@
 -- The line of an event in its canonical spelling is read as that event.
-use Rattle.std.proofs.Common.{◌≡◌, ℕ, ◌-◌, ◌^◌, ◌<◌, ◌≤◌, ◌==◌, ◌&&◌, nat_le, Bool, true, false, List, [], ◌∷◌, ◌++◌, length, map, Result, Ok, refl, sym, ap, ◌∙◌, arith}
+use Rattle.std.proofs.Common.{◌≡◌, ℕ, ◌-◌, ◌^◌, ◌<◌, ◌≤◌, nat_le, Bool, true, false, List, [], ◌∷◌, map, Ok, refl, ap, ◌∙◌, arith}
 use Rattle.std.specs.Prelude.{codes}
-use Rattle.std.specs.List.{All, AllByRecursion, list_all, slice_split, flat_map}
-use Rattle.std.specs.Str.{bytes_eq}
+use Rattle.std.specs.List.{All, list_all}
 use Rattle.std.specs.Fmt.{decimal}
-use Rattle.std.proofs.lemmas.Bool.{and_parts, and_from, leb-true}
-use Rattle.std.proofs.lemmas.List.Folds.{list_all-append}
+use Rattle.std.proofs.lemmas.Bool.{and_parts, leb-true}
 use Rattle.ikl_base.specs.declared.status.LineFault.{LineFault}
 use Rattle.ikl_base.specs.declared.status.LineFault.TheVariants as faults
+use Rattle.ikeless_tree.proofs.WordLemmas.{mode_again}
 use Rattle.ikeless_tree.specs.Check.{is_gateway, is_window}
 use Rattle.ikeless_tree.specs.declared.sad.Limits.{Limits}
 use Rattle.ikeless_tree.specs.declared.command.Peer.{Peer}
@@ -17,26 +16,22 @@ use Rattle.ikeless_tree.specs.declared.order.Lane.{Lane}
 use Rattle.hist_acts.specs.declared.event.Event.{Event}
 use Rattle.hist_acts.specs.declared.event.Event.TheVariants as events
 use Rattle.hist_acts.specs.Gateways.{is_named as is_gateway_of}
-use Rattle.yang_values.specs.Prefixes.{is_value_octet, is_slash, prefix_text}
-use Rattle.yang_values.proofs.JoinedText.{lacks_mark}
-use Rattle.yang_values.proofs.PrefixText.{decimal_octets}
+use Rattle.yang_values.specs.Prefixes.{prefix_text}
 use Rattle.yang_values.proofs.ValueText.{apart}
-use Rattle.std.specs.Char.{is_ascii_digit, is_ascii_hexdigit}
-use Rattle.event_lines.specs.declared.tunnel.Ends.{Ends}
-use Rattle.event_lines.specs.declared.tunnel.Flow.{Flow}
-use Rattle.line_words.specs.declared.lifetimes.Lifetimes.{Lifetimes}
-use Rattle.line_words.specs.Words.{◌>>=◌, words, is_printable, known_of, gateway_of, octets_of, lane_of, number_in, prefix_in}
-use Rattle.line_words.specs.Limits.{limits_in, limits_of, lifetimes_of}
-use Rattle.line_words.specs.Entry.{unless_fault}
-use Rattle.event_lines.specs.Event.{policy_in, let_in, is_numbered, from_one, sent_of, arrive_of, ttl_of, flip_of, arrive_in, time_in, gateway_in, wire_in, reqid_in, keys_in, mode_of, window_of, ends_of, flow_of, flow_in, tunnel_made, tunnel_of, tunnel_from, tunnel_in, command_in, session_in, event_in, event_of}
-use Rattle.line_words.specs.Text.{hex_text, lane_text, limits_text, entry_text, line_text}
-use Rattle.event_lines.specs.Text.{mode_text, event_words, tunnel_words, event_text}
-use Rattle.line_words.specs.Spelling.{are_spelled, IsListed, AreOctets, IsEntry, AreLimits}
-use Rattle.event_lines.specs.Spelling.{IsEventUnder, IsTunnel, IsEvent}
-use Rattle.line_words.proofs.PartText.{is_graph, is_part, value_part, also, as_graph, all_behind, split_behind, not_word}
+use Rattle.std.specs.Char.{is_ascii_hexdigit}
+use Rattle.line_words.specs.Words.{one_of, words, is_printable}
+use Rattle.line_words.specs.Limits.{lifetimes_of}
+use Rattle.event_lines.specs.Event.{policy_in, let_in, is_numbered, sent_of, arrive_of, ttl_of, flip_of, arrive_in, time_in, gateway_in, wire_in, reqid_in, keys_in, mode_of, window_of, ends_of, flow_of, flow_in, tunnel_of, tunnel_from, tunnel_in, command_in, session_in, event_in, event_of}
+use Rattle.line_words.specs.Text.{hex_text, limits_text, entry_text, line_text}
+use Rattle.event_lines.specs.Text.{event_words, tunnel_words, event_text}
+use Rattle.line_words.specs.Spelling.{are_spelled, IsListed}
+use Rattle.event_lines.specs.Spelling.{IsEventUnder, IsEvent}
+use Rattle.line_words.proofs.PartText.{is_graph, as_graph}
 use Rattle.line_words.proofs.EntryText.{number_again, prefix_reads}
 use Rattle.line_words.proofs.LineText.{AreWords, ReadsDigits, line_words, line_printable, number_word, prefix_word, lane_read, lane_word, named_spelled, name_word, hex_word, hex_read, list_read, list_words, few_words, hex_digits}
 use Rattle.line_words.proofs.LimitsText.{limits_read, limits_part}
+use Rattle.ikeless_tree.specs.Typed.{AreOctets, IsTypedLimits, IsTypedPolicy, IsTypedTunnel}
+use Rattle.ikeless_tree.specs.Words.{lane_text, mode_text}
 
 event_line : (gateways : List Peer) (e : Event) (w : List ℕ) (ws : List (List ℕ)) → event_words e ≡ w ∷ ws → AreWords (w ∷ ws)
     → event_in gateways (w ∷ ws) ≡ Ok e → event_of gateways (event_text e) ≡ Ok e
@@ -151,7 +146,7 @@ wire_event gateways g l spelled named =
 
 -- ---- commands
 
-policy_event : (gateways : List Peer) (g : List ℕ) (list : List SpdEntry) → is_gateway g ≡ true → IsListed list → All IsEntry list
+policy_event : (gateways : List Peer) (g : List ℕ) (list : List SpdEntry) → is_gateway g ≡ true → IsListed list → All IsTypedPolicy list
     → event_of gateways (event_text (events.Policy g list)) ≡ Ok (events.Policy g list)
 unfolding event_in session_in command_in policy_in AreWords
 policy_event gateways g list spelled is are =
@@ -179,8 +174,7 @@ keys_event digits gateways octets are =
     event_line gateways (events.Keys octets) (codes "keys") (hex_text octets ∷ []) refl (refl, (hex_word octets are, tt)) (rw (hex_read digits octets are) refl)
 
 mode_read : (m : Bool) → mode_of (mode_text m) ≡ Ok m
-mode_read true = refl
-mode_read false = refl
+mode_read m = ap (one_of faults.Mode) (mode_again m)
 
 mode_word : (m : Bool) → list_all is_graph (mode_text m) ≡ true
 mode_word true = refl
@@ -198,34 +192,34 @@ window_word n is =
     let most : n ≤ 4096 = leb-true n 4096 p.1 in
     number_word n (omega arith)
 
-ends_read : (s : TunnelSpec) → IsTunnel s → is_gateway s.first ≡ true → is_gateway s.second ≡ true
+ends_read : (s : TunnelSpec) → IsTypedTunnel s → is_gateway s.first ≡ true → is_gateway s.second ≡ true
     → ends_of (decimal s.reqid) (mode_text s.now) s.first s.second ≡ Ok (record { reqid = s.reqid; now = s.now; first = s.first; second = s.second })
 unfolding ends_of
 ends_read s is first second =
     let small = is.reqid in
     rw (number_again faults.Number s.reqid (2 ^ 64 - 1) small (omega arith), mode_read s.now, first, second) refl
 
-lifetimes_read : (fault : LineFault) (hard soft : Limits) → AreLimits hard → AreLimits soft
+lifetimes_read : (fault : LineFault) (hard soft : Limits) → IsTypedLimits hard → IsTypedLimits soft
     → lifetimes_of fault (limits_text hard) (limits_text soft) ≡ Ok (record { hard = hard; soft = soft })
 unfolding lifetimes_of
 lifetimes_read fault hard soft h s = rw (limits_read fault hard h, limits_read fault soft s) refl
 
-flow_read : (s : TunnelSpec) → IsTunnel s → is_window s.window ≡ true
+flow_read : (s : TunnelSpec) → IsTypedTunnel s → is_window s.window ≡ true
     → flow_of (prefix_text s.first_prefix) (prefix_text s.second_prefix) (decimal s.window) (limits_text s.hard) (limits_text s.soft)
     ≡ Ok (record { first = s.first_prefix; second = s.second_prefix; window = s.window; lifetimes = record { hard = s.hard; soft = s.soft } })
 unfolding flow_of
 flow_read s is window =
     rw (
-      prefix_reads faults.Prefix s.first_prefix is.first,
-      prefix_reads faults.Prefix s.second_prefix is.second,
+      prefix_reads faults.Prefix s.first_prefix is.first_prefix,
+      prefix_reads faults.Prefix s.second_prefix is.second_prefix,
       window_read s.window window,
       lifetimes_read faults.Limits s.hard s.soft is.hard is.soft,
     ) refl
 
-limits_word : (l : Limits) → AreLimits l → list_all is_graph (limits_text l) ≡ true
+limits_word : (l : Limits) → IsTypedLimits l → list_all is_graph (limits_text l) ≡ true
 limits_word l are = as_graph (limits_text l) (limits_part l are)
 
-tunnel_event : (gateways : List Peer) (s : TunnelSpec) → IsTunnel s → is_gateway s.first ≡ true → is_gateway s.second ≡ true → is_window s.window ≡ true
+tunnel_event : (gateways : List Peer) (s : TunnelSpec) → IsTypedTunnel s → is_gateway s.first ≡ true → is_gateway s.second ≡ true → is_window s.window ≡ true
     → event_of gateways (event_text (events.Tunnel s)) ≡ Ok (events.Tunnel s)
 unfolding event_in session_in command_in tunnel_in tunnel_from tunnel_of flow_in AreWords
 tunnel_event gateways s is first second window =
@@ -240,9 +234,9 @@ tunnel_event gateways s is first second window =
             (
               name_word s.second second,
               (
-                prefix_word s.first_prefix is.first,
+                prefix_word s.first_prefix is.first_prefix,
                 (
-                  prefix_word s.second_prefix is.second,
+                  prefix_word s.second_prefix is.second_prefix,
                   (
                     window_word s.window window,
                     (limits_word s.hard is.hard, (limits_word s.soft is.soft, tt)),

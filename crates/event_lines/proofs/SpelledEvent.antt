@@ -1,10 +1,9 @@
 -- An event or a header that is read is one that a line can spell.
-use Rattle.std.proofs.Common.{◌≡◌, ℕ, ◌-◌, ◌^◌, ◌≤◌, ◌==◌, ◌&&◌, nat_le, Bool, true, false, List, [], ◌∷◌, length, Result, Ok, Err, cond, refl, sym, ap, ◌∙◌, subst}
+use Rattle.std.proofs.Common.{◌≡◌, ℕ, ◌-◌, ◌^◌, ◌==◌, ◌&&◌, nat_le, true, List, [], ◌∷◌, length, Ok, refl, sym, ap, ◌∙◌, subst}
 use Rattle.std.specs.Prelude.{codes}
 use Rattle.std.specs.List.{AllByRecursion, list_all, slice_split}
 use Rattle.std.specs.Str.{bytes_eq}
-use Rattle.std.proofs.lemmas.Bool.{and_parts, and_from, le-leb}
-use Rattle.ikl_base.specs.declared.status.LineFault.{LineFault}
+use Rattle.std.proofs.lemmas.Bool.{and_from, le-leb}
 use Rattle.ikl_base.specs.declared.status.LineFault.TheVariants as faults
 use Rattle.ikeless_tree.specs.Check.{spd_fault, is_gateway, is_window}
 use Rattle.ikeless_tree.specs.declared.command.Peer.{Peer}
@@ -20,7 +19,7 @@ use Rattle.line_words.specs.Entry.{entries_of, unless_fault}
 use Rattle.line_words.specs.Limits.{lifetimes_of}
 use Rattle.event_lines.specs.Header.{is_equals, seq_last_of, gateway_in as peer_in, peer_of, peers_of, all_go_together, gateways_of, header_in, header_of}
 use Rattle.event_lines.specs.Event.{policy_in, let_in, is_numbered, from_one, sent_of, arrive_of, ttl_of, flip_of, arrive_in, time_in, gateway_in, wire_in, reqid_in, keys_in, mode_of, window_of, ends_of, flow_of, flow_in, tunnel_made, tunnel_of, tunnel_from, tunnel_in, command_in, session_in, event_in, event_of}
-use Rattle.line_words.specs.Spelling.{are_spelled, IsListed}
+use Rattle.line_words.specs.Spelling.{are_spelled}
 use Rattle.event_lines.specs.Spelling.{IsEventUnder}
 use Rattle.line_words.proofs.TakenSteps.{after, passed, either, inside, each_has, listed, known_named, number_most}
 

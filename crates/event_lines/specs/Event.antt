@@ -1,17 +1,18 @@
 -- The lines of a script after its header.
-use Rattle.std.specs.Prelude.{ℕ, ◌-◌, ◌^◌, ◌==◌, ◌&&◌, nat_le, Bool, true, false, List, [], ◌∷◌, length, codes, if◌then◌else◌, Option, Some, None, Result, Ok, Err}
+use Rattle.std.specs.Prelude.{ℕ, ◌-◌, ◌^◌, ◌==◌, nat_le, Bool, false, List, [], ◌∷◌, length, codes, if◌then◌else◌, Result, Ok, Err}
 use Rattle.std.specs.List.{list_all}
 use Rattle.std.specs.Str.{bytes_eq}
 use Rattle.ikl_base.specs.declared.status.LineFault.{LineFault}
 use Rattle.ikl_base.specs.declared.status.LineFault.TheVariants as faults
 use Rattle.ikeless_tree.specs.Check.{spd_fault}
+use Rattle.ikeless_tree.specs.Words as table
 use Rattle.ikeless_tree.specs.declared.command.Peer.{Peer}
 use Rattle.ikeless_tree.specs.declared.command.TunnelSpec.{TunnelSpec}
 use Rattle.hist_acts.specs.declared.event.Event.{Event}
 use Rattle.hist_acts.specs.declared.event.Event.TheVariants as events
 use Rattle.event_lines.specs.declared.tunnel.Ends.{Ends}
 use Rattle.event_lines.specs.declared.tunnel.Flow.{Flow}
-use Rattle.line_words.specs.Words.{◌>>=◌, words, is_printable, gateway_of, known_of, octets_of, lane_of, number_in, prefix_in}
+use Rattle.line_words.specs.Words.{◌>>=◌, one_of, words, is_printable, gateway_of, known_of, octets_of, lane_of, number_in, prefix_in}
 use Rattle.line_words.specs.Entry.{entries_of, unless_fault}
 use Rattle.line_words.specs.Limits.{lifetimes_of}
 
@@ -94,7 +95,7 @@ keys_in _ = Err faults.Count
 
 -- whether keys are asked for at once, or at the first packet
 abbrev pub mode_of : List ℕ → Result Bool LineFault
-mode_of w = if bytes_eq w (codes "now") then Ok true else if bytes_eq w (codes "acquire") then Ok false else Err faults.Mode
+mode_of w = one_of faults.Mode (table.mode_of w)
 
 -- the size of an anti-replay window
 abbrev pub window_of : List ℕ → Result ℕ LineFault

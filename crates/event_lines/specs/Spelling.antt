@@ -1,12 +1,11 @@
 -- Which events a line can spell under the gateways of a header, and what the types say of them.
-use Rattle.std.specs.Prelude.{◌^◌, ◌<◌, ◌≤◌, nat_le, IsTrue, List, All}
+use Rattle.std.specs.Prelude.{◌^◌, ◌<◌, ◌≤◌, nat_le, IsTrue, List}
 use Rattle.ikeless_tree.specs.Check.{is_gateway, is_window}
 use Rattle.ikeless_tree.specs.declared.command.Peer.{Peer}
-use Rattle.ikeless_tree.specs.declared.command.TunnelSpec.{TunnelSpec}
 use Rattle.hist_acts.specs.declared.event.Event.{Event}
 use Rattle.hist_acts.specs.declared.event.Event.TheVariants as events
-use Rattle.yang_values.specs.Addresses.{IsAddress}
-use Rattle.line_words.specs.Spelling.{IsKnown, IsListed, AreOctets, IsEntry, AreLimits}
+use Rattle.ikeless_tree.specs.Typed.{AreOctets, AreTypedPolicies, IsTypedTunnel}
+use Rattle.line_words.specs.Spelling.{IsKnown, IsListed}
 
 -- an event's gateway is one of the header, but a command may be for any name; what is counted is counted from 1
 abbrev pub IsEventUnder : List Peer → Event → Type 0
@@ -29,13 +28,7 @@ IsEventUnder gateways (events.End n) = Unit {0}
 IsEventUnder gateways (events.Rekey n) = Unit {0}
 IsEventUnder gateways (events.Keys o) = Unit {0}
 
-pub record IsTunnel (s : TunnelSpec) : Type 0 where
-  pub reqid : s.reqid < 2 ^ 64
-  pub first : IsAddress s.first_prefix.addr
-  pub second : IsAddress s.second_prefix.addr
-  pub hard : AreLimits s.hard
-  pub soft : AreLimits s.soft
-
+-- its numbers are those of their types, as those of every event that a program has
 abbrev pub IsEvent : Event → Type 0
 IsEvent (events.Let g o) = AreOctets o
 IsEvent (events.Arrive g o) = AreOctets o
@@ -43,8 +36,8 @@ IsEvent (events.ArriveSent g k) = k < 2 ^ 64
 IsEvent (events.ArriveFlip g k n b) = (k < 2 ^ 64) × (n < 2 ^ 64)
 IsEvent (events.ArriveTtl g k t) = (k < 2 ^ 64) × (t < 256)
 IsEvent (events.Now t) = t < 2 ^ 32
-IsEvent (events.Policy g list) = All IsEntry list
-IsEvent (events.Tunnel s) = IsTunnel s
+IsEvent (events.Policy g list) = AreTypedPolicies list
+IsEvent (events.Tunnel s) = IsTypedTunnel s
 IsEvent (events.End n) = n < 2 ^ 64
 IsEvent (events.Rekey n) = n < 2 ^ 64
 IsEvent (events.Keys o) = AreOctets o

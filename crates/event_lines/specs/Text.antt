@@ -1,15 +1,12 @@
 -- How events are spelled in their canonical spelling.
-use Rattle.std.specs.Prelude.{ℕ, Bool, true, false, List, [], ◌∷◌, map, codes}
+use Rattle.std.specs.Prelude.{ℕ, List, [], ◌∷◌, map, codes}
 use Rattle.std.specs.Fmt.{decimal}
 use Rattle.yang_values.specs.Prefixes.{prefix_text}
 use Rattle.ikeless_tree.specs.declared.command.TunnelSpec.{TunnelSpec}
 use Rattle.hist_acts.specs.declared.event.Event.{Event}
 use Rattle.hist_acts.specs.declared.event.Event.TheVariants as events
-use Rattle.line_words.specs.Text.{hex_text, lane_text, limits_text, entry_text, line_text}
-
-abbrev pub mode_text : Bool → List ℕ
-mode_text true = codes "now"
-mode_text false = codes "acquire"
+use Rattle.line_words.specs.Text.{hex_text, limits_text, entry_text, line_text}
+use Rattle.ikeless_tree.specs.Words.{lane_text, mode_text}
 
 abbrev pub tunnel_words : TunnelSpec → List (List ℕ)
 tunnel_words s =

@@ -1,5 +1,5 @@
 // Reads the lines of a script after its header.
-ghost use Rattle.std.specs.Prelude.{◌≡◌, List, ℕ};
+ghost use Rattle.std.specs.Prelude.{◌≡◌};
 ghost use Rattle.ikl_base.specs.Answers.{Gives};
 ghost use Rattle.line_words.specs.Parts.{texts};
 ghost use Rattle.event_lines.specs.Event.{policy_in, let_in, is_numbered, from_one, sent_of, arrive_of, ttl_of, flip_of, arrive_in, time_in, gateway_in, wire_in, reqid_in, keys_in, command_in, session_in, event_in, event_of};

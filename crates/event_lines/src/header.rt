@@ -1,5 +1,5 @@
 // Reads the first line of a script.
-ghost use Rattle.std.specs.Prelude.{◌≡◌, ◌-◌, ◌^◌, List, ℕ};
+ghost use Rattle.std.specs.Prelude.{◌≡◌, ◌-◌};
 ghost use Rattle.std.specs.List.{list_all};
 ghost use Rattle.ikl_base.specs.Answers.{Gives};
 ghost use Rattle.ikl_base.specs.Address.{is_same_address};

@@ -5,9 +5,9 @@ ghost use Rattle.line_words.specs.Parts.{texts};
 ghost use Rattle.event_lines.specs.Event.{mode_of, window_of, ends_of, flow_of, flow_in, tunnel_of, tunnel_from, tunnel_in};
 
 use hist_acts::Event;
-use ikeless_tree::TunnelSpec;
+use ikeless_tree::{TunnelSpec, mode_named};
 use ikl_base::{LineFault, Name, OrMemory, Prefix};
-use line_words::{Lifetimes, gateway, is_word, lifetimes_from, prefix_from, u64_from};
+use line_words::{Lifetimes, gateway, lifetimes_from, prefix_from, u64_from};
 use std::alloc::Global;
 use yang_values::read_number;
 
@@ -34,12 +34,9 @@ pub struct Flow {
 fn mode(word: &[u8]) -> Result<bool, LineFault>
     ensures { result ≡ mode_of word.now }
 {
-    if is_word(word, b"now") {
-        Ok(true)
-    } else if is_word(word, b"acquire") {
-        Ok(false)
-    } else {
-        Err(LineFault::Mode)
+    match mode_named(word) {
+        Some(now) => Ok(now),
+        None => Err(LineFault::Mode),
     }
 }
 

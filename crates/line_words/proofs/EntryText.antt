@@ -1,10 +1,9 @@
 -- The word of an entry is read as that entry.
-use Rattle.std.proofs.Common.{◌≡◌, ℕ, ◌+◌, ◌-◌, ◌^◌, ◌<◌, ◌≤◌, ◌==◌, ◌&&◌, ◌||◌, not, nat_lt, nat_le, Bool, true, false, List, [], ◌∷◌, ◌++◌, length, map, Option, Some, None, Result, Ok, Err, inl, inr, refl, sym, ap, ◌∙◌, arith, append-nil, append_assoc}
+use Rattle.std.proofs.Common.{◌≡◌, ℕ, ◌+◌, ◌-◌, ◌^◌, ◌<◌, ◌≤◌, ◌==◌, ◌||◌, nat_lt, nat_le, Bool, true, false, List, [], ◌∷◌, ◌++◌, length, map, Option, Some, None, Result, Ok, refl, ap, ◌∙◌, arith, append-nil, append_assoc}
 use Rattle.std.specs.List.{All, AllByRecursion, list_all, slice_split, flat_map}
-use Rattle.std.specs.Str.{bytes_eq}
 use Rattle.std.specs.Fmt.{decimal}
 use Rattle.std.specs.Prelude.{codes}
-use Rattle.std.proofs.lemmas.Bool.{and_parts, and_from, or_left, or_right, ltb-false, le-leb}
+use Rattle.std.proofs.lemmas.Bool.{and_parts, and_from, or_left, ltb-false, le-leb}
 use Rattle.std.proofs.lemmas.List.{length-map}
 use Rattle.std.proofs.lemmas.List.Elements.{recursion_from_All}
 use Rattle.std.proofs.lemmas.List.Folds.{list_all-append}
@@ -12,6 +11,7 @@ use Rattle.std.proofs.lemmas.List.Splits.{slice_split_none, slice_split_at}
 use Rattle.ikl_base.specs.declared.status.LineFault.{LineFault}
 use Rattle.ikl_base.specs.declared.status.LineFault.TheVariants as faults
 use Rattle.ikl_base.specs.declared.address.Prefix.{Prefix}
+use Rattle.ikeless_tree.proofs.WordLemmas.{direction_again, action_again}
 use Rattle.ikeless_tree.specs.Check.{is_path_octet, is_spd_name, has_many_ranges}
 use Rattle.ikeless_tree.specs.declared.entry.Action.{Action}
 use Rattle.ikeless_tree.specs.declared.entry.Action.TheVariants as actions
@@ -20,18 +20,19 @@ use Rattle.ikeless_tree.specs.declared.entry.Direction.TheVariants as directions
 use Rattle.ikeless_tree.specs.declared.entry.Range.{Range}
 use Rattle.ikeless_tree.specs.declared.entry.Selector.{Selector}
 use Rattle.ikeless_tree.specs.declared.entry.SpdEntry.{SpdEntry}
-use Rattle.yang_values.specs.Numbers.{number_of}
+use Rattle.yang_values.proofs.QuadText.{also}
 use Rattle.yang_values.specs.Addresses.{IsAddress}
-use Rattle.yang_values.specs.Prefixes.{is_value_octet, prefix_of, prefix_text}
+use Rattle.yang_values.specs.Prefixes.{is_value_octet, prefix_text}
 use Rattle.yang_values.proofs.JoinedText.{lacks_mark}
 use Rattle.yang_values.proofs.ValueText.{apart, number_of-decimal}
 use Rattle.yang_values.proofs.PrefixText.{decimal_octets, prefix_plain, prefix_again}
 use Rattle.yang_values.proofs.AddressText.{address_again}
-use Rattle.line_words.specs.Words.{◌>>=◌, or_fault, each, number_in, prefix_in}
-use Rattle.line_words.specs.Entry.{is_comma, is_plus, is_dash, direction_of, action_of, proto_of, range_in, range_of, ranges_of, ports_of, selector_of, use_of, selector_in, entry_in, entry_of, entries_of}
-use Rattle.line_words.specs.Text.{direction_text, action_text, proto_text, range_text, more_ranges_text, ports_text, selector_text, entry_text}
-use Rattle.line_words.specs.Spelling.{ArePorts, IsProto, IsSelector, IsEntry}
-use Rattle.line_words.proofs.PartText.{is_part, is_graph, is_range_octet, is_ports_octet, value_part, ports_part, path_part, also, as_graph, marked, all_behind, not_word, each_holds, each_mapped, behind_mapped, split_behind}
+use Rattle.line_words.specs.Words.{one_of, or_fault, each, number_in, prefix_in}
+use Rattle.line_words.specs.Entry.{is_comma, is_plus, is_dash, direction_of, action_of, proto_of, range_in, range_of, ports_of, selector_of, use_of, selector_in, entry_in, entry_of}
+use Rattle.line_words.specs.Text.{proto_text, range_text, ports_text, selector_text, entry_text}
+use Rattle.line_words.proofs.PartText.{is_part, is_graph, is_range_octet, is_ports_octet, value_part, ports_part, path_part, as_graph, marked, all_behind, not_word, each_holds, each_mapped, behind_mapped, split_behind}
+use Rattle.ikeless_tree.specs.Typed.{IsTypedPolicy, IsTypedProtocol, IsTypedRange, IsTypedSelector}
+use Rattle.ikeless_tree.specs.Words.{action_text, direction_text}
 
 -- the words of values that are each read
 pub each_of : {A : Type 0} → (f : List ℕ → Result A LineFault) (text : A → List ℕ) (xs : List A) → AllByRecursion (λ x. f (text x) ≡ Ok x) xs → each f (map text xs) ≡ Ok xs
@@ -49,7 +50,7 @@ prefix_reads fault p is = ap (or_fault fault) (prefix_again p is (address_again 
 value_range : (c : ℕ) → is_value_octet c ≡ true → is_range_octet c ≡ true
 value_range c h = or_left (is_value_octet c) (c == 45) h
 
-range_octets : (r : Range) → ArePorts r → list_all is_range_octet (range_text r) ≡ true
+range_octets : (r : Range) → IsTypedRange r → list_all is_range_octet (range_text r) ≡ true
 range_octets r is =
     let a : r.start < 65536 = is.0 in
     let b : r.end < 65536 = is.1 in
@@ -65,7 +66,7 @@ range_split a b ha hb =
     slice_split_at is_dash (decimal a) 45 (decimal b) (no_dash a (omega arith)) refl
     ∙ ap (λ parts. decimal a ∷ parts) (slice_split_none is_dash (decimal b) (no_dash b (omega arith)))
 
-range_read : (r : Range) → ArePorts r → range_of (range_text r) ≡ Ok r
+range_read : (r : Range) → IsTypedRange r → range_of (range_text r) ≡ Ok r
 unfolding range_in
 range_read r is =
     let a : r.start < 65536 = is.0 in
@@ -81,62 +82,59 @@ ports_from r rs = ap (λ rest. range_text r ++ rest) (behind_mapped 43 range_tex
 range_ports : (c : ℕ) → is_range_octet c ≡ true → is_ports_octet c ≡ true
 range_ports c h = or_left (is_range_octet c) (c == 43) h
 
-some_octets : (r : Range) (rs : List Range) → AllByRecursion ArePorts (r ∷ rs) → list_all is_ports_octet (ports_text (r ∷ rs)) ≡ true
+some_octets : (r : Range) (rs : List Range) → AllByRecursion IsTypedRange (r ∷ rs) → list_all is_ports_octet (ports_text (r ∷ rs)) ≡ true
 some_octets r rs are =
     ap (list_all is_ports_octet) (ports_from r rs)
     ∙ list_all-append is_ports_octet (range_text r) (flat_map (λ t. 43 ∷ t) (map range_text rs))
     ∙ and_from _ _ (octets r are.0)
     (all_behind is_ports_octet 43 refl (map range_text rs)
     (each_mapped (λ t. list_all is_ports_octet t ≡ true) range_text rs
-    (each_holds ArePorts (λ x. list_all is_ports_octet (range_text x) ≡ true) octets rs are.1)))
+    (each_holds IsTypedRange (λ x. list_all is_ports_octet (range_text x) ≡ true) octets rs are.1)))
   where
-    octets : (x : Range) → ArePorts x → list_all is_ports_octet (range_text x) ≡ true
+    octets : (x : Range) → IsTypedRange x → list_all is_ports_octet (range_text x) ≡ true
     octets x is = also is_range_octet is_ports_octet range_ports (range_text x) (range_octets x is)
 
-no_plus : (r : Range) → ArePorts r → All (λ c. is_plus c ≡ false) (range_text r)
+no_plus : (r : Range) → IsTypedRange r → All (λ c. is_plus c ≡ false) (range_text r)
 no_plus r is = lacks_mark is_range_octet is_plus (λ c. apart is_range_octet c 43 refl) (range_text r) (range_octets r is)
 
-ports_split : (r : Range) (rs : List Range) → AllByRecursion ArePorts (r ∷ rs) → slice_split is_plus (ports_text (r ∷ rs)) ≡ map range_text (r ∷ rs)
+ports_split : (r : Range) (rs : List Range) → AllByRecursion IsTypedRange (r ∷ rs) → slice_split is_plus (ports_text (r ∷ rs)) ≡ map range_text (r ∷ rs)
 ports_split r rs are =
     ap (slice_split is_plus) (ports_from r rs)
     ∙ split_behind is_plus 43 refl (range_text r) (map range_text rs)
-    (each_mapped (λ t. All (λ c. is_plus c ≡ false) t) range_text (r ∷ rs) (each_holds ArePorts (λ x. All (λ c. is_plus c ≡ false) (range_text x)) no_plus (r ∷ rs) are))
+    (each_mapped (λ t. All (λ c. is_plus c ≡ false) t) range_text (r ∷ rs) (each_holds IsTypedRange (λ x. All (λ c. is_plus c ≡ false) (range_text x)) no_plus (r ∷ rs) are))
 
-ports_read : (rs : List Range) → AllByRecursion ArePorts rs → length rs ≤ 8 → ports_of (ports_text rs) ≡ Ok rs
+ports_read : (rs : List Range) → AllByRecursion IsTypedRange rs → length rs ≤ 8 → ports_of (ports_text rs) ≡ Ok rs
 unfolding ports_of
 ports_read [] are few = refl
 ports_read (r ∷ rs) are few =
     let any = not_word is_ports_octet (ports_text (r ∷ rs)) (codes "any") (some_octets r rs are) refl in
     let s = ports_split r rs are in
     let n : nat_le (length (map range_text (r ∷ rs))) 8 ≡ true = le-leb _ 8 (let e = length-map (r ∷ rs) range_text in omega (arith, e, few)) in
-    let x = each_of range_of range_text (r ∷ rs) (each_holds ArePorts (λ y. range_of (range_text y) ≡ Ok y) range_read (r ∷ rs) are) in
+    let x = each_of range_of range_text (r ∷ rs) (each_holds IsTypedRange (λ y. range_of (range_text y) ≡ Ok y) range_read (r ∷ rs) are) in
     rw (any, s, n, x) refl
 
-pub ports_are_part : (rs : List Range) → AllByRecursion ArePorts rs → list_all is_part (ports_text rs) ≡ true
+pub ports_are_part : (rs : List Range) → AllByRecursion IsTypedRange rs → list_all is_part (ports_text rs) ≡ true
 ports_are_part [] are = refl
 ports_are_part (r ∷ rs) are = also is_ports_octet is_part ports_part (ports_text (r ∷ rs)) (some_octets r rs are)
 
 -- ---- the other parts
 
 direction_read : (d : Direction) → direction_of (direction_text d) ≡ Ok d
-direction_read directions.In = refl
-direction_read directions.Out = refl
+direction_read d = ap (one_of faults.Entry) (direction_again d)
 
 direction_is_part : (d : Direction) → list_all is_part (direction_text d) ≡ true
 direction_is_part directions.In = refl
 direction_is_part directions.Out = refl
 
 action_read : (a : Action) → action_of (action_text a) ≡ Ok a
-action_read actions.Protect = refl
-action_read actions.Bypass = refl
-action_read actions.Discard = refl
+action_read a = ap (one_of faults.Entry) (action_again a)
 
 action_is_part : (a : Action) → list_all is_part (action_text a) ≡ true
 action_is_part actions.Protect = refl
 action_is_part actions.Bypass = refl
 action_is_part actions.Discard = refl
 
-proto_read : (o : Option ℕ) → IsProto o → proto_of (proto_text o) ≡ Ok o
+proto_read : (o : Option ℕ) → IsTypedProtocol o → proto_of (proto_text o) ≡ Ok o
 unfolding proto_of
 proto_read None is = refl
 proto_read (Some n) is =
@@ -148,7 +146,7 @@ proto_read (Some n) is =
 pub number_is_part : (n : ℕ) → n < 2 ^ 64 → list_all is_part (decimal n) ≡ true
 number_is_part n small = also is_value_octet is_part value_part (decimal n) (decimal_octets n small)
 
-pub proto_is_part : (o : Option ℕ) → IsProto o → list_all is_part (proto_text o) ≡ true
+pub proto_is_part : (o : Option ℕ) → IsTypedProtocol o → list_all is_part (proto_text o) ≡ true
 proto_is_part None is = refl
 proto_is_part (Some n) is = let small : n < 256 = is in number_is_part n (omega arith)
 
@@ -169,24 +167,24 @@ few_ranges s few = halves (nat_lt 8 (length s.local_ports)) (nat_lt 8 (length s.
     halves false true e f h = cc
     halves true b e f h = cc
 
-pub selector_read : (s : Selector) → IsSelector s → has_many_ranges s ≡ false → selector_in (selector_parts s) ≡ Ok s
+pub selector_read : (s : Selector) → IsTypedSelector s → has_many_ranges s ≡ false → selector_in (selector_parts s) ≡ Ok s
 unfolding selector_in selector_of selector_parts
 selector_read s is few =
     let counts = few_ranges s few in
     let l = prefix_reads faults.Entry s.local is.local in
     let r = prefix_reads faults.Entry s.remote is.remote in
     let p = proto_read s.proto is.proto in
-    let lp = ports_read s.local_ports (recursion_from_All ArePorts s.local_ports is.local_ports) counts.0 in
-    let rp = ports_read s.remote_ports (recursion_from_All ArePorts s.remote_ports is.remote_ports) counts.1 in
+    let lp = ports_read s.local_ports (recursion_from_All IsTypedRange s.local_ports is.local_ports) counts.0 in
+    let rp = ports_read s.remote_ports (recursion_from_All IsTypedRange s.remote_ports is.remote_ports) counts.1 in
     rw (l, r, p, lp, rp) refl
 
 entry_rest : SpdEntry → List (List ℕ)
 entry_rest e = direction_text e.direction ∷ decimal e.reqid ∷ action_text e.action ∷ selector_parts e.selector
 
 abbrev at_window : SpdEntry → ℕ → SpdEntry
-at_window e w = record { name = e.name; direction = e.direction; reqid = e.reqid; window = w; selector = e.selector; action = e.action }
+at_window e w = record e { window = w }
 
-in_parts : (e : SpdEntry) → IsEntry e → e.window ≡ 64 → has_many_ranges e.selector ≡ false → entry_in (e.name ∷ entry_rest e) ≡ Ok e
+in_parts : (e : SpdEntry) → IsTypedPolicy e → e.window ≡ 64 → has_many_ranges e.selector ≡ false → entry_in (e.name ∷ entry_rest e) ≡ Ok e
 unfolding entry_in use_of entry_rest
 in_parts e is window few =
     let d = direction_read e.direction in
@@ -210,7 +208,7 @@ entry_from e =
     nine e.name (direction_text e.direction) (decimal e.reqid) (action_text e.action) (prefix_text e.selector.local) (prefix_text e.selector.remote)
     (proto_text e.selector.proto) (ports_text e.selector.local_ports) (ports_text e.selector.remote_ports)
 
-are_parts : (e : SpdEntry) → IsEntry e → is_spd_name e.name ≡ true → AllByRecursion (λ t. list_all is_part t ≡ true) (e.name ∷ entry_rest e)
+are_parts : (e : SpdEntry) → IsTypedPolicy e → is_spd_name e.name ≡ true → AllByRecursion (λ t. list_all is_part t ≡ true) (e.name ∷ entry_rest e)
 unfolding entry_rest selector_parts
 are_parts e is name =
     let s = is.selector in
@@ -229,8 +227,8 @@ are_parts e is name =
                 (
                   proto_is_part e.selector.proto s.proto,
                   (
-                    ports_are_part e.selector.local_ports (recursion_from_All ArePorts e.selector.local_ports s.local_ports),
-                    (ports_are_part e.selector.remote_ports (recursion_from_All ArePorts e.selector.remote_ports s.remote_ports), tt),
+                    ports_are_part e.selector.local_ports (recursion_from_All IsTypedRange e.selector.local_ports s.local_ports),
+                    (ports_are_part e.selector.remote_ports (recursion_from_All IsTypedRange e.selector.remote_ports s.remote_ports), tt),
                   ),
                 ),
               ),
@@ -243,7 +241,7 @@ are_parts e is name =
 pub no_comma : (t : List ℕ) → list_all is_part t ≡ true → All (λ c. is_comma c ≡ false) t
 no_comma t all = lacks_mark is_part is_comma (λ c. apart is_part c 44 refl) t all
 
-pub entry_read : (e : SpdEntry) → IsEntry e → e.window ≡ 64 → is_spd_name e.name ≡ true → has_many_ranges e.selector ≡ false → entry_of (entry_text e) ≡ Ok e
+pub entry_read : (e : SpdEntry) → IsTypedPolicy e → e.window ≡ 64 → is_spd_name e.name ≡ true → has_many_ranges e.selector ≡ false → entry_of (entry_text e) ≡ Ok e
 entry_read e is window name few =
     ap entry_of (entry_from e)
     ∙ ap entry_in (split_behind is_comma 44 refl e.name (entry_rest e)
@@ -251,7 +249,7 @@ entry_read e is window name few =
     ∙ in_parts e is window few
 
 -- a word has no space
-pub entry_graph : (e : SpdEntry) → IsEntry e → is_spd_name e.name ≡ true → list_all is_graph (entry_text e) ≡ true
+pub entry_graph : (e : SpdEntry) → IsTypedPolicy e → is_spd_name e.name ≡ true → list_all is_graph (entry_text e) ≡ true
 entry_graph e is name =
     let all = are_parts e is name in
     let rest : AllByRecursion (λ t. list_all is_graph t ≡ true) (entry_rest e) =

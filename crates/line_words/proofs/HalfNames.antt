@@ -2,11 +2,11 @@
 use Rattle.std.proofs.Common.{◌≡◌, ℕ, zero, suc, ◌≤◌, Bool, true, List, [], ◌∷◌, length, take, drop, inl, inr, refl, ap, ◌∙◌, arith}
 use Rattle.std.specs.Prelude.{codes}
 use Rattle.std.specs.List.{list_all}
-use Rattle.std.specs.Str.{bytes_eq}
 use Rattle.std.proofs.lemmas.Bool.{and_parts, and_from, or_cases, leb-true}
 use Rattle.std.proofs.lemmas.Slice.Eq.{bytes_eq-Decides}
 use Rattle.ikeless_tree.specs.Check.{is_sad_name, has_front, is_word_octet}
-use Rattle.line_words.proofs.PartText.{is_part, is_graph, word_part, also, as_graph}
+use Rattle.yang_values.proofs.QuadText.{also}
+use Rattle.line_words.proofs.PartText.{is_part, is_graph, word_part, as_graph}
 
 taken_all : (q : ℕ → Bool) (n : ℕ) (t : List ℕ) → list_all q (take n t) ≡ true → list_all q (drop n t) ≡ true → list_all q t ≡ true
 taken_all q zero t front back = back

@@ -1,6 +1,5 @@
 -- The word of a half is read as that half.
-use Rattle.std.proofs.Common.{◌≡◌, ℕ, ◌-◌, ◌^◌, ◌<◌, ◌≤◌, ◌==◌, ◌&&◌, ◌||◌, not, nat_lt, Bool, true, false, List, [], ◌∷◌, ◌++◌, length, Option, Some, None, Result, Ok, cond, refl, sym, ap, ◌∙◌, arith, append-nil, append_assoc}
-use Rattle.std.specs.Prelude.{codes}
+use Rattle.std.proofs.Common.{◌≡◌, ℕ, ◌-◌, ◌^◌, not, nat_lt, Bool, true, false, List, [], ◌∷◌, ◌++◌, length, Some, None, Ok, cond, refl, ap, ◌∙◌, arith, append-nil, append_assoc}
 use Rattle.std.specs.List.{All, AllByRecursion, list_all, slice_split, flat_map}
 use Rattle.std.specs.Fmt.{decimal}
 use Rattle.std.proofs.lemmas.Bool.{and_from}
@@ -9,30 +8,33 @@ use Rattle.std.proofs.lemmas.List.Folds.{list_all-append}
 use Rattle.ikl_base.specs.Address.{is_one_family}
 use Rattle.ikl_base.specs.declared.address.Addr.{Addr}
 use Rattle.ikl_base.specs.declared.status.LineFault.TheVariants as faults
+use Rattle.ikeless_tree.proofs.WordLemmas.{df_again}
 use Rattle.ikeless_tree.specs.Check.{is_sad_name, is_key_length, is_window, has_empty_range, has_many_ranges, sad_fault}
 use Rattle.ikeless_tree.specs.declared.sad.Df.{Df}
 use Rattle.ikeless_tree.specs.declared.sad.Df.TheVariants as dfs
 use Rattle.ikeless_tree.specs.declared.sad.SadEntry.{SadEntry}
-use Rattle.ikeless_tree.specs.declared.reply.TreeFault.{TreeFault}
 use Rattle.ikeless_tree.specs.declared.reply.TreeFault.TheVariants as tree_faults
 use Rattle.ikeless_tree.specs.declared.reply.Feature.TheVariants as features
-use Rattle.yang_values.specs.Addresses.{IsAddress, address_of, address_text}
-use Rattle.yang_values.specs.HexText.{digits_of, digits_text}
+use Rattle.yang_values.proofs.QuadText.{also}
+use Rattle.yang_values.specs.Addresses.{IsAddress, address_text}
+use Rattle.yang_values.specs.HexText.{digits_text}
 use Rattle.yang_values.specs.Prefixes.{is_value_octet, prefix_text}
 use Rattle.yang_values.proofs.AddressText.{address_again}
 use Rattle.yang_values.proofs.PrefixText.{address_plain}
 use Rattle.std.specs.Char.{is_ascii_hexdigit}
-use Rattle.line_words.specs.Words.{◌>>=◌, or_fault, number_in}
+use Rattle.line_words.specs.Words.{one_of, or_fault}
 use Rattle.line_words.specs.Entry.{is_comma, selector_of, selector_in}
-use Rattle.line_words.specs.Limits.{limits_of, lifetimes_of}
-use Rattle.line_words.specs.Half.{df_of, end_of, key_of, half_numbers_of, half_tunnel_of, half_keys_of, half_keys_in, half_rest_of, half_rest_in, half_from, half_in, unless_sad_fault, half_of}
-use Rattle.line_words.specs.Text.{df_text, limits_text, proto_text, ports_text, selector_text, half_text}
-use Rattle.line_words.specs.Spelling.{ArePorts, AreOctets, IsInstallable, IsHalf}
-use Rattle.line_words.proofs.PartText.{is_part, is_graph, value_part, hexdigit_part, also, as_graph, all_behind, each_holds, split_behind}
+use Rattle.line_words.specs.Limits.{lifetimes_of}
+use Rattle.line_words.specs.Half.{df_of, end_of, key_of, half_numbers_of, half_tunnel_of, half_keys_of, half_keys_in, half_rest_of, half_rest_in, half_from, half_in, half_of}
+use Rattle.line_words.specs.Text.{limits_text, proto_text, ports_text, selector_text, half_text}
+use Rattle.line_words.specs.Spelling.{IsInstallable}
+use Rattle.line_words.proofs.PartText.{is_part, is_graph, value_part, hexdigit_part, as_graph, all_behind, each_holds, split_behind}
 use Rattle.line_words.proofs.EntryText.{prefix_is_part, proto_is_part, ports_are_part, number_is_part, selector_parts, selector_read, no_comma, number_again}
 use Rattle.line_words.proofs.LineText.{ReadsDigits, hex_digits}
 use Rattle.line_words.proofs.LimitsText.{limits_read, limits_part}
 use Rattle.line_words.proofs.HalfNames.{half_name_part}
+use Rattle.ikeless_tree.specs.Typed.{AreOctets, IsTypedHalf, IsTypedRange}
+use Rattle.ikeless_tree.specs.Words.{df_text}
 
 -- ---- what can be installed
 
@@ -64,9 +66,7 @@ good_half e none =
 -- ---- its parts
 
 df_read : (d : Df) → df_of (df_text d) ≡ Ok d
-df_read dfs.Clear = refl
-df_read dfs.Set = refl
-df_read dfs.Copy = refl
+df_read d = ap (one_of faults.Entry) (df_again d)
 
 df_is_part : (d : Df) → list_all is_part (df_text d) ≡ true
 df_is_part dfs.Clear = refl
@@ -114,7 +114,7 @@ half_joined e =
 AreParts : List (List ℕ) → Type 0
 AreParts ts = AllByRecursion (λ t. list_all is_part t ≡ true) ts
 
-key_are_parts : (e : SadEntry) → IsHalf e → IsGood e → AreParts (key_parts e)
+key_are_parts : (e : SadEntry) → IsTypedHalf e → IsGood e → AreParts (key_parts e)
 unfolding key_parts AreParts
 key_are_parts e is good = (
   key_is_part e.key good.key is.key,
@@ -130,7 +130,7 @@ key_are_parts e is good = (
   ),
 )
 
-rest_are_parts : (e : SadEntry) → IsHalf e → IsGood e → AreParts (rest_parts e)
+rest_are_parts : (e : SadEntry) → IsTypedHalf e → IsGood e → AreParts (rest_parts e)
 unfolding rest_parts AreParts
 rest_are_parts e is good =
     let s = is.selector in (
@@ -140,14 +140,14 @@ rest_are_parts e is good =
         (
           proto_is_part e.selector.proto s.proto,
           (
-            ports_are_part e.selector.local_ports (recursion_from_All ArePorts e.selector.local_ports s.local_ports),
-            (ports_are_part e.selector.remote_ports (recursion_from_All ArePorts e.selector.remote_ports s.remote_ports), key_are_parts e is good),
+            ports_are_part e.selector.local_ports (recursion_from_All IsTypedRange e.selector.local_ports s.local_ports),
+            (ports_are_part e.selector.remote_ports (recursion_from_All IsTypedRange e.selector.remote_ports s.remote_ports), key_are_parts e is good),
           ),
         ),
       ),
     )
 
-half_are_parts : (e : SadEntry) → IsHalf e → IsGood e → AreParts (half_parts e)
+half_are_parts : (e : SadEntry) → IsTypedHalf e → IsGood e → AreParts (half_parts e)
 unfolding half_parts AreParts
 half_are_parts e is good =
     let n = is.reqid in
@@ -155,7 +155,7 @@ half_are_parts e is good =
     let w = is.window in
     (number_is_part e.reqid n, (number_is_part e.spi (omega (arith, s)), (number_is_part e.window (omega (arith, w)), rest_are_parts e is good)))
 
-numbers_read : (e : SadEntry) → IsHalf e
+numbers_read : (e : SadEntry) → IsTypedHalf e
     → half_numbers_of (decimal e.reqid) (decimal e.spi) (decimal e.window) ≡ Ok (record { reqid = e.reqid; spi = e.spi; window = e.window })
 unfolding half_numbers_of
 numbers_read e is =
@@ -167,7 +167,7 @@ numbers_read e is =
     let z = number_again faults.Entry e.window (2 ^ 32 - 1) (omega (arith, w)) (omega (arith, w)) in
     rw (x, y, z) refl
 
-keys_read : ReadsDigits → (e : SadEntry) → IsHalf e → IsGood e
+keys_read : ReadsDigits → (e : SadEntry) → IsTypedHalf e → IsGood e
     → half_keys_in (key_parts e)
     ≡ Ok (record { key = e.key; tunnel = record { local = e.local; remote = e.remote; df = e.df }; lifetimes = record { hard = e.hard; soft = e.soft } })
 unfolding half_keys_in half_keys_of half_tunnel_of lifetimes_of key_parts
@@ -180,7 +180,7 @@ keys_read digits e is good =
     let s = limits_read faults.Entry e.soft is.soft in
     rw (k, l, r, d, h, s) refl
 
-rest_read : ReadsDigits → (e : SadEntry) → IsHalf e → IsGood e
+rest_read : ReadsDigits → (e : SadEntry) → IsTypedHalf e → IsGood e
     → half_rest_in (rest_parts e)
     ≡ Ok (record { selector = e.selector; keys = record { key = e.key; tunnel = record { local = e.local; remote = e.remote; df = e.df }; lifetimes = record { hard = e.hard; soft = e.soft } } })
 unfolding half_rest_in half_rest_of rest_parts selector_in selector_parts
@@ -190,14 +190,14 @@ rest_read digits e is good =
     let k = keys_read digits e is good in
     rw (s, k) refl
 
-parts_read : ReadsDigits → (e : SadEntry) → IsHalf e → IsGood e → half_in (e.name ∷ half_parts e) ≡ Ok e
+parts_read : ReadsDigits → (e : SadEntry) → IsTypedHalf e → IsGood e → half_in (e.name ∷ half_parts e) ≡ Ok e
 unfolding half_in half_from half_parts
 parts_read digits e is good =
     let n = numbers_read e is in
     let r = rest_read digits e is good in
     rw (n, r) refl
 
-pub half_read : ReadsDigits → (e : SadEntry) → IsHalf e → IsInstallable e → half_of (half_text e) ≡ Ok e
+pub half_read : ReadsDigits → (e : SadEntry) → IsTypedHalf e → IsInstallable e → half_of (half_text e) ≡ Ok e
 unfolding half_of AreParts
 half_read digits e is fits =
     let good = good_half e fits in
@@ -210,7 +210,7 @@ half_read digits e is fits =
     rw (s, r, fits) refl
 
 -- a word has no space
-pub half_graph : (e : SadEntry) → IsHalf e → IsInstallable e → list_all is_graph (half_text e) ≡ true
+pub half_graph : (e : SadEntry) → IsTypedHalf e → IsInstallable e → list_all is_graph (half_text e) ≡ true
 unfolding AreParts
 half_graph e is fits =
     let good = good_half e fits in

@@ -1,23 +1,20 @@
 -- The word of limits is read as those limits.
-use Rattle.std.proofs.Common.{◌≡◌, ℕ, ◌-◌, ◌^◌, ◌<◌, ◌≤◌, ◌==◌, Bool, true, false, List, [], ◌∷◌, ◌++◌, Result, Ok, refl, sym, ap, ◌∙◌, arith, append-nil, append_assoc}
-use Rattle.std.specs.Char.{is_ascii_digit, is_ascii_hexdigit}
-use Rattle.std.specs.List.{All, AllByRecursion, list_all, slice_split, flat_map}
+use Rattle.std.proofs.Common.{◌≡◌, ℕ, ◌-◌, ◌^◌, ◌<◌, true, false, List, [], ◌∷◌, ◌++◌, Ok, refl, ap, ◌∙◌, arith, append-nil, append_assoc}
+use Rattle.std.specs.Char.{is_ascii_digit}
+use Rattle.std.specs.List.{All, list_all, slice_split, flat_map}
 use Rattle.std.specs.Fmt.{decimal}
 use Rattle.std.proofs.lemmas.Bool.{and_parts, and_from}
 use Rattle.std.proofs.lemmas.List.Folds.{list_all-append}
 use Rattle.ikl_base.specs.declared.status.LineFault.{LineFault}
 use Rattle.ikeless_tree.specs.declared.sad.Limits.{Limits}
-use Rattle.yang_values.specs.Numbers.{is_number}
-use Rattle.yang_values.specs.Prefixes.{is_value_octet, is_slash}
+use Rattle.yang_values.specs.Prefixes.{is_slash}
 use Rattle.yang_values.proofs.JoinedText.{lacks_mark}
 use Rattle.yang_values.proofs.ValueText.{apart, is_number-decimal}
-use Rattle.yang_values.proofs.PrefixText.{decimal_octets}
-use Rattle.line_words.specs.Words.{◌>>=◌, number_in}
 use Rattle.line_words.specs.Limits.{counts_of, limits_in, limits_of}
 use Rattle.line_words.specs.Text.{limits_text}
-use Rattle.line_words.specs.Spelling.{AreLimits}
-use Rattle.line_words.proofs.PartText.{is_part, value_part, also, all_behind, split_behind}
+use Rattle.line_words.proofs.PartText.{is_part, all_behind, split_behind}
 use Rattle.line_words.proofs.EntryText.{number_again, number_is_part}
+use Rattle.ikeless_tree.specs.Typed.{IsTypedLimits}
 
 number_rest : Limits → List (List ℕ)
 number_rest l = decimal l.bytes ∷ decimal l.packets ∷ decimal l.idle ∷ []
@@ -34,7 +31,7 @@ no_slash n small =
     lacks_mark is_ascii_digit is_slash (λ c. apart is_ascii_digit c 47 refl) (decimal n)
     (and_parts _ _ (is_number-decimal n small)).1
 
-limits_split : (l : Limits) → AreLimits l → slice_split is_slash (limits_text l) ≡ decimal l.time ∷ number_rest l
+limits_split : (l : Limits) → IsTypedLimits l → slice_split is_slash (limits_text l) ≡ decimal l.time ∷ number_rest l
 unfolding number_rest
 limits_split l are =
     let t = are.time in
@@ -45,7 +42,7 @@ limits_split l are =
     ∙ split_behind is_slash 47 refl (decimal l.time) (decimal l.bytes ∷ decimal l.packets ∷ decimal l.idle ∷ [])
     (no_slash l.time (omega (arith, t)), (no_slash l.bytes b, (no_slash l.packets (omega (arith, p)), (no_slash l.idle (omega (arith, i)), tt))))
 
-pub limits_read : (fault : LineFault) (l : Limits) → AreLimits l → limits_of fault (limits_text l) ≡ Ok l
+pub limits_read : (fault : LineFault) (l : Limits) → IsTypedLimits l → limits_of fault (limits_text l) ≡ Ok l
 unfolding limits_in counts_of number_rest
 limits_read fault l are =
     let time = are.time in
@@ -60,7 +57,7 @@ limits_read fault l are =
     rw (s, t, b, p, i) refl
 
 -- limits have neither a space nor a comma
-pub limits_part : (l : Limits) → AreLimits l → list_all is_part (limits_text l) ≡ true
+pub limits_part : (l : Limits) → IsTypedLimits l → list_all is_part (limits_text l) ≡ true
 unfolding number_rest
 limits_part l are =
     let t = are.time in

@@ -1,7 +1,7 @@
 -- Lines of words, and the words that stand in them.
-use Rattle.std.proofs.Common.{◌≡◌, ℕ, ◌+◌, ◌-◌, ◌^◌, ◌<◌, ◌≤◌, ◌==◌, ◌&&◌, not, nat_lt, nat_le, Bool, true, false, List, [], ◌∷◌, ◌++◌, length, map, Option, Some, None, Result, Ok, Err, cond, inl, inr, refl, sym, ap, ◌∙◌, arith, append-nil}
+use Rattle.std.proofs.Common.{◌≡◌, ℕ, ◌+◌, ◌-◌, ◌^◌, ◌<◌, ◌≤◌, not, nat_lt, nat_le, Bool, true, false, List, [], ◌∷◌, ◌++◌, length, map, Option, Some, None, Ok, cond, inl, inr, refl, sym, ap, ◌∙◌, arith}
 use Rattle.std.specs.Prelude.{codes}
-use Rattle.std.specs.List.{All, AllByRecursion, list_all, list_any, slice_split, flat_map}
+use Rattle.std.specs.List.{All, AllByRecursion, list_all, list_any}
 use Rattle.std.specs.Str.{bytes_eq}
 use Rattle.std.specs.Char.{is_ascii_hexdigit}
 use Rattle.std.specs.Fmt.{decimal}
@@ -10,10 +10,10 @@ use Rattle.std.proofs.lemmas.List.{length-map}
 use Rattle.std.proofs.lemmas.List.Elements.{recursion_from_All}
 use Rattle.std.proofs.lemmas.List.Folds.{list_all-append}
 use Rattle.std.proofs.lemmas.Slice.Eq.{bytes_eq-Decides}
-use Rattle.ikl_base.specs.declared.status.LineFault.{LineFault}
 use Rattle.ikl_base.specs.declared.status.LineFault.TheVariants as faults
 use Rattle.ikl_base.specs.declared.address.Prefix.{Prefix}
-use Rattle.ikeless_tree.specs.Check.{is_named, is_spd_name, is_window, has_empty_range, has_many_ranges, entry_fault, first_of, entries_fault, spd_fault, is_gateway_octet, is_gateway}
+use Rattle.ikeless_tree.proofs.WordLemmas.{lane_again}
+use Rattle.ikeless_tree.specs.Check.{is_named, is_spd_name, is_window, has_empty_range, has_many_ranges, entry_fault, first_of, entries_fault, spd_fault, is_gateway}
 use Rattle.ikeless_tree.specs.declared.command.Peer.{Peer}
 use Rattle.ikeless_tree.specs.declared.entry.SpdEntry.{SpdEntry}
 use Rattle.ikeless_tree.specs.declared.order.Lane.{Lane}
@@ -22,20 +22,22 @@ use Rattle.ikeless_tree.specs.declared.reply.TreeFault.{TreeFault}
 use Rattle.ikeless_tree.specs.declared.reply.TreeFault.TheVariants as tree_faults
 use Rattle.ikeless_tree.specs.declared.reply.Feature.TheVariants as features
 use Rattle.hist_acts.specs.Gateways.{is_named as is_gateway_of}
-use Rattle.hex.specs.Hex.{encode_with, lower_digits}
+use Rattle.hex.specs.Hex.{encode_with}
+use Rattle.yang_values.proofs.QuadText.{also}
 use Rattle.yang_values.specs.Addresses.{IsAddress}
 use Rattle.yang_values.specs.HexText.{digits_of, digits_text, pair_text}
-use Rattle.yang_values.specs.Prefixes.{is_value_octet, prefix_text}
+use Rattle.yang_values.specs.Prefixes.{prefix_text}
 use Rattle.yang_values.proofs.JoinedText.{lacks_mark}
-use Rattle.yang_values.proofs.ValueText.{apart, number_of-decimal, pair_digits}
-use Rattle.yang_values.proofs.PrefixText.{decimal_octets, prefix_plain, prefix_again}
-use Rattle.yang_values.proofs.AddressText.{address_again}
-use Rattle.line_words.specs.Words.{◌>>=◌, or_fault, each, is_space, words, is_printable, gateway_of, octets_of, lane_of, number_in, prefix_in}
+use Rattle.yang_values.proofs.ValueText.{apart, pair_digits}
+use Rattle.yang_values.proofs.PrefixText.{decimal_octets, prefix_plain}
+use Rattle.line_words.specs.Words.{one_of, is_space, words, is_printable, octets_of, lane_of}
 use Rattle.line_words.specs.Entry.{entry_of, entries_of}
-use Rattle.line_words.specs.Text.{hex_text, lane_text, entry_text, spaced, line_text}
-use Rattle.line_words.specs.Spelling.{are_spelled, HasWindow, IsListed, AreOctets, IsEntry}
-use Rattle.line_words.proofs.PartText.{is_graph, graph_printable, also, value_graph, hexdigits_graph, name_graph, all_behind, not_word, each_holds, each_mapped, split_behind}
+use Rattle.line_words.specs.Text.{hex_text, entry_text, spaced, line_text}
+use Rattle.line_words.specs.Spelling.{are_spelled, HasWindow, IsListed}
+use Rattle.line_words.proofs.PartText.{is_graph, graph_printable, value_graph, hexdigits_graph, name_graph, all_behind, not_word, each_holds, each_mapped, split_behind}
 use Rattle.line_words.proofs.EntryText.{each_of, entry_read, entry_graph}
+use Rattle.ikeless_tree.specs.Typed.{AreOctets, IsTypedPolicy}
+use Rattle.ikeless_tree.specs.Words.{lane_text}
 
 -- ---- a line and its words
 
@@ -71,9 +73,7 @@ pub prefix_word : (p : Prefix) → IsAddress p.addr → list_all is_graph (prefi
 prefix_word p is = value_graph (prefix_text p) (prefix_plain p is)
 
 pub lane_read : (l : Lane) → lane_of (lane_text l) ≡ Ok l
-lane_read lanes.Down = refl
-lane_read lanes.Up = refl
-lane_read lanes.Note = refl
+lane_read l = ap (one_of faults.Mode) (lane_again l)
 
 pub lane_word : (l : Lane) → list_all is_graph (lane_text l) ≡ true
 lane_word lanes.Down = refl
@@ -161,26 +161,26 @@ spd_parts list none = by_length (nat_lt 256 (length list)) refl none
     by_length false few h = (ltb-false 256 (length list) few, good_entries [] list h)
     by_length true many h = cc
 
-all_read : (list : List SpdEntry) → AllByRecursion IsEntry list → AllByRecursion HasWindow list → AllByRecursion GoodEntry list
+all_read : (list : List SpdEntry) → AllByRecursion IsTypedPolicy list → AllByRecursion HasWindow list → AllByRecursion GoodEntry list
     → AllByRecursion (λ e. entry_of (entry_text e) ≡ Ok e) list
 unfolding GoodEntry
 all_read [] are windows good = tt
 all_read (e ∷ es) are windows good = (entry_read e are.0 windows.0 good.0.0 good.0.1, all_read es are.1 windows.1 good.1)
 
-all_words : (list : List SpdEntry) → AllByRecursion IsEntry list → AllByRecursion GoodEntry list → AllByRecursion (λ e. list_all is_graph (entry_text e) ≡ true) list
+all_words : (list : List SpdEntry) → AllByRecursion IsTypedPolicy list → AllByRecursion GoodEntry list → AllByRecursion (λ e. list_all is_graph (entry_text e) ≡ true) list
 unfolding GoodEntry
 all_words [] are good = tt
 all_words (e ∷ es) are good = (entry_graph e are.0 good.0.0, all_words es are.1 good.1)
 
-pub list_read : (list : List SpdEntry) → IsListed list → All IsEntry list → entries_of (map entry_text list) ≡ Ok list
+pub list_read : (list : List SpdEntry) → IsListed list → All IsTypedPolicy list → entries_of (map entry_text list) ≡ Ok list
 list_read list is are =
     each_of entry_of entry_text list
-    (all_read list (recursion_from_All IsEntry list are) (recursion_from_All HasWindow list is.windows) (spd_parts list is.fits).1)
+    (all_read list (recursion_from_All IsTypedPolicy list are) (recursion_from_All HasWindow list is.windows) (spd_parts list is.fits).1)
 
-pub list_words : (list : List SpdEntry) → IsListed list → All IsEntry list → AreWords (map entry_text list)
+pub list_words : (list : List SpdEntry) → IsListed list → All IsTypedPolicy list → AreWords (map entry_text list)
 unfolding AreWords
 list_words list is are =
-    each_mapped (λ t. list_all is_graph t ≡ true) entry_text list (all_words list (recursion_from_All IsEntry list are) (spd_parts list is.fits).1)
+    each_mapped (λ t. list_all is_graph t ≡ true) entry_text list (all_words list (recursion_from_All IsTypedPolicy list are) (spd_parts list is.fits).1)
 
 pub few_words : (list : List SpdEntry) → IsListed list → nat_le (length (map entry_text list)) 256 ≡ true
 few_words list is =

@@ -1,16 +1,15 @@
 -- What stands in words and in their parts, and texts cut at the marks between them.
-use Rattle.std.proofs.Common.{◌≡◌, ℕ, ◌<◌, ◌≤◌, ◌==◌, ◌&&◌, ◌||◌, nat_le, Bool, true, false, List, [], ◌∷◌, ◌++◌, map, inl, inr, refl, sym, ap, ◌∙◌, arith, append-nil}
+use Rattle.std.proofs.Common.{◌≡◌, ℕ, ◌≤◌, ◌==◌, ◌&&◌, ◌||◌, nat_le, Bool, true, false, List, [], ◌∷◌, ◌++◌, map, inl, inr, refl, sym, ap, ◌∙◌, arith, append-nil}
 use Rattle.std.specs.List.{All, AllByRecursion, list_all, slice_split, flat_map}
 use Rattle.std.specs.Str.{bytes_eq}
 use Rattle.std.specs.Char.{is_ascii_hexdigit}
-use Rattle.std.proofs.lemmas.Bool.{and_parts, and_from, or_left, or_right, or_cases, leb-true, le-leb, eqb-true, false≢true, false_from_ne_true}
+use Rattle.std.proofs.lemmas.Bool.{and_parts, and_from, or_right, or_cases, leb-true, le-leb, eqb-true, false≢true, false_from_ne_true}
 use Rattle.std.proofs.lemmas.List.Folds.{list_all-append}
 use Rattle.std.proofs.lemmas.List.Splits.{slice_split_none, slice_split_at}
 use Rattle.std.proofs.lemmas.Slice.Eq.{bytes_eq-Decides}
 use Rattle.ikeless_tree.specs.Check.{is_path_octet, is_word_octet}
-use Rattle.yang_values.specs.HexText.{is_colon}
-use Rattle.yang_values.specs.Addresses.{is_dot}
-use Rattle.yang_values.specs.Prefixes.{is_slash, is_value_octet}
+use Rattle.yang_values.proofs.QuadText.{also}
+use Rattle.yang_values.specs.Prefixes.{is_value_octet}
 use Rattle.line_words.specs.Words.{is_printable}
 use Rattle.ikeless_tree.specs.Check.{is_gateway_octet}
 
@@ -101,11 +100,6 @@ graph_printable c h =
     and_from _ _ (le-leb 32 c (omega arith)) p.1
 
 -- ---- texts
-
--- a text whose octets pass a test passes a wider one
-pub also : (q r : ℕ → Bool) → ((c : ℕ) → q c ≡ true → r c ≡ true) → (t : List ℕ) → list_all q t ≡ true → list_all r t ≡ true
-also q r f [] all = refl
-also q r f (c ∷ cs) all = let p = and_parts (q c) (list_all q cs) all in and_from _ _ (f c p.0) (also q r f cs p.1)
 
 pub as_graph : (t : List ℕ) → list_all is_part t ≡ true → list_all is_graph t ≡ true
 as_graph t all = also is_part is_graph part_graph t all

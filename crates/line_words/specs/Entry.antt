@@ -1,19 +1,18 @@
 -- The words that stand for policies.
-use Rattle.std.specs.Prelude.{ℕ, ◌-◌, ◌^◌, ◌==◌, ◌&&◌, nat_le, Bool, List, [], ◌∷◌, length, codes, if◌then◌else◌, Option, Some, None, Result, Ok, Err}
+use Rattle.std.specs.Prelude.{ℕ, ◌-◌, ◌^◌, ◌==◌, nat_le, Bool, List, [], ◌∷◌, length, codes, if◌then◌else◌, Option, Some, None, Result, Ok, Err}
 use Rattle.std.specs.List.{slice_split}
 use Rattle.std.specs.Str.{bytes_eq}
 use Rattle.ikl_base.specs.declared.status.LineFault.{LineFault}
 use Rattle.ikl_base.specs.declared.status.LineFault.TheVariants as faults
 use Rattle.ikeless_tree.specs.declared.entry.Direction.{Direction}
-use Rattle.ikeless_tree.specs.declared.entry.Direction.TheVariants as directions
 use Rattle.ikeless_tree.specs.declared.entry.Action.{Action}
-use Rattle.ikeless_tree.specs.declared.entry.Action.TheVariants as actions
+use Rattle.ikeless_tree.specs.Words as table
 use Rattle.ikeless_tree.specs.declared.entry.Range.{Range}
 use Rattle.ikeless_tree.specs.declared.entry.Selector.{Selector}
 use Rattle.ikeless_tree.specs.declared.entry.SpdEntry.{SpdEntry}
 use Rattle.ikeless_tree.specs.declared.reply.TreeFault.{TreeFault}
 use Rattle.line_words.specs.declared.entry.Use.{Use}
-use Rattle.line_words.specs.Words.{◌>>=◌, each, number_in, prefix_in}
+use Rattle.line_words.specs.Words.{◌>>=◌, one_of, each, number_in, prefix_in}
 
 abbrev pub is_comma : ℕ → Bool
 is_comma c = c == 44
@@ -25,14 +24,10 @@ abbrev pub is_dash : ℕ → Bool
 is_dash c = c == 45
 
 abbrev pub direction_of : List ℕ → Result Direction LineFault
-direction_of w = if bytes_eq w (codes "in") then Ok directions.In else if bytes_eq w (codes "out") then Ok directions.Out else Err faults.Entry
+direction_of w = one_of faults.Entry (table.direction_of w)
 
 abbrev pub action_of : List ℕ → Result Action LineFault
-action_of w =
-    if bytes_eq w (codes "protect") then Ok actions.Protect
-    else if bytes_eq w (codes "bypass") then Ok actions.Bypass
-    else if bytes_eq w (codes "discard") then Ok actions.Discard
-    else Err faults.Entry
+action_of w = one_of faults.Entry (table.action_of w)
 
 -- any protocol, or a number below 256
 unfoldable pub proto_of : List ℕ → Result (Option ℕ) LineFault

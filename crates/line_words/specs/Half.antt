@@ -1,13 +1,12 @@
 -- The words that stand for halves: entries of the security association database (RFC 4301 section 4.4.2).
-use Rattle.std.specs.Prelude.{ℕ, ◌-◌, ◌^◌, List, [], ◌∷◌, codes, if◌then◌else◌, Option, Some, None, Result, Ok, Err}
+use Rattle.std.specs.Prelude.{ℕ, ◌-◌, ◌^◌, List, [], ◌∷◌, Option, Some, None, Result, Ok, Err}
 use Rattle.std.specs.List.{slice_split}
-use Rattle.std.specs.Str.{bytes_eq}
 use Rattle.ikl_base.specs.declared.address.Addr.{Addr}
 use Rattle.ikl_base.specs.declared.status.LineFault.{LineFault}
 use Rattle.ikl_base.specs.declared.status.LineFault.TheVariants as faults
 use Rattle.ikeless_tree.specs.Check.{sad_fault}
 use Rattle.ikeless_tree.specs.declared.sad.Df.{Df}
-use Rattle.ikeless_tree.specs.declared.sad.Df.TheVariants as dfs
+use Rattle.ikeless_tree.specs.Words as table
 use Rattle.ikeless_tree.specs.declared.sad.SadEntry.{SadEntry}
 use Rattle.ikeless_tree.specs.declared.reply.TreeFault.{TreeFault}
 use Rattle.yang_values.specs.Addresses.{address_of}
@@ -16,16 +15,12 @@ use Rattle.line_words.specs.declared.halves.HalfNumbers.{HalfNumbers}
 use Rattle.line_words.specs.declared.halves.HalfTunnel.{HalfTunnel}
 use Rattle.line_words.specs.declared.halves.HalfKeys.{HalfKeys}
 use Rattle.line_words.specs.declared.halves.HalfRest.{HalfRest}
-use Rattle.line_words.specs.Words.{◌>>=◌, or_fault, number_in}
+use Rattle.line_words.specs.Words.{◌>>=◌, or_fault, one_of, number_in}
 use Rattle.line_words.specs.Entry.{is_comma, selector_of}
 use Rattle.line_words.specs.Limits.{lifetimes_of}
 
 abbrev pub df_of : List ℕ → Result Df LineFault
-df_of w =
-    if bytes_eq w (codes "clear") then Ok dfs.Clear
-    else if bytes_eq w (codes "set") then Ok dfs.Set
-    else if bytes_eq w (codes "copy") then Ok dfs.Copy
-    else Err faults.Entry
+df_of w = one_of faults.Entry (table.df_of w)
 
 abbrev pub end_of : List ℕ → Result Addr LineFault
 end_of w = or_fault faults.Entry (address_of w)

@@ -5,33 +5,17 @@ use Rattle.std.specs.Fmt.{decimal}
 use Rattle.yang_values.specs.Addresses.{address_text}
 use Rattle.yang_values.specs.HexText.{digits_text}
 use Rattle.yang_values.specs.Prefixes.{prefix_text}
+use Rattle.ikeless_tree.specs.Words.{direction_text, action_text, df_text}
 use Rattle.ikeless_tree.specs.declared.entry.Range.{Range}
 use Rattle.ikeless_tree.specs.declared.entry.Selector.{Selector}
 use Rattle.ikeless_tree.specs.declared.entry.SpdEntry.{SpdEntry}
-use Rattle.ikeless_tree.specs.declared.entry.Action.{Action}
-use Rattle.ikeless_tree.specs.declared.entry.Action.TheVariants as actions
-use Rattle.ikeless_tree.specs.declared.entry.Direction.{Direction}
-use Rattle.ikeless_tree.specs.declared.entry.Direction.TheVariants as directions
 use Rattle.ikeless_tree.specs.declared.sad.Limits.{Limits}
-use Rattle.ikeless_tree.specs.declared.order.Lane.{Lane}
-use Rattle.ikeless_tree.specs.declared.order.Lane.TheVariants as lanes
-use Rattle.ikeless_tree.specs.declared.sad.Df.{Df}
-use Rattle.ikeless_tree.specs.declared.sad.Df.TheVariants as dfs
 use Rattle.ikeless_tree.specs.declared.sad.SadEntry.{SadEntry}
 
 -- octets as digits, or a dash for none
 abbrev pub hex_text : List ℕ → List ℕ
 hex_text [] = codes "-"
 hex_text (b ∷ bs) = digits_text (b ∷ bs)
-
-abbrev pub direction_text : Direction → List ℕ
-direction_text directions.In = codes "in"
-direction_text directions.Out = codes "out"
-
-abbrev pub action_text : Action → List ℕ
-action_text actions.Protect = codes "protect"
-action_text actions.Bypass = codes "bypass"
-action_text actions.Discard = codes "discard"
 
 abbrev pub proto_text : Option ℕ → List ℕ
 proto_text None = codes "any"
@@ -70,19 +54,9 @@ entry_text e = name_text e ++ 44 ∷ (use_text e ++ 44 ∷ selector_text e.selec
 abbrev pub entries_text : List SpdEntry → List ℕ
 entries_text es = flat_map (λ e. 32 ∷ entry_text e) es
 
-abbrev pub lane_text : Lane → List ℕ
-lane_text lanes.Down = codes "down"
-lane_text lanes.Up = codes "up"
-lane_text lanes.Note = codes "note"
-
 -- seconds, octets, packets and idle seconds
 abbrev pub limits_text : Limits → List ℕ
 limits_text l = decimal l.time ++ 47 ∷ (decimal l.bytes ++ 47 ∷ (decimal l.packets ++ 47 ∷ decimal l.idle))
-
-abbrev pub df_text : Df → List ℕ
-df_text dfs.Clear = codes "clear"
-df_text dfs.Set = codes "set"
-df_text dfs.Copy = codes "copy"
 
 abbrev pub half_numbers_text : SadEntry → List ℕ
 half_numbers_text e = decimal e.reqid ++ 44 ∷ (decimal e.spi ++ 44 ∷ decimal e.window)

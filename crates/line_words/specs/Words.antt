@@ -1,6 +1,6 @@
 -- The words of a line (the format of scripts is of this project: docs/FORMATS.md).
-use Rattle.std.specs.Prelude.{ℕ, ◌-◌, ◌^◌, ◌==◌, ◌&&◌, nat_le, Bool, List, [], ◌∷◌, ◌++◌, length, codes, if◌then◌else◌, Option, Some, None, Result, Ok, Err}
-use Rattle.std.specs.List.{list_all, slice_split}
+use Rattle.std.specs.Prelude.{ℕ, ◌-◌, ◌==◌, ◌&&◌, nat_le, Bool, List, [], ◌∷◌, ◌++◌, codes, if◌then◌else◌, Option, Some, None, Result, Ok, Err}
+use Rattle.std.specs.List.{slice_split}
 use Rattle.std.specs.Str.{bytes_eq}
 use Rattle.ikl_base.specs.declared.status.LineFault.{LineFault}
 use Rattle.ikl_base.specs.declared.status.LineFault.TheVariants as faults
@@ -8,7 +8,7 @@ use Rattle.ikl_base.specs.declared.address.Prefix.{Prefix}
 use Rattle.ikeless_tree.specs.Check.{is_gateway, is_sad_name}
 use Rattle.ikeless_tree.specs.declared.command.Peer.{Peer}
 use Rattle.ikeless_tree.specs.declared.order.Lane.{Lane}
-use Rattle.ikeless_tree.specs.declared.order.Lane.TheVariants as lanes
+use Rattle.ikeless_tree.specs.Words as table
 use Rattle.hist_acts.specs.Gateways.{is_named}
 use Rattle.yang_values.specs.declared.value.BadValue.{BadValue}
 use Rattle.yang_values.specs.Numbers.{number_of}
@@ -24,6 +24,11 @@ abbrev pub ◌>>=◌ : {A B : Type 0} → Result A LineFault → (A → Result B
 abbrev pub or_fault : {A : Type 0} → LineFault → Result A BadValue → Result A LineFault
 or_fault fault (Ok x) = Ok x
 or_fault fault (Err e) = Err fault
+
+-- a word that is none of an enumeration refuses the line for this reason
+abbrev pub one_of : {A : Type 0} → LineFault → Option A → Result A LineFault
+one_of fault (Some x) = Ok x
+one_of fault None = Err fault
 
 abbrev pub is_space : ℕ → Bool
 is_space c = c == 32
@@ -50,11 +55,7 @@ half_name_of w = if is_sad_name w then Ok w else Err faults.Entry
 
 -- a lane between a gateway and its controller
 abbrev pub lane_of : List ℕ → Result Lane LineFault
-lane_of w =
-    if bytes_eq w (codes "down") then Ok lanes.Down
-    else if bytes_eq w (codes "up") then Ok lanes.Up
-    else if bytes_eq w (codes "note") then Ok lanes.Note
-    else Err faults.Mode
+lane_of w = one_of faults.Mode (table.lane_of w)
 
 -- a number that is at most this
 abbrev pub number_in : LineFault → ℕ → List ℕ → Result ℕ LineFault

@@ -1,6 +1,5 @@
 // Reads the words that stand for policies.
-ghost use Rattle.std.specs.Prelude.{◌≡◌, ◌-◌, ◌^◌, ◌≤◌, ◌<◌};
-ghost use Rattle.std.specs.List.{slice_split};
+ghost use Rattle.std.specs.Prelude.{◌≡◌, ◌-◌, ◌<◌};
 ghost use Rattle.ikl_base.specs.Answers.{Gives};
 ghost use Rattle.line_words.specs.Parts.{texts};
 ghost use Rattle.line_words.specs.Entry.{direction_of, action_of, proto_of, range_in, range_of, ranges_of, ports_of, selector_of, use_of, selector_in, entry_in, entry_of, entries_of};
@@ -21,26 +20,18 @@ const MOST_RANGES: usize = 8;
 fn direction(word: &[u8]) -> Result<Direction, LineFault>
     ensures { result ≡ direction_of word.now }
 {
-    if is_word(word, b"in") {
-        Ok(Direction::In)
-    } else if is_word(word, b"out") {
-        Ok(Direction::Out)
-    } else {
-        Err(LineFault::Entry)
+    match Direction::named(word) {
+        Some(direction) => Ok(direction),
+        None => Err(LineFault::Entry),
     }
 }
 
 fn action(word: &[u8]) -> Result<Action, LineFault>
     ensures { result ≡ action_of word.now }
 {
-    if is_word(word, b"protect") {
-        Ok(Action::Protect)
-    } else if is_word(word, b"bypass") {
-        Ok(Action::Bypass)
-    } else if is_word(word, b"discard") {
-        Ok(Action::Discard)
-    } else {
-        Err(LineFault::Entry)
+    match Action::named(word) {
+        Some(action) => Ok(action),
+        None => Err(LineFault::Entry),
     }
 }
 

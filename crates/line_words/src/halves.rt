@@ -4,7 +4,7 @@ ghost use Rattle.ikl_base.specs.Answers.{Gives};
 ghost use Rattle.line_words.specs.Parts.{texts};
 ghost use Rattle.line_words.specs.Half.{df_of, end_of, key_of, half_numbers_of, half_tunnel_of, half_keys_of, half_keys_in, half_rest_of, half_rest_in, half_from, half_in, half_of};
 
-use crate::cutting::{is_word, parts};
+use crate::cutting::parts;
 use crate::entry::selector;
 use crate::lifetimes::{Lifetimes, lifetimes_from};
 use crate::words::{u32_from, u64_from};
@@ -47,14 +47,9 @@ pub struct HalfRest {
 fn df(word: &[u8]) -> Result<Df, LineFault>
     ensures { result ≡ df_of word.now }
 {
-    if is_word(word, b"clear") {
-        Ok(Df::Clear)
-    } else if is_word(word, b"set") {
-        Ok(Df::Set)
-    } else if is_word(word, b"copy") {
-        Ok(Df::Copy)
-    } else {
-        Err(LineFault::Entry)
+    match Df::named(word) {
+        Some(df) => Ok(df),
+        None => Err(LineFault::Entry),
     }
 }
 

@@ -134,13 +134,8 @@ pub fn octets(alloc: Global, word: &[u8]) -> Result<Octets, OrMemory<LineFault>>
 pub fn lane(word: &[u8]) -> Result<Lane, LineFault>
     ensures { result ≡ lane_of word.now }
 {
-    if is_word(word, b"down") {
-        Ok(Lane::Down)
-    } else if is_word(word, b"up") {
-        Ok(Lane::Up)
-    } else if is_word(word, b"note") {
-        Ok(Lane::Note)
-    } else {
-        Err(LineFault::Mode)
+    match Lane::named(word) {
+        Some(lane) => Ok(lane),
+        None => Err(LineFault::Mode),
     }
 }

@@ -1,7 +1,8 @@
 // Writes single words and the words of policies.
 ghost use Rattle.std.specs.Prelude.{◌≡◌, ◌++◌, ◌∷◌, [], OnOk, map};
 ghost use Rattle.std.specs.Fmt.{decimal};
-ghost use Rattle.line_words.specs.Text.{hex_text, lane_text, spaced, direction_text, action_text, proto_text, range_text, more_ranges_text, ports_text, prefixes_text, both_ports_text, selector_text, name_text, use_text, entry_text, entries_text};
+ghost use Rattle.line_words.specs.Text.{hex_text, spaced, proto_text, range_text, more_ranges_text, ports_text, prefixes_text, both_ports_text, selector_text, name_text, use_text, entry_text, entries_text};
+ghost use Rattle.ikeless_tree.specs.Words.{action_text, direction_text, lane_text};
 
 use ikeless_tree::{Action, Direction, Lane, Ports, Range, Selector, SpdEntry};
 use ikl_base::{NoMemory, Octets};
@@ -33,20 +34,13 @@ fn put_hex(out: &mut Vec<u8>, octets: &[u8]) -> Result<(), NoMemory>
 fn put_direction(out: &mut Vec<u8>, direction: Direction) -> Result<(), NoMemory>
     ensures { OnOk result (out.new.items ≡ out.old.items ++ direction_text direction) }
 {
-    match direction {
-        Direction::In => put(out, b"in"),
-        Direction::Out => put(out, b"out"),
-    }
+    put(out, direction.text().as_bytes())
 }
 
 fn put_action(out: &mut Vec<u8>, action: Action) -> Result<(), NoMemory>
     ensures { OnOk result (out.new.items ≡ out.old.items ++ action_text action) }
 {
-    match action {
-        Action::Protect => put(out, b"protect"),
-        Action::Bypass => put(out, b"bypass"),
-        Action::Discard => put(out, b"discard"),
-    }
+    put(out, action.text().as_bytes())
 }
 
 fn put_proto(out: &mut Vec<u8>, proto: Option<u8>) -> Result<(), NoMemory>
@@ -181,11 +175,7 @@ pub fn put_hex_word(out: &mut Vec<u8>, octets: &Octets) -> Result<(), NoMemory>
 pub fn put_lane_word(out: &mut Vec<u8>, lane: Lane) -> Result<(), NoMemory>
     ensures { OnOk result (out.new.items ≡ out.old.items ++ 32 ∷ lane_text lane) }
 {
-    match lane {
-        Lane::Down => put_word(out, b"down"),
-        Lane::Up => put_word(out, b"up"),
-        Lane::Note => put_word(out, b"note"),
-    }
+    put_word(out, lane.text().as_bytes())
 }
 
 /// Entries, each after a space.

@@ -2,7 +2,8 @@
 ghost use Rattle.std.specs.Prelude.{◌≡◌, ◌++◌, ◌∷◌, OnOk};
 ghost use Rattle.std.specs.Fmt.{decimal};
 ghost use Rattle.yang_values.specs.Addresses.{address_text};
-ghost use Rattle.line_words.specs.Text.{limits_text, df_text, half_numbers_text, half_tunnel_text, half_lifetimes_text, half_keys_text, half_text};
+ghost use Rattle.line_words.specs.Text.{limits_text, half_numbers_text, half_tunnel_text, half_lifetimes_text, half_keys_text, half_text};
+ghost use Rattle.ikeless_tree.specs.Words.{df_text};
 
 use crate::write::{put, put_octet, put_selector};
 use ikeless_tree::{Df, Limits, SadEntry};
@@ -30,11 +31,7 @@ pub fn put_limits(out: &mut Vec<u8>, limits: &Limits) -> Result<(), NoMemory>
 fn put_df(out: &mut Vec<u8>, df: Df) -> Result<(), NoMemory>
     ensures { OnOk result (out.new.items ≡ out.old.items ++ df_text df) }
 {
-    match df {
-        Df::Clear => put(out, b"clear"),
-        Df::Set => put(out, b"set"),
-        Df::Copy => put(out, b"copy"),
-    }
+    put(out, df.text().as_bytes())
 }
 
 fn put_numbers(out: &mut Vec<u8>, entry: &SadEntry) -> Result<(), NoMemory>

@@ -1,15 +1,12 @@
 -- The line of an act is read as that act.
-use Rattle.std.proofs.Common.{◌≡◌, ℕ, ◌-◌, ◌^◌, ◌<◌, ◌≤◌, ◌&&◌, ◌||◌, nat_le, Bool, true, false, List, [], ◌∷◌, ◌++◌, length, take, drop, map, Result, Ok, inl, inr, ◌⊎◌, refl, sym, ap, ◌∙◌, arith}
+use Rattle.std.proofs.Common.{◌≡◌, ℕ, ◌-◌, ◌^◌, ◌<◌, nat_le, true, List, [], ◌∷◌, length, drop, map, Ok, refl, ap, arith}
 use Rattle.std.specs.Prelude.{codes}
-use Rattle.std.specs.List.{All, list_all, flat_map}
-use Rattle.std.specs.Str.{bytes_eq}
+use Rattle.std.specs.List.{All, list_all}
 use Rattle.std.specs.Fmt.{decimal}
-use Rattle.std.proofs.lemmas.Bool.{and_parts, and_from, or_cases}
-use Rattle.std.proofs.lemmas.List.Folds.{list_all-append}
-use Rattle.std.proofs.lemmas.Slice.Eq.{bytes_eq-Decides}
 use Rattle.ikl_base.specs.declared.status.LineFault.TheVariants as faults
-use Rattle.ikeless_tree.specs.Check.{is_gateway, is_sad_name, has_front, is_serial, is_word_octet}
-use Rattle.ikeless_tree.specs.Words.{refusal_text}
+use Rattle.ikeless_tree.proofs.WordLemmas.{drop_again, gone_again, refusal_again}
+use Rattle.ikeless_tree.specs.Check.{is_gateway, is_sad_name}
+use Rattle.ikeless_tree.specs.Words.{refusal_text, drop_text, gone_text, lane_text}
 use Rattle.ikeless_tree.specs.declared.command.Peer.{Peer}
 use Rattle.ikeless_tree.specs.declared.command.Refusal.{Refusal}
 use Rattle.ikeless_tree.specs.declared.command.Refusal.TheVariants as refusals
@@ -22,48 +19,27 @@ use Rattle.ikeless_tree.specs.declared.reply.GoneWhy.TheVariants as ends
 use Rattle.hist_acts.specs.declared.act.Act.{Act}
 use Rattle.hist_acts.specs.declared.act.Act.TheVariants as acts
 use Rattle.hist_acts.specs.Gateways.{is_named as is_gateway_of}
-use Rattle.script_lines.specs.declared.act.Packet.{Packet}
-use Rattle.script_lines.specs.declared.act.Sealed.{Sealed}
-use Rattle.script_lines.specs.declared.act.Opening.{Opening}
-use Rattle.line_words.specs.Words.{◌>>=◌, words, is_printable, known_of, octets_of, number_in}
-use Rattle.line_words.specs.Entry.{unless_fault}
+use Rattle.line_words.specs.Words.{one_of}
 use Rattle.event_lines.specs.Event.{time_in, reqid_in, gateway_in}
-use Rattle.line_words.specs.Text.{hex_text, lane_text, entry_text, line_text}
-use Rattle.script_lines.specs.Text.{why_text, gone_text, act_words, act_text}
-use Rattle.script_lines.specs.Act.{why_of, gone_of, refusal_of, force_in, packet_in, sealed_of, sealed_in, drop_in, gone_at, gone_in, opening_in, shown_of, under_way_at, under_way_in, refused_in, base_act_in, packet_act_in, act_in, as_spelled, act_of}
-use Rattle.line_words.specs.Spelling.{are_spelled, IsListed, AreOctets, IsEntry}
+use Rattle.line_words.specs.Text.{hex_text, entry_text}
+use Rattle.script_lines.specs.Text.{act_text}
+use Rattle.script_lines.specs.Act.{why_of, gone_of, refusal_of, force_in, packet_in, sealed_of, sealed_in, drop_in, gone_at, gone_in, opening_in, under_way_at, under_way_in, refused_in, base_act_in, packet_act_in, act_in, act_of}
+use Rattle.line_words.specs.Spelling.{are_spelled, IsListed}
 use Rattle.script_lines.specs.Spelling.{IsActUnder, IsAct}
 use Rattle.line_words.proofs.PartText.{is_graph}
 use Rattle.line_words.proofs.HalfNames.{half_name_word}
 use Rattle.script_lines.proofs.ActLine.{act_line}
 use Rattle.script_lines.proofs.SessionActs.{put_line, order_line, handled_line, answered_line, notice_line, heard_line}
 use Rattle.line_words.proofs.EntryText.{number_again}
-use Rattle.line_words.proofs.LineText.{AreWords, ReadsDigits, line_words, line_printable, number_word, lane_read, lane_word, named_spelled, name_word, hex_word, hex_read, list_read, list_words, few_words}
+use Rattle.line_words.proofs.LineText.{AreWords, ReadsDigits, number_word, lane_read, lane_word, named_spelled, name_word, hex_word, hex_read, list_read, list_words, few_words}
+use Rattle.ikeless_tree.specs.Typed.{AreOctets, IsTypedPolicy}
 
 -- ---- why a packet is dropped
 
-why_read : (w : DropWhy) → why_of (why_text w) ≡ Ok w
-unfolding why_of
-why_read why.Malformed = refl
-why_read why.Fragment = refl
-why_read why.TooLong = refl
-why_read why.NoPolicy = refl
-why_read why.Discard = refl
-why_read why.ClearRefused = refl
-why_read why.NoSa = refl
-why_read why.SeqLimit = refl
-why_read why.Short = refl
-why_read why.BadSpi = refl
-why_read why.Zero = refl
-why_read why.Old = refl
-why_read why.Seen = refl
-why_read why.Auth = refl
-why_read why.Padding = refl
-why_read why.Dummy = refl
-why_read why.Inner = refl
-why_read why.Selector = refl
+why_read : (w : DropWhy) → why_of (drop_text w) ≡ Ok w
+why_read w = ap (one_of faults.Word) (drop_again w)
 
-why_word : (w : DropWhy) → list_all is_graph (why_text w) ≡ true
+why_word : (w : DropWhy) → list_all is_graph (drop_text w) ≡ true
 why_word why.Malformed = refl
 why_word why.Fragment = refl
 why_word why.TooLong = refl
@@ -84,23 +60,14 @@ why_word why.Inner = refl
 why_word why.Selector = refl
 
 end_read : (w : GoneWhy) → gone_of (gone_text w) ≡ Ok w
-end_read ends.Removed = refl
-end_read ends.Hard = refl
+end_read w = ap (one_of faults.Word) (gone_again w)
 
 end_word : (w : GoneWhy) → list_all is_graph (gone_text w) ≡ true
 end_word ends.Removed = refl
 end_word ends.Hard = refl
 
 refusal_read : (w : Refusal) → refusal_of (refusal_text w) ≡ Ok w
-unfolding refusal_of
-refusal_read refusals.UnknownGateway = refl
-refusal_read refusals.SameGateway = refl
-refusal_read refusals.TunnelExists = refl
-refusal_read refusals.NoTunnel = refl
-refusal_read refusals.TunnelLimit = refl
-refusal_read refusals.KeySeen = refl
-refusal_read refusals.KeyLength = refl
-refusal_read refusals.KeyLimit = refl
+refusal_read w = ap (one_of faults.Word) (refusal_again w)
 
 refusal_word : (w : Refusal) → list_all is_graph (refusal_text w) ≡ true
 refusal_word refusals.UnknownGateway = refl
@@ -181,7 +148,7 @@ drop_line : (gateways : List Peer) (g : List ℕ) (w : DropWhy) → is_gateway g
     → act_of gateways (act_text (acts.Drop g w)) ≡ Ok (acts.Drop g w)
 unfolding act_in drop_in AreWords
 drop_line gateways g w spelled named =
-    act_line gateways (acts.Drop g w) (codes "drop") (g ∷ why_text w ∷ []) refl (refl, (name_word g spelled, (why_word w, tt)))
+    act_line gateways (acts.Drop g w) (codes "drop") (g ∷ drop_text w ∷ []) refl (refl, (name_word g spelled, (why_word w, tt)))
     (rw (named, why_read w) refl)
 
 -- ---- the other acts
@@ -203,7 +170,7 @@ unfolding act_in gateway_in AreWords
 boot_line gateways g spelled named =
     act_line gateways (acts.Boot g) (codes "boot") (g ∷ []) refl (refl, (name_word g spelled, tt)) (rw named refl)
 
-force_read : (gateways : List Peer) (g : List ℕ) (list : List SpdEntry) → is_gateway_of gateways g ≡ true → IsListed list → All IsEntry list
+force_read : (gateways : List Peer) (g : List ℕ) (list : List SpdEntry) → is_gateway_of gateways g ≡ true → IsListed list → All IsTypedPolicy list
     → force_in gateways (g ∷ map entry_text list) ≡ Ok (acts.Policy g list)
 unfolding force_in
 force_read gateways g list named is are =
@@ -212,7 +179,7 @@ force_read gateways g list named is are =
     let fits = is.fits in
     rw (few, named, read, fits) refl
 
-policy_line : (gateways : List Peer) (g : List ℕ) (list : List SpdEntry) → is_gateway g ≡ true → is_gateway_of gateways g ≡ true → IsListed list → All IsEntry list
+policy_line : (gateways : List Peer) (g : List ℕ) (list : List SpdEntry) → is_gateway g ≡ true → is_gateway_of gateways g ≡ true → IsListed list → All IsTypedPolicy list
     → act_of gateways (act_text (acts.Policy g list)) ≡ Ok (acts.Policy g list)
 unfolding act_in packet_act_in base_act_in AreWords
 policy_line gateways g list spelled named is are =

@@ -1,5 +1,5 @@
 -- The lines of halves, orders, answers and notices are read as those acts.
-use Rattle.std.proofs.Common.{◌≡◌, ℕ, zero, suc, ◌-◌, ◌^◌, ◌<◌, ◌≤◌, ◌==◌, ◌&&◌, ◌||◌, nat_le, nat_lt, Bool, true, false, List, [], ◌∷◌, ◌++◌, length, map, Option, Some, None, Result, Ok, Err, refl, sym, ap, ◌∙◌, arith, append-nil, append_assoc, length-append}
+use Rattle.std.proofs.Common.{◌≡◌, ℕ, ◌-◌, ◌^◌, ◌<◌, nat_lt, Bool, true, false, List, [], ◌∷◌, ◌++◌, length, map, Option, Some, None, Ok, refl, ap, ◌∙◌, arith, append-nil, append_assoc, length-append}
 use Rattle.std.specs.Prelude.{codes}
 use Rattle.std.specs.List.{All, AllByRecursion, list_all, slice_split, flat_map}
 use Rattle.std.specs.Str.{bytes_eq}
@@ -8,17 +8,15 @@ use Rattle.std.proofs.lemmas.Bool.{and_parts, and_from, false_from_ne_true}
 use Rattle.std.proofs.lemmas.List.Elements.{recursion_from_All}
 use Rattle.std.proofs.lemmas.List.Folds.{list_all-append}
 use Rattle.std.proofs.lemmas.Slice.Eq.{bytes_eq-Decides}
-use Rattle.ikl_base.specs.Address.{bits_of, is_one_family}
-use Rattle.ikl_base.specs.declared.status.LineFault.{LineFault}
 use Rattle.ikl_base.specs.declared.status.LineFault.TheVariants as faults
+use Rattle.ikeless_tree.proofs.WordLemmas.{tag_again, softness_again}
 use Rattle.ikeless_tree.specs.Check.{is_gateway, is_sad_name, is_spd_name, is_path_octet, has_many_ranges}
-use Rattle.ikeless_tree.specs.Words.{tag_text}
+use Rattle.ikeless_tree.specs.Words.{tag_text, softness_text}
 use Rattle.ikeless_tree.specs.declared.sad.Limits.{Limits}
 use Rattle.ikeless_tree.specs.declared.sad.SadEntry.{SadEntry}
 use Rattle.ikeless_tree.specs.declared.command.Peer.{Peer}
 use Rattle.ikeless_tree.specs.declared.entry.Range.{Range}
 use Rattle.ikeless_tree.specs.declared.entry.Selector.{Selector}
-use Rattle.ikeless_tree.specs.declared.entry.SpdEntry.{SpdEntry}
 use Rattle.ikeless_tree.specs.declared.order.Answer.{Answer}
 use Rattle.ikeless_tree.specs.declared.order.Notice.{Notice}
 use Rattle.ikeless_tree.specs.declared.order.Notice.TheVariants as notices
@@ -26,34 +24,30 @@ use Rattle.ikeless_tree.specs.declared.order.Order.{Order}
 use Rattle.ikeless_tree.specs.declared.order.Order.TheVariants as orders
 use Rattle.ikeless_tree.specs.declared.reply.Tag.{Tag}
 use Rattle.ikeless_tree.specs.declared.reply.Tag.TheVariants as tags
-use Rattle.hist_acts.specs.declared.act.Act.{Act}
 use Rattle.hist_acts.specs.declared.act.Act.TheVariants as acts
 use Rattle.hist_acts.specs.Gateways.{is_named as is_gateway_of}
+use Rattle.yang_values.proofs.QuadText.{also}
 use Rattle.yang_values.specs.Prefixes.{prefix_text}
-use Rattle.script_lines.specs.declared.session.Place.{Place}
-use Rattle.script_lines.specs.declared.session.Replied.{Replied}
-use Rattle.script_lines.specs.declared.session.Noticed.{Noticed}
-use Rattle.line_words.specs.Words.{◌>>=◌, known_of, half_name_of, number_in, each}
-use Rattle.line_words.specs.Entry.{is_comma, selector_in, unless_fault}
-use Rattle.line_words.specs.Half.{half_of}
-use Rattle.line_words.specs.Limits.{limits_of}
-use Rattle.script_lines.specs.Session.{place_of, listed_in, read_in, put_in, remove_of, remove_in, order_of, tag_of, names_of, answer_of, replied_of, replied_in, is_whole, has_proto, is_one_port, is_packet, policy_name_of, packet_of, acquire_of, acquire_in, soft_of, expire_of, expire_in, overflow_of, overflow_in, bad_spi_in, notice_of, noticed_of, noticed_in}
-use Rattle.line_words.specs.Text.{hex_text, entry_text, limits_text, proto_text, ports_text, selector_text, half_text}
-use Rattle.script_lines.specs.Text.{names_text, tag_word, soft_text, order_words, answer_words, notice_words, act_text}
+use Rattle.line_words.specs.Words.{one_of, half_name_of, each}
+use Rattle.line_words.specs.Entry.{is_comma, selector_in}
+use Rattle.script_lines.specs.Session.{place_of, listed_in, read_in, put_in, remove_of, remove_in, order_of, tag_of, names_of, answer_of, replied_of, replied_in, is_one_port, is_packet, acquire_of, acquire_in, soft_of, expire_of, expire_in, overflow_of, overflow_in, bad_spi_in, notice_of, noticed_of, noticed_in}
+use Rattle.line_words.specs.Text.{entry_text, limits_text, proto_text, ports_text, selector_text, half_text}
+use Rattle.script_lines.specs.Text.{names_text, tag_word, order_words, answer_words, notice_words, act_text}
 use Rattle.script_lines.specs.Act.{put_at, put_in as install_in, order_at, order_in, session_act_in, base_act_in, packet_act_in, act_in, act_of}
-use Rattle.line_words.specs.Spelling.{ArePorts, IsListed, IsHalfName, IsInstallable, IsSelector, IsEntry, IsHalf, AreLimits}
-use Rattle.script_lines.specs.Spelling.{AreHalfNames, IsOrderSpelled, IsNoticeSpelled, IsOrder, IsNotice}
-use Rattle.line_words.proofs.PartText.{is_part, is_graph, path_part, also, as_graph, all_behind, each_holds, split_behind}
+use Rattle.line_words.specs.Spelling.{IsHalfName, IsInstallable}
+use Rattle.script_lines.specs.Spelling.{AreHalfNames, IsOrderSpelled, IsNoticeSpelled}
+use Rattle.line_words.proofs.PartText.{is_part, is_graph, path_part, as_graph, all_behind, each_holds, split_behind}
 use Rattle.line_words.proofs.EntryText.{prefix_is_part, proto_is_part, ports_are_part, selector_parts, selector_read, no_comma, number_again}
 use Rattle.line_words.proofs.LineText.{AreWords, ReadsDigits, number_word, name_word, list_read, list_words, few_words}
 use Rattle.line_words.proofs.LimitsText.{limits_read, limits_part}
 use Rattle.line_words.proofs.HalfNames.{half_name_part, half_name_word, half_name_long}
 use Rattle.script_lines.proofs.ActLine.{act_line}
 use Rattle.line_words.proofs.HalfText.{half_read, half_graph}
+use Rattle.ikeless_tree.specs.Typed.{IsTypedHalf, IsTypedNotice, IsTypedOrder, IsTypedRange, IsTypedSelector}
 
 -- ---- halves
 
-pub put_line : ReadsDigits → (gateways : List Peer) (g : List ℕ) (e : SadEntry) → is_gateway g ≡ true → is_gateway_of gateways g ≡ true → IsInstallable e → IsHalf e
+pub put_line : ReadsDigits → (gateways : List Peer) (g : List ℕ) (e : SadEntry) → is_gateway g ≡ true → is_gateway_of gateways g ≡ true → IsInstallable e → IsTypedHalf e
     → act_of gateways (act_text (acts.Put g e)) ≡ Ok (acts.Put g e)
 unfolding act_in packet_act_in base_act_in install_in put_at AreWords
 put_line digits gateways g e spelled named fits is =
@@ -82,7 +76,7 @@ order_both (orders.Policy list) = refl
 order_both (orders.Put e) = refl
 order_both (orders.Remove name) = refl
 
-order_read : ReadsDigits → (o : Order) → IsOrderSpelled o → IsOrder o → order_of (order_first o) (order_more o) ≡ Ok o
+order_read : ReadsDigits → (o : Order) → IsOrderSpelled o → IsTypedOrder o → order_of (order_first o) (order_more o) ≡ Ok o
 unfolding order_of read_in listed_in put_in remove_in remove_of order_first order_more
 order_read digits orders.Read spelled is = refl
 order_read digits (orders.Policy list) spelled is =
@@ -93,7 +87,7 @@ order_read digits (orders.Policy list) spelled is =
 order_read digits (orders.Put e) spelled is = rw (half_read digits e is spelled) refl
 order_read digits (orders.Remove name) spelled is = rw spelled refl
 
-order_are_words : (o : Order) → IsOrderSpelled o → IsOrder o → AreWords (order_first o ∷ order_more o)
+order_are_words : (o : Order) → IsOrderSpelled o → IsTypedOrder o → AreWords (order_first o ∷ order_more o)
 unfolding AreWords order_first order_more
 order_are_words orders.Read spelled is = (refl, tt)
 order_are_words (orders.Policy list) spelled is = (refl, list_words list spelled is)
@@ -106,14 +100,14 @@ unfolding place_of
 place_read gateways g s n named small request =
     rw (named, number_again faults.Number s (2 ^ 32 - 1) (omega arith) (omega arith), number_again faults.Number n (2 ^ 64 - 1) request (omega arith)) refl
 
-order_in_read : ReadsDigits → (gateways : List Peer) (g : List ℕ) (s n : ℕ) (o : Order) → is_gateway_of gateways g ≡ true → IsOrderSpelled o → s < 2 ^ 32 → n < 2 ^ 64 → IsOrder o
+order_in_read : ReadsDigits → (gateways : List Peer) (g : List ℕ) (s n : ℕ) (o : Order) → is_gateway_of gateways g ≡ true → IsOrderSpelled o → s < 2 ^ 32 → n < 2 ^ 64 → IsTypedOrder o
     → order_in gateways (g ∷ decimal s ∷ decimal n ∷ order_first o ∷ order_more o) ≡ Ok (acts.Order g s n o)
 unfolding order_in order_at
 order_in_read digits gateways g s n o named written small request is =
     rw (place_read gateways g s n named small request, order_read digits o written is) refl
 
 pub order_line : ReadsDigits → (gateways : List Peer) (g : List ℕ) (s n : ℕ) (o : Order) → is_gateway g ≡ true → is_gateway_of gateways g ≡ true → IsOrderSpelled o
-    → s < 2 ^ 32 → n < 2 ^ 64 → IsOrder o → act_of gateways (act_text (acts.Order g s n o)) ≡ Ok (acts.Order g s n o)
+    → s < 2 ^ 32 → n < 2 ^ 64 → IsTypedOrder o → act_of gateways (act_text (acts.Order g s n o)) ≡ Ok (acts.Order g s n o)
 unfolding act_in packet_act_in base_act_in session_act_in AreWords
 order_line digits gateways g s n o spelled named written small request is =
     act_line gateways (acts.Order g s n o) (codes "order") (g ∷ decimal s ∷ decimal n ∷ order_first o ∷ order_more o)
@@ -123,16 +117,19 @@ order_line digits gateways g s n o spelled named written small request is =
 
 -- ---- answers
 
+not_dash : (t : Tag) → bytes_eq (tag_text t) (codes "-") ≡ false
+not_dash tags.MalformedMessage = refl
+not_dash tags.OperationNotSupported = refl
+not_dash tags.TooBig = refl
+not_dash tags.InvalidValue = refl
+not_dash tags.UnknownElement = refl
+not_dash tags.BadElement = refl
+not_dash tags.ResourceDenied = refl
+
 tag_read : (t : Option Tag) → tag_of (tag_word t) ≡ Ok t
 unfolding tag_of
 tag_read None = refl
-tag_read (Some tags.MalformedMessage) = refl
-tag_read (Some tags.OperationNotSupported) = refl
-tag_read (Some tags.TooBig) = refl
-tag_read (Some tags.InvalidValue) = refl
-tag_read (Some tags.UnknownElement) = refl
-tag_read (Some tags.BadElement) = refl
-tag_read (Some tags.ResourceDenied) = refl
+tag_read (Some t) = rw (not_dash t, tag_again t) refl
 
 tag_graph : (t : Option Tag) → list_all is_graph (tag_word t) ≡ true
 tag_graph None = refl
@@ -251,7 +248,7 @@ selector_joined : (s : Selector) → selector_text s ≡ prefix_text s.local ++ 
 unfolding selector_text selector_rest
 selector_joined s = five (prefix_text s.local) (prefix_text s.remote) (proto_text s.proto) (ports_text s.local_ports) (ports_text s.remote_ports)
 
-selector_are_parts : (s : Selector) → IsSelector s → AllByRecursion (λ t. list_all is_part t ≡ true) (prefix_text s.local ∷ selector_rest s)
+selector_are_parts : (s : Selector) → IsTypedSelector s → AllByRecursion (λ t. list_all is_part t ≡ true) (prefix_text s.local ∷ selector_rest s)
 unfolding selector_rest
 selector_are_parts s is = (
   prefix_is_part s.local is.local,
@@ -260,14 +257,14 @@ selector_are_parts s is = (
     (
       proto_is_part s.proto is.proto,
       (
-        ports_are_part s.local_ports (recursion_from_All ArePorts s.local_ports is.local_ports),
-        (ports_are_part s.remote_ports (recursion_from_All ArePorts s.remote_ports is.remote_ports), tt),
+        ports_are_part s.local_ports (recursion_from_All IsTypedRange s.local_ports is.local_ports),
+        (ports_are_part s.remote_ports (recursion_from_All IsTypedRange s.remote_ports is.remote_ports), tt),
       ),
     ),
   ),
 )
 
-selector_again : (s : Selector) → IsSelector s → has_many_ranges s ≡ false → selector_in (slice_split is_comma (selector_text s)) ≡ Ok s
+selector_again : (s : Selector) → IsTypedSelector s → has_many_ranges s ≡ false → selector_in (slice_split is_comma (selector_text s)) ≡ Ok s
 unfolding selector_rest selector_parts
 selector_again s is few =
     ap (λ t. selector_in (slice_split is_comma t)) (selector_joined s)
@@ -275,7 +272,7 @@ selector_again s is few =
     (each_holds (λ t. list_all is_part t ≡ true) (λ t. All (λ c. is_comma c ≡ false) t) no_comma (prefix_text s.local ∷ selector_rest s) (selector_are_parts s is)))
     ∙ selector_read s is few
 
-selector_graph : (s : Selector) → IsSelector s → list_all is_graph (selector_text s) ≡ true
+selector_graph : (s : Selector) → IsTypedSelector s → list_all is_graph (selector_text s) ≡ true
 selector_graph s is =
     let all = selector_are_parts s is in
     ap (list_all is_graph) (selector_joined s)
@@ -286,11 +283,10 @@ selector_graph s is =
 policy_name_word : (name : List ℕ) → is_spd_name name ≡ true → list_all is_graph name ≡ true
 policy_name_word name is = as_graph name (also is_path_octet is_part path_part name (and_parts _ _ is).1)
 
-soft_read : (b : Bool) → soft_of (soft_text b) ≡ Ok b
-soft_read true = refl
-soft_read false = refl
+soft_read : (b : Bool) → soft_of (softness_text b) ≡ Ok b
+soft_read b = ap (one_of faults.Word) (softness_again b)
 
-soft_word : (b : Bool) → list_all is_graph (soft_text b) ≡ true
+soft_word : (b : Bool) → list_all is_graph (softness_text b) ≡ true
 soft_word true = refl
 soft_word false = refl
 
@@ -302,7 +298,7 @@ notice_first (notices.BadSpi spi) = codes "bad-spi"
 
 notice_more : Notice → List (List ℕ)
 notice_more (notices.Acquire policy s) = policy ∷ selector_text s ∷ []
-notice_more (notices.Expire name soft counts) = name ∷ soft_text soft ∷ limits_text counts ∷ []
+notice_more (notices.Expire name soft counts) = name ∷ softness_text soft ∷ limits_text counts ∷ []
 notice_more (notices.SeqOverflow name) = name ∷ []
 notice_more (notices.BadSpi spi) = decimal spi ∷ []
 
@@ -313,7 +309,7 @@ notice_both (notices.Expire name soft counts) = refl
 notice_both (notices.SeqOverflow name) = refl
 notice_both (notices.BadSpi spi) = refl
 
-notice_read : (n : Notice) → IsNoticeSpelled n → IsNotice n → notice_of (notice_first n) (notice_more n) ≡ Ok n
+notice_read : (n : Notice) → IsNoticeSpelled n → IsTypedNotice n → notice_of (notice_first n) (notice_more n) ≡ Ok n
 unfolding notice_of acquire_in acquire_of expire_in expire_of overflow_in overflow_of bad_spi_in notice_first notice_more
 notice_read (notices.Acquire policy s) spelled is =
     let name = spelled.0 in
@@ -327,7 +323,7 @@ notice_read (notices.Expire name soft counts) spelled is =
 notice_read (notices.SeqOverflow name) spelled is = rw spelled refl
 notice_read (notices.BadSpi spi) spelled is = rw (number_again faults.Number spi (2 ^ 32 - 1) (omega (arith, is)) (omega (arith, is))) refl
 
-notice_are_words : (n : Notice) → IsNoticeSpelled n → IsNotice n → AreWords (notice_first n ∷ notice_more n)
+notice_are_words : (n : Notice) → IsNoticeSpelled n → IsTypedNotice n → AreWords (notice_first n ∷ notice_more n)
 unfolding AreWords notice_first notice_more
 notice_are_words (notices.Acquire policy s) spelled is = (refl, (policy_name_word policy spelled.0, (selector_graph s is, tt)))
 notice_are_words (notices.Expire name soft counts) spelled is =
@@ -335,19 +331,19 @@ notice_are_words (notices.Expire name soft counts) spelled is =
 notice_are_words (notices.SeqOverflow name) spelled is = (refl, (half_name_word name spelled, tt))
 notice_are_words (notices.BadSpi spi) spelled is = (refl, (number_word spi (omega (arith, is)), tt))
 
-noticed_read : (gateways : List Peer) (g : List ℕ) (s : ℕ) (n : Notice) → is_gateway_of gateways g ≡ true → IsNoticeSpelled n → s < 2 ^ 32 → IsNotice n
+noticed_read : (gateways : List Peer) (g : List ℕ) (s : ℕ) (n : Notice) → is_gateway_of gateways g ≡ true → IsNoticeSpelled n → s < 2 ^ 32 → IsTypedNotice n
     → noticed_in gateways (g ∷ decimal s ∷ notice_first n ∷ notice_more n) ≡ Ok (record { gateway = g; session = s; notice = n })
 unfolding noticed_in noticed_of
 noticed_read gateways g s n named written small is =
     rw (named, number_again faults.Number s (2 ^ 32 - 1) (omega arith) (omega arith), notice_read n written is) refl
 
-noticed_words : (what g : List ℕ) (s : ℕ) (n : Notice) → list_all is_graph what ≡ true → is_gateway g ≡ true → IsNoticeSpelled n → s < 2 ^ 32 → IsNotice n
+noticed_words : (what g : List ℕ) (s : ℕ) (n : Notice) → list_all is_graph what ≡ true → is_gateway g ≡ true → IsNoticeSpelled n → s < 2 ^ 32 → IsTypedNotice n
     → AreWords (what ∷ g ∷ decimal s ∷ notice_first n ∷ notice_more n)
 unfolding AreWords
 noticed_words what g s n word spelled written small is = (word, (name_word g spelled, (number_word s (omega arith), notice_are_words n written is)))
 
 pub notice_line : ReadsDigits → (gateways : List Peer) (g : List ℕ) (s : ℕ) (n : Notice) → is_gateway g ≡ true → is_gateway_of gateways g ≡ true → IsNoticeSpelled n
-    → s < 2 ^ 32 → IsNotice n → act_of gateways (act_text (acts.Notice g s n)) ≡ Ok (acts.Notice g s n)
+    → s < 2 ^ 32 → IsTypedNotice n → act_of gateways (act_text (acts.Notice g s n)) ≡ Ok (acts.Notice g s n)
 unfolding act_in packet_act_in base_act_in session_act_in
 notice_line digits gateways g s n spelled named written small is =
     act_line gateways (acts.Notice g s n) (codes "notice") (g ∷ decimal s ∷ notice_first n ∷ notice_more n)
@@ -355,7 +351,7 @@ notice_line digits gateways g s n spelled named written small is =
     (rw (noticed_read gateways g s n named written small is) refl)
 
 pub heard_line : ReadsDigits → (gateways : List Peer) (g : List ℕ) (s : ℕ) (n : Notice) → is_gateway g ≡ true → is_gateway_of gateways g ≡ true → IsNoticeSpelled n
-    → s < 2 ^ 32 → IsNotice n → act_of gateways (act_text (acts.Heard g s n)) ≡ Ok (acts.Heard g s n)
+    → s < 2 ^ 32 → IsTypedNotice n → act_of gateways (act_text (acts.Heard g s n)) ≡ Ok (acts.Heard g s n)
 unfolding act_in packet_act_in base_act_in session_act_in
 heard_line digits gateways g s n spelled named written small is =
     act_line gateways (acts.Heard g s n) (codes "heard") (g ∷ decimal s ∷ notice_first n ∷ notice_more n)

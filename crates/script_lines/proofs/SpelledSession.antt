@@ -1,16 +1,14 @@
 -- An order, an answer or a notice that is read is one that a line can spell.
-use Rattle.std.proofs.Common.{◌≡◌, ℕ, ◌-◌, ◌^◌, nat_le, Bool, true, false, List, [], ◌∷◌, length, Option, Some, None, Result, Ok, Err, cond, refl, sym, ap, ◌∙◌, subst}
+use Rattle.std.proofs.Common.{◌≡◌, ℕ, ◌-◌, ◌^◌, nat_le, true, List, [], ◌∷◌, length, Option, Some, None, Ok, refl, sym, ap, ◌∙◌, subst}
 use Rattle.std.specs.Prelude.{codes}
-use Rattle.std.specs.List.{All, AllByRecursion, slice_split}
+use Rattle.std.specs.List.{slice_split}
 use Rattle.std.specs.Str.{bytes_eq}
 use Rattle.std.proofs.lemmas.List.Elements.{All-from_recursion}
-use Rattle.ikl_base.specs.declared.status.LineFault.{LineFault}
 use Rattle.ikl_base.specs.declared.status.LineFault.TheVariants as faults
 use Rattle.ikeless_tree.specs.Check.{spd_fault, sad_fault, is_sad_name, is_spd_name}
 use Rattle.ikeless_tree.specs.declared.sad.SadEntry.{SadEntry}
 use Rattle.ikeless_tree.specs.declared.command.Peer.{Peer}
 use Rattle.ikeless_tree.specs.declared.entry.Selector.{Selector}
-use Rattle.ikeless_tree.specs.declared.entry.SpdEntry.{SpdEntry}
 use Rattle.ikeless_tree.specs.declared.order.Answer.{Answer}
 use Rattle.ikeless_tree.specs.declared.order.Notice.{Notice}
 use Rattle.ikeless_tree.specs.declared.order.Notice.TheVariants as notices
@@ -23,13 +21,13 @@ use Rattle.hist_acts.specs.Gateways.{is_named}
 use Rattle.script_lines.specs.declared.session.Place.{Place}
 use Rattle.script_lines.specs.declared.session.Replied.{Replied}
 use Rattle.script_lines.specs.declared.session.Noticed.{Noticed}
-use Rattle.line_words.specs.Words.{◌>>=◌, each, known_of, half_name_of, number_in}
+use Rattle.line_words.specs.Words.{known_of, half_name_of, number_in}
 use Rattle.line_words.specs.Entry.{is_comma, selector_in, entries_of, unless_fault}
 use Rattle.line_words.specs.Half.{half_in, unless_sad_fault, half_of}
 use Rattle.line_words.specs.Limits.{limits_of}
 use Rattle.script_lines.specs.Session.{place_of, listed_in, read_in, put_in, remove_of, remove_in, order_of, tag_of, names_of, answer_of, replied_of, replied_in, is_packet, policy_name_of, packet_of, acquire_of, acquire_in, soft_of, expire_of, expire_in, overflow_of, overflow_in, bad_spi_in, notice_of, noticed_of, noticed_in}
 use Rattle.script_lines.specs.Act.{put_at, put_in as install_in, order_at, order_in, session_act_in}
-use Rattle.line_words.specs.Spelling.{IsListed, IsHalfName, IsInstallable}
+use Rattle.line_words.specs.Spelling.{IsHalfName, IsInstallable}
 use Rattle.script_lines.specs.Spelling.{AreHalfNames, IsOrderSpelled, IsNoticeSpelled, IsActUnder}
 use Rattle.line_words.proofs.TakenSteps.{after, passed, either, inside, each_has, listed, known_named}
 

@@ -1,9 +1,8 @@
 -- An act that is read is one that a line can spell.
-use Rattle.std.proofs.Common.{◌≡◌, ℕ, ◌-◌, ◌^◌, nat_le, Bool, true, false, List, [], ◌∷◌, length, Result, Ok, Err, cond, refl, sym, ap, ◌∙◌, subst}
+use Rattle.std.proofs.Common.{◌≡◌, ℕ, ◌-◌, ◌^◌, nat_le, true, List, [], ◌∷◌, length, Ok, sym, ap, ◌∙◌, subst}
 use Rattle.std.specs.Prelude.{codes}
 use Rattle.std.specs.List.{list_all}
 use Rattle.std.specs.Str.{bytes_eq}
-use Rattle.ikl_base.specs.declared.status.LineFault.{LineFault}
 use Rattle.ikl_base.specs.declared.status.LineFault.TheVariants as faults
 use Rattle.ikeless_tree.specs.Check.{spd_fault, is_sad_name}
 use Rattle.ikeless_tree.specs.declared.command.Peer.{Peer}
@@ -13,11 +12,10 @@ use Rattle.hist_acts.specs.Gateways.{is_named}
 use Rattle.script_lines.specs.declared.act.Packet.{Packet}
 use Rattle.script_lines.specs.declared.act.Sealed.{Sealed}
 use Rattle.script_lines.specs.declared.act.Opening.{Opening}
-use Rattle.line_words.specs.Words.{◌>>=◌, words, is_printable, known_of, half_name_of, octets_of, lane_of, number_in}
+use Rattle.line_words.specs.Words.{words, is_printable, known_of, half_name_of, octets_of, lane_of, number_in}
 use Rattle.line_words.specs.Entry.{entries_of, unless_fault}
 use Rattle.event_lines.specs.Event.{time_in, reqid_in, gateway_in}
 use Rattle.script_lines.specs.Act.{why_of, gone_of, refusal_of, force_in, packet_in, sealed_of, sealed_in, drop_in, gone_at, gone_in, opening_in, shown_of, under_way_at, under_way_in, refused_in, base_act_in, packet_act_in, act_in, act_of, as_spelled, spelling_fault}
-use Rattle.line_words.specs.Spelling.{IsListed}
 use Rattle.script_lines.specs.Spelling.{IsActUnder}
 use Rattle.script_lines.specs.Text.{act_text}
 use Rattle.event_lines.proofs.SpelledEvent.{gateway_named}

@@ -13,7 +13,7 @@ use Rattle.line_words.specs.Words.{◌>>=◌, words, is_printable}
 use Rattle.script_lines.specs.Act.{act_in, as_spelled, act_of}
 use Rattle.line_words.specs.Spelling.{are_spelled}
 use Rattle.script_lines.specs.Spelling.{IsActUnder, IsAct}
-use Rattle.script_lines.specs.Text.{act_text, line_of, text_of}
+use Rattle.script_lines.specs.Text.{act_text, text_of}
 use Rattle.line_words.proofs.PartText.{each_holds}
 use Rattle.line_words.proofs.LineText.{ReadsDigits}
 use Rattle.script_lines.proofs.ActText.{act_again}

@@ -1,24 +1,21 @@
 -- The lines of a transcript, without their LF.
-use Rattle.std.specs.Prelude.{ℕ, ◌-◌, ◌^◌, ◌==◌, ◌&&◌, nat_le, Bool, List, [], ◌∷◌, length, codes, if◌then◌else◌, Option, Some, None, Result, Ok, Err}
+use Rattle.std.specs.Prelude.{ℕ, ◌-◌, ◌^◌, nat_le, List, [], ◌∷◌, length, codes, if◌then◌else◌, Result, Ok, Err}
 use Rattle.std.specs.List.{list_all}
 use Rattle.std.specs.Str.{bytes_eq}
 use Rattle.ikl_base.specs.declared.status.LineFault.{LineFault}
 use Rattle.ikl_base.specs.declared.status.LineFault.TheVariants as faults
 use Rattle.ikeless_tree.specs.Check.{spd_fault}
-use Rattle.ikeless_tree.specs.Words.{refusal_text}
+use Rattle.ikeless_tree.specs.Words as table
 use Rattle.ikeless_tree.specs.declared.command.Peer.{Peer}
 use Rattle.ikeless_tree.specs.declared.command.Refusal.{Refusal}
-use Rattle.ikeless_tree.specs.declared.command.Refusal.TheVariants as refusals
 use Rattle.ikeless_tree.specs.declared.reply.DropWhy.{DropWhy}
-use Rattle.ikeless_tree.specs.declared.reply.DropWhy.TheVariants as why
 use Rattle.ikeless_tree.specs.declared.reply.GoneWhy.{GoneWhy}
-use Rattle.ikeless_tree.specs.declared.reply.GoneWhy.TheVariants as ends
 use Rattle.hist_acts.specs.declared.act.Act.{Act}
 use Rattle.hist_acts.specs.declared.act.Act.TheVariants as acts
 use Rattle.script_lines.specs.declared.act.Packet.{Packet}
 use Rattle.script_lines.specs.declared.act.Sealed.{Sealed}
 use Rattle.script_lines.specs.declared.act.Opening.{Opening}
-use Rattle.line_words.specs.Words.{◌>>=◌, words, is_printable, known_of, half_name_of, octets_of, lane_of, number_in}
+use Rattle.line_words.specs.Words.{◌>>=◌, one_of, words, is_printable, known_of, half_name_of, octets_of, lane_of, number_in}
 use Rattle.line_words.specs.Entry.{entries_of, unless_fault}
 use Rattle.event_lines.specs.Event.{time_in, reqid_in, gateway_in}
 use Rattle.line_words.specs.Half.{half_of}
@@ -26,44 +23,16 @@ use Rattle.script_lines.specs.Session.{place_of, order_of, replied_in, noticed_i
 use Rattle.script_lines.specs.Text.{act_text}
 
 -- why a packet is dropped
-unfoldable pub why_of : List ℕ → Result DropWhy LineFault
-why_of w =
-    if bytes_eq w (codes "malformed") then Ok why.Malformed
-    else if bytes_eq w (codes "fragment") then Ok why.Fragment
-    else if bytes_eq w (codes "too-long") then Ok why.TooLong
-    else if bytes_eq w (codes "no-policy") then Ok why.NoPolicy
-    else if bytes_eq w (codes "discard") then Ok why.Discard
-    else if bytes_eq w (codes "clear-refused") then Ok why.ClearRefused
-    else if bytes_eq w (codes "no-sa") then Ok why.NoSa
-    else if bytes_eq w (codes "seq-limit") then Ok why.SeqLimit
-    else if bytes_eq w (codes "short") then Ok why.Short
-    else if bytes_eq w (codes "bad-spi") then Ok why.BadSpi
-    else if bytes_eq w (codes "zero") then Ok why.Zero
-    else if bytes_eq w (codes "old") then Ok why.Old
-    else if bytes_eq w (codes "seen") then Ok why.Seen
-    else if bytes_eq w (codes "auth") then Ok why.Auth
-    else if bytes_eq w (codes "padding") then Ok why.Padding
-    else if bytes_eq w (codes "dummy") then Ok why.Dummy
-    else if bytes_eq w (codes "inner") then Ok why.Inner
-    else if bytes_eq w (codes "selector") then Ok why.Selector
-    else Err faults.Word
+abbrev pub why_of : List ℕ → Result DropWhy LineFault
+why_of w = one_of faults.Word (table.drop_of w)
 
 -- how a half ended
 abbrev pub gone_of : List ℕ → Result GoneWhy LineFault
-gone_of w = if bytes_eq w (codes "removed") then Ok ends.Removed else if bytes_eq w (codes "hard") then Ok ends.Hard else Err faults.Word
+gone_of w = one_of faults.Word (table.gone_of w)
 
 -- why a command is refused
-unfoldable pub refusal_of : List ℕ → Result Refusal LineFault
-refusal_of w =
-    if bytes_eq w (refusal_text refusals.UnknownGateway) then Ok refusals.UnknownGateway
-    else if bytes_eq w (refusal_text refusals.SameGateway) then Ok refusals.SameGateway
-    else if bytes_eq w (refusal_text refusals.TunnelExists) then Ok refusals.TunnelExists
-    else if bytes_eq w (refusal_text refusals.NoTunnel) then Ok refusals.NoTunnel
-    else if bytes_eq w (refusal_text refusals.TunnelLimit) then Ok refusals.TunnelLimit
-    else if bytes_eq w (refusal_text refusals.KeySeen) then Ok refusals.KeySeen
-    else if bytes_eq w (refusal_text refusals.KeyLength) then Ok refusals.KeyLength
-    else if bytes_eq w (refusal_text refusals.KeyLimit) then Ok refusals.KeyLimit
-    else Err faults.Word
+abbrev pub refusal_of : List ℕ → Result Refusal LineFault
+refusal_of w = one_of faults.Word (table.refusal_of w)
 
 -- a gateway, and a list that can be in force there
 unfoldable pub force_in : List Peer → List (List ℕ) → Result Act LineFault

@@ -7,7 +7,7 @@ use Rattle.ikl_base.specs.declared.address.Prefix.{Prefix}
 use Rattle.ikl_base.specs.declared.status.LineFault.{LineFault}
 use Rattle.ikl_base.specs.declared.status.LineFault.TheVariants as faults
 use Rattle.ikeless_tree.specs.Check.{spd_fault, is_spd_name}
-use Rattle.ikeless_tree.specs.Words.{tag_text}
+use Rattle.ikeless_tree.specs.Words as table
 use Rattle.ikeless_tree.specs.declared.command.Peer.{Peer}
 use Rattle.ikeless_tree.specs.declared.entry.Range.{Range}
 use Rattle.ikeless_tree.specs.declared.entry.Selector.{Selector}
@@ -17,11 +17,10 @@ use Rattle.ikeless_tree.specs.declared.order.Notice.TheVariants as notices
 use Rattle.ikeless_tree.specs.declared.order.Order.{Order}
 use Rattle.ikeless_tree.specs.declared.order.Order.TheVariants as orders
 use Rattle.ikeless_tree.specs.declared.reply.Tag.{Tag}
-use Rattle.ikeless_tree.specs.declared.reply.Tag.TheVariants as tags
 use Rattle.script_lines.specs.declared.session.Place.{Place}
 use Rattle.script_lines.specs.declared.session.Replied.{Replied}
 use Rattle.script_lines.specs.declared.session.Noticed.{Noticed}
-use Rattle.line_words.specs.Words.{◌>>=◌, known_of, number_in, each, half_name_of}
+use Rattle.line_words.specs.Words.{◌>>=◌, one_of, known_of, number_in, each, half_name_of}
 use Rattle.line_words.specs.Entry.{is_comma, selector_in, entries_of, unless_fault}
 use Rattle.line_words.specs.Half.{half_of}
 use Rattle.line_words.specs.Limits.{limits_of}
@@ -69,16 +68,7 @@ order_of w ws =
 
 -- a dash for none, or an error tag
 unfoldable pub tag_of : List ℕ → Result (Option Tag) LineFault
-tag_of w =
-    if bytes_eq w (codes "-") then Ok None
-    else if bytes_eq w (tag_text tags.MalformedMessage) then Ok (Some tags.MalformedMessage)
-    else if bytes_eq w (tag_text tags.OperationNotSupported) then Ok (Some tags.OperationNotSupported)
-    else if bytes_eq w (tag_text tags.TooBig) then Ok (Some tags.TooBig)
-    else if bytes_eq w (tag_text tags.InvalidValue) then Ok (Some tags.InvalidValue)
-    else if bytes_eq w (tag_text tags.UnknownElement) then Ok (Some tags.UnknownElement)
-    else if bytes_eq w (tag_text tags.BadElement) then Ok (Some tags.BadElement)
-    else if bytes_eq w (tag_text tags.ResourceDenied) then Ok (Some tags.ResourceDenied)
-    else Err faults.Word
+tag_of w = if bytes_eq w (codes "-") then Ok None else one_of faults.Word (table.tag_of w) >>= (λ t. Ok (Some t))
 
 -- a dash for none, or names of halves joined by commas
 unfoldable pub names_of : List ℕ → Result (List (List ℕ)) LineFault
@@ -134,7 +124,7 @@ acquire_in _ = Err faults.Count
 
 -- whether the soft limit or the hard one was reached
 abbrev pub soft_of : List ℕ → Result Bool LineFault
-soft_of w = if bytes_eq w (codes "soft") then Ok true else if bytes_eq w (codes "hard") then Ok false else Err faults.Word
+soft_of w = one_of faults.Word (table.softness_of w)
 
 unfoldable pub expire_of : List ℕ → List ℕ → List ℕ → Result Notice LineFault
 expire_of name soft counts =

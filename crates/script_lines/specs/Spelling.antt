@@ -9,7 +9,8 @@ use Rattle.ikeless_tree.specs.declared.order.Order.TheVariants as orders
 use Rattle.hist_acts.specs.declared.act.Act.{Act}
 use Rattle.hist_acts.specs.declared.act.Act.TheVariants as acts
 use Rattle.script_lines.specs.Session.{is_packet}
-use Rattle.line_words.specs.Spelling.{IsKnown, IsListed, IsHalfName, IsInstallable, AreOctets, IsSelector, IsEntry, AreLimits, IsHalf}
+use Rattle.ikeless_tree.specs.Typed.{AreOctets, AreTypedPolicies, IsTypedHalf, IsTypedOrder, IsTypedAnswer, IsTypedNotice}
+use Rattle.line_words.specs.Spelling.{IsKnown, IsListed, IsHalfName, IsInstallable}
 
 abbrev pub IsOrderSpelled : Order → Type 0
 IsOrderSpelled orders.Read = Unit {0}
@@ -51,22 +52,11 @@ IsActUnder gateways (acts.Heard g s n) = IsKnown gateways g × IsNoticeSpelled n
 IsActUnder gateways (acts.Wire g l o) = IsKnown gateways g × IsTrue (nat_le (length o) 4096)
 IsActUnder gateways (acts.Refused w) = Unit {0}
 
-abbrev pub IsOrder : Order → Type 0
-IsOrder orders.Read = Unit {0}
-IsOrder (orders.Policy list) = All IsEntry list
-IsOrder (orders.Put e) = IsHalf e
-IsOrder (orders.Remove name) = Unit {0}
-
-abbrev pub IsNotice : Notice → Type 0
-IsNotice (notices.Acquire policy s) = IsSelector s
-IsNotice (notices.Expire name soft counts) = AreLimits counts
-IsNotice (notices.SeqOverflow name) = Unit {0}
-IsNotice (notices.BadSpi spi) = spi < 2 ^ 32
-
+-- its numbers are those of their types, as those of every act that a program has
 abbrev pub IsAct : Act → Type 0
 IsAct (acts.Took k) = k < 2 ^ 64
 IsAct (acts.Now t) = t < 2 ^ 32
-IsAct (acts.Policy g list) = All IsEntry list
+IsAct (acts.Policy g list) = AreTypedPolicies list
 IsAct (acts.Let g o) = AreOctets o
 IsAct (acts.Sent g name k o) = (k < 2 ^ 64) × AreOctets o
 IsAct (acts.Clear g o) = AreOctets o
@@ -75,11 +65,11 @@ IsAct (acts.Gave g name k o) = (k < 2 ^ 64) × AreOctets o
 IsAct (acts.Pass g o) = AreOctets o
 IsAct (acts.Opened g s) = s < 2 ^ 32
 IsAct (acts.Cut g s) = s < 2 ^ 32
-IsAct (acts.Put g e) = IsHalf e
-IsAct (acts.Order g s n o) = (s < 2 ^ 32) × (n < 2 ^ 64) × IsOrder o
-IsAct (acts.Handled g s n a) = (s < 2 ^ 32) × (n < 2 ^ 64) × (a.status < 65536)
-IsAct (acts.Answered g s n a) = (s < 2 ^ 32) × (n < 2 ^ 64) × (a.status < 65536)
-IsAct (acts.Notice g s n) = (s < 2 ^ 32) × IsNotice n
-IsAct (acts.Heard g s n) = (s < 2 ^ 32) × IsNotice n
+IsAct (acts.Put g e) = IsTypedHalf e
+IsAct (acts.Order g s n o) = (s < 2 ^ 32) × (n < 2 ^ 64) × IsTypedOrder o
+IsAct (acts.Handled g s n a) = (s < 2 ^ 32) × (n < 2 ^ 64) × IsTypedAnswer a
+IsAct (acts.Answered g s n a) = (s < 2 ^ 32) × (n < 2 ^ 64) × IsTypedAnswer a
+IsAct (acts.Notice g s n) = (s < 2 ^ 32) × IsTypedNotice n
+IsAct (acts.Heard g s n) = (s < 2 ^ 32) × IsTypedNotice n
 IsAct (acts.Wire g l o) = AreOctets o
 IsAct _ = Unit {0}

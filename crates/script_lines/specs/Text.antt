@@ -1,12 +1,8 @@
 -- How acts are spelled, each in one way.
-use Rattle.std.specs.Prelude.{ℕ, ◌+◌, Bool, true, false, List, [], ◌∷◌, ◌++◌, map, Option, Some, None, codes}
+use Rattle.std.specs.Prelude.{ℕ, ◌+◌, List, [], ◌∷◌, ◌++◌, map, Option, Some, None, codes}
 use Rattle.std.specs.List.{flat_map}
 use Rattle.std.specs.Fmt.{decimal}
-use Rattle.ikeless_tree.specs.declared.reply.DropWhy.{DropWhy}
-use Rattle.ikeless_tree.specs.declared.reply.DropWhy.TheVariants as why
-use Rattle.ikeless_tree.specs.declared.reply.GoneWhy.{GoneWhy}
-use Rattle.ikeless_tree.specs.declared.reply.GoneWhy.TheVariants as ends
-use Rattle.ikeless_tree.specs.Words.{refusal_text, tag_text}
+use Rattle.ikeless_tree.specs.Words.{drop_text, gone_text, refusal_text, tag_text, softness_text, lane_text}
 use Rattle.ikeless_tree.specs.declared.order.Answer.{Answer}
 use Rattle.ikeless_tree.specs.declared.order.Notice.{Notice}
 use Rattle.ikeless_tree.specs.declared.order.Notice.TheVariants as notices
@@ -15,31 +11,7 @@ use Rattle.ikeless_tree.specs.declared.order.Order.TheVariants as orders
 use Rattle.ikeless_tree.specs.declared.reply.Tag.{Tag}
 use Rattle.hist_acts.specs.declared.act.Act.{Act}
 use Rattle.hist_acts.specs.declared.act.Act.TheVariants as acts
-use Rattle.line_words.specs.Text.{hex_text, lane_text, limits_text, selector_text, entry_text, half_text, line_text}
-
-abbrev pub why_text : DropWhy → List ℕ
-why_text why.Malformed = codes "malformed"
-why_text why.Fragment = codes "fragment"
-why_text why.TooLong = codes "too-long"
-why_text why.NoPolicy = codes "no-policy"
-why_text why.Discard = codes "discard"
-why_text why.ClearRefused = codes "clear-refused"
-why_text why.NoSa = codes "no-sa"
-why_text why.SeqLimit = codes "seq-limit"
-why_text why.Short = codes "short"
-why_text why.BadSpi = codes "bad-spi"
-why_text why.Zero = codes "zero"
-why_text why.Old = codes "old"
-why_text why.Seen = codes "seen"
-why_text why.Auth = codes "auth"
-why_text why.Padding = codes "padding"
-why_text why.Dummy = codes "dummy"
-why_text why.Inner = codes "inner"
-why_text why.Selector = codes "selector"
-
-abbrev pub gone_text : GoneWhy → List ℕ
-gone_text ends.Removed = codes "removed"
-gone_text ends.Hard = codes "hard"
+use Rattle.line_words.specs.Text.{hex_text, limits_text, selector_text, entry_text, half_text, line_text}
 
 -- a dash for none, or the names with commas between them
 abbrev pub names_text : List (List ℕ) → List ℕ
@@ -49,10 +21,6 @@ names_text (n ∷ ns) = n ++ flat_map (λ m. 44 ∷ m) ns
 abbrev pub tag_word : Option Tag → List ℕ
 tag_word None = codes "-"
 tag_word (Some t) = tag_text t
-
-abbrev pub soft_text : Bool → List ℕ
-soft_text true = codes "soft"
-soft_text false = codes "hard"
 
 abbrev pub order_words : Order → List (List ℕ)
 order_words orders.Read = codes "read" ∷ []
@@ -65,7 +33,7 @@ answer_words a = decimal a.status ∷ tag_word a.tag ∷ names_text a.names ∷ 
 
 abbrev pub notice_words : Notice → List (List ℕ)
 notice_words (notices.Acquire policy s) = codes "acquire" ∷ policy ∷ selector_text s ∷ []
-notice_words (notices.Expire name soft counts) = codes "expire" ∷ name ∷ soft_text soft ∷ limits_text counts ∷ []
+notice_words (notices.Expire name soft counts) = codes "expire" ∷ name ∷ softness_text soft ∷ limits_text counts ∷ []
 notice_words (notices.SeqOverflow name) = codes "overflow" ∷ name ∷ []
 notice_words (notices.BadSpi spi) = codes "bad-spi" ∷ decimal spi ∷ []
 
@@ -80,7 +48,7 @@ act_words (acts.Gone g name w) = codes "gone" ∷ g ∷ name ∷ gone_text w ∷
 act_words (acts.Let g o) = codes "let" ∷ g ∷ hex_text o ∷ []
 act_words (acts.Sent g name k o) = codes "sent" ∷ g ∷ name ∷ decimal k ∷ hex_text o ∷ []
 act_words (acts.Clear g o) = codes "clear" ∷ g ∷ hex_text o ∷ []
-act_words (acts.Drop g w) = codes "drop" ∷ g ∷ why_text w ∷ []
+act_words (acts.Drop g w) = codes "drop" ∷ g ∷ drop_text w ∷ []
 act_words (acts.Arrived g o) = codes "arrived" ∷ g ∷ hex_text o ∷ []
 act_words (acts.Gave g name k o) = codes "gave" ∷ g ∷ name ∷ decimal k ∷ hex_text o ∷ []
 act_words (acts.Pass g o) = codes "pass" ∷ g ∷ hex_text o ∷ []

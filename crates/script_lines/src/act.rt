@@ -1,8 +1,6 @@
 // Reads the lines of a transcript.
-ghost use Rattle.std.specs.Prelude.{◌≡◌, List, ℕ};
-ghost use Rattle.std.specs.Str.{bytes_eq};
+ghost use Rattle.std.specs.Prelude.{◌≡◌};
 ghost use Rattle.ikl_base.specs.Answers.{Gives};
-ghost use Rattle.ikeless_tree.specs.Words.{refusal_text};
 ghost use Rattle.hist_acts.specs.declared.act.Act.TheVariants as acts;
 ghost use Rattle.line_words.specs.Parts.{texts};
 ghost use Rattle.script_lines.specs.Act.{why_of, gone_of, refusal_of, force_in, put_at, put_in, packet_in, sealed_of, sealed_in, drop_in, gone_at, gone_in, opening_in, shown_of, under_way_at, under_way_in, refused_in, order_at, order_in, session_act_in, base_act_in, packet_act_in, act_in, spelling_fault, as_spelled, act_of};
@@ -22,91 +20,30 @@ use std::alloc::Global;
 /// The most octets of a lane that are shown.
 const MOST_SHOWN: usize = 4096;
 
-#[tactic(auto, unfolding(crate::specs::Act::why_of))]
 fn why(word: &[u8]) -> Result<DropWhy, LineFault>
     ensures { result ≡ why_of word.now }
 {
-    if is_word(word, b"malformed") {
-        Ok(DropWhy::Malformed)
-    } else if is_word(word, b"fragment") {
-        Ok(DropWhy::Fragment)
-    } else if is_word(word, b"too-long") {
-        Ok(DropWhy::TooLong)
-    } else if is_word(word, b"no-policy") {
-        Ok(DropWhy::NoPolicy)
-    } else if is_word(word, b"discard") {
-        Ok(DropWhy::Discard)
-    } else if is_word(word, b"clear-refused") {
-        Ok(DropWhy::ClearRefused)
-    } else if is_word(word, b"no-sa") {
-        Ok(DropWhy::NoSa)
-    } else if is_word(word, b"seq-limit") {
-        Ok(DropWhy::SeqLimit)
-    } else if is_word(word, b"short") {
-        Ok(DropWhy::Short)
-    } else if is_word(word, b"bad-spi") {
-        Ok(DropWhy::BadSpi)
-    } else if is_word(word, b"zero") {
-        Ok(DropWhy::Zero)
-    } else if is_word(word, b"old") {
-        Ok(DropWhy::Old)
-    } else if is_word(word, b"seen") {
-        Ok(DropWhy::Seen)
-    } else if is_word(word, b"auth") {
-        Ok(DropWhy::Auth)
-    } else if is_word(word, b"padding") {
-        Ok(DropWhy::Padding)
-    } else if is_word(word, b"dummy") {
-        Ok(DropWhy::Dummy)
-    } else if is_word(word, b"inner") {
-        Ok(DropWhy::Inner)
-    } else if is_word(word, b"selector") {
-        Ok(DropWhy::Selector)
-    } else {
-        Err(LineFault::Word)
+    match DropWhy::named(word) {
+        Some(why) => Ok(why),
+        None => Err(LineFault::Word),
     }
 }
 
 fn end(word: &[u8]) -> Result<GoneWhy, LineFault>
     ensures { result ≡ gone_of word.now }
 {
-    if is_word(word, b"removed") {
-        Ok(GoneWhy::Removed)
-    } else if is_word(word, b"hard") {
-        Ok(GoneWhy::Hard)
-    } else {
-        Err(LineFault::Word)
+    match GoneWhy::named(word) {
+        Some(why) => Ok(why),
+        None => Err(LineFault::Word),
     }
 }
 
-fn says(word: &[u8], why: Refusal) -> bool
-    ensures { result ≡ bytes_eq word.now (refusal_text why) }
-{
-    is_word(word, why.text().as_bytes())
-}
-
-#[tactic(auto, unfolding(crate::specs::Act::refusal_of))]
 fn refusal(word: &[u8]) -> Result<Refusal, LineFault>
     ensures { result ≡ refusal_of word.now }
 {
-    if says(word, Refusal::UnknownGateway) {
-        Ok(Refusal::UnknownGateway)
-    } else if says(word, Refusal::SameGateway) {
-        Ok(Refusal::SameGateway)
-    } else if says(word, Refusal::TunnelExists) {
-        Ok(Refusal::TunnelExists)
-    } else if says(word, Refusal::NoTunnel) {
-        Ok(Refusal::NoTunnel)
-    } else if says(word, Refusal::TunnelLimit) {
-        Ok(Refusal::TunnelLimit)
-    } else if says(word, Refusal::KeySeen) {
-        Ok(Refusal::KeySeen)
-    } else if says(word, Refusal::KeyLength) {
-        Ok(Refusal::KeyLength)
-    } else if says(word, Refusal::KeyLimit) {
-        Ok(Refusal::KeyLimit)
-    } else {
-        Err(LineFault::Word)
+    match Refusal::named(word) {
+        Some(why) => Ok(why),
+        None => Err(LineFault::Word),
     }
 }
 

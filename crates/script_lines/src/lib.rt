@@ -4,6 +4,7 @@
 mod act;
 mod laws;
 mod session;
+mod typed;
 mod write;
 mod write_session;
 

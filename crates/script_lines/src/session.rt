@@ -1,14 +1,13 @@
 // Reads the words of sessions: orders, answers and notices.
 ghost use Rattle.std.specs.Prelude.{◌≡◌};
-ghost use Rattle.std.specs.Str.{bytes_eq};
 ghost use Rattle.ikl_base.specs.Answers.{Gives};
-ghost use Rattle.ikeless_tree.specs.Words.{tag_text};
 ghost use Rattle.line_words.specs.Parts.{texts};
 ghost use Rattle.line_words.specs.Words.{each, half_name_of};
-ghost use Rattle.script_lines.specs.Session.{place_of, listed_in, read_in, put_in, remove_of, remove_in, order_of, tag_of, names_of, answer_of, replied_of, replied_in, is_whole, has_proto, is_one_port, is_packet, policy_name_of, packet_of, acquire_of, acquire_in, soft_of, expire_of, expire_in, overflow_of, overflow_in, bad_spi_in, notice_of, noticed_of, noticed_in};
+ghost use Rattle.script_lines.specs.Session.{place_of, listed_in, read_in, put_in, remove_of, remove_in, order_of, tag_of, names_of, answer_of, replied_of, replied_in, is_whole, has_proto, is_one_port, is_packet, policy_name_of, acquire_of, acquire_in, soft_of, expire_of, expire_in, overflow_of, overflow_in, bad_spi_in, notice_of, noticed_of, noticed_in};
 
 use ikeless_tree::{
     Answer, Names, Notice, Order, Peers, Range, Selector, Tag, check_spd, names_policy,
+    softness_named,
 };
 use ikl_base::{Addr, LineFault, ListOf, Name, OrMemory, Prefix};
 use line_words::{
@@ -134,34 +133,16 @@ pub fn order_from(alloc: Global, first: &[u8], rest: &[&[u8]]) -> Result<Order, 
     }
 }
 
-fn says(word: &[u8], tag: Tag) -> bool
-    ensures { result ≡ bytes_eq word.now (tag_text tag) }
-{
-    is_word(word, tag.text().as_bytes())
-}
-
 #[tactic(auto, unfolding(crate::specs::Session::tag_of))]
 fn tag_from(word: &[u8]) -> Result<Option<Tag>, LineFault>
     ensures { result ≡ tag_of word.now }
 {
     if is_word(word, b"-") {
-        Ok(None)
-    } else if says(word, Tag::MalformedMessage) {
-        Ok(Some(Tag::MalformedMessage))
-    } else if says(word, Tag::OperationNotSupported) {
-        Ok(Some(Tag::OperationNotSupported))
-    } else if says(word, Tag::TooBig) {
-        Ok(Some(Tag::TooBig))
-    } else if says(word, Tag::InvalidValue) {
-        Ok(Some(Tag::InvalidValue))
-    } else if says(word, Tag::UnknownElement) {
-        Ok(Some(Tag::UnknownElement))
-    } else if says(word, Tag::BadElement) {
-        Ok(Some(Tag::BadElement))
-    } else if says(word, Tag::ResourceDenied) {
-        Ok(Some(Tag::ResourceDenied))
-    } else {
-        Err(LineFault::Word)
+        return Ok(None);
+    }
+    match Tag::named(word) {
+        Some(tag) => Ok(Some(tag)),
+        None => Err(LineFault::Word),
     }
 }
 
@@ -313,12 +294,9 @@ fn acquire_from(alloc: Global, words: &[&[u8]]) -> Result<Notice, OrMemory<LineF
 fn softness(word: &[u8]) -> Result<bool, LineFault>
     ensures { result ≡ soft_of word.now }
 {
-    if is_word(word, b"soft") {
-        Ok(true)
-    } else if is_word(word, b"hard") {
-        Ok(false)
-    } else {
-        Err(LineFault::Word)
+    match softness_named(word) {
+        Some(soft) => Ok(soft),
+        None => Err(LineFault::Word),
     }
 }
 

@@ -1,11 +1,16 @@
 // Writes the lines of a transcript.
-ghost use Rattle.std.specs.Prelude.{◌≡◌, ◌++◌, ◌∷◌, [], IfOk, OnOk, List, ℕ, map, codes};
-ghost use Rattle.std.specs.List.{flat_map};
+ghost use Rattle.std.specs.Prelude.{◌≡◌, ◌++◌, ◌∷◌, [], Ok, IfOk, IsTrue, OnOk, List, map, codes};
 ghost use Rattle.std.specs.Fmt.{decimal};
-ghost use Rattle.ikeless_tree.specs.Words.{refusal_text};
-ghost use Rattle.line_words.specs.Text.{hex_text, lane_text, half_text, spaced, line_text, entry_text};
-ghost use Rattle.script_lines.specs.Text.{why_text, gone_text, act_text, line_of, text_of};
+ghost use Rattle.ikeless_tree.specs.declared.command.Peer.{Peer};
+ghost use Rattle.line_words.specs.Spelling.{are_spelled};
+ghost use Rattle.script_lines.specs.Act.{act_of};
+ghost use Rattle.script_lines.specs.Spelling.{IsActUnder};
+ghost use Rattle.ikeless_tree.specs.Words.{refusal_text, drop_text, gone_text, lane_text};
+ghost use Rattle.line_words.specs.Text.{hex_text, half_text, spaced, line_text, entry_text};
+ghost use Rattle.script_lines.specs.Text.{act_text, text_of};
 
+use crate::laws::act_read_again;
+use crate::typed::act_fits;
 use crate::write_session::{put_answer, put_half_word, put_notice, put_order};
 use hist_acts::{Act, Acts, Header};
 use ikeless_tree::{DropWhy, Entries, GoneWhy, Lane, Refusal, SadEntry};
@@ -15,45 +20,16 @@ use line_words::{
 };
 use std::alloc::Global;
 
-fn put_why(out: &mut Vec<u8>, why: DropWhy) -> Result<(), NoMemory>
-    ensures { OnOk result (out.new.items ≡ out.old.items ++ why_text why) }
-{
-    match why {
-        DropWhy::Malformed => put(out, b"malformed"),
-        DropWhy::Fragment => put(out, b"fragment"),
-        DropWhy::TooLong => put(out, b"too-long"),
-        DropWhy::NoPolicy => put(out, b"no-policy"),
-        DropWhy::Discard => put(out, b"discard"),
-        DropWhy::ClearRefused => put(out, b"clear-refused"),
-        DropWhy::NoSa => put(out, b"no-sa"),
-        DropWhy::SeqLimit => put(out, b"seq-limit"),
-        DropWhy::Short => put(out, b"short"),
-        DropWhy::BadSpi => put(out, b"bad-spi"),
-        DropWhy::Zero => put(out, b"zero"),
-        DropWhy::Old => put(out, b"old"),
-        DropWhy::Seen => put(out, b"seen"),
-        DropWhy::Auth => put(out, b"auth"),
-        DropWhy::Padding => put(out, b"padding"),
-        DropWhy::Dummy => put(out, b"dummy"),
-        DropWhy::Inner => put(out, b"inner"),
-        DropWhy::Selector => put(out, b"selector"),
-    }
-}
-
 fn put_why_word(out: &mut Vec<u8>, why: DropWhy) -> Result<(), NoMemory>
-    ensures { OnOk result (out.new.items ≡ out.old.items ++ 32 ∷ why_text why) }
+    ensures { OnOk result (out.new.items ≡ out.old.items ++ 32 ∷ drop_text why) }
 {
-    put_octet(out, b' ')?;
-    put_why(out, why)
+    put_word(out, why.text().as_bytes())
 }
 
 fn put_end_word(out: &mut Vec<u8>, why: GoneWhy) -> Result<(), NoMemory>
     ensures { OnOk result (out.new.items ≡ out.old.items ++ 32 ∷ gone_text why) }
 {
-    match why {
-        GoneWhy::Removed => put_word(out, b"removed"),
-        GoneWhy::Hard => put_word(out, b"hard"),
-    }
+    put_word(out, why.text().as_bytes())
 }
 
 fn put_refusal_word(out: &mut Vec<u8>, why: Refusal) -> Result<(), NoMemory>
@@ -121,7 +97,7 @@ fn put_numbered(out: &mut Vec<u8>, number: u64, o: &Octets) -> Result<(), NoMemo
 }
 
 fn put_drop(out: &mut Vec<u8>, g: &Name, why: DropWhy) -> Result<(), NoMemory>
-    ensures { OnOk result (out.new.items ≡ out.old.items ++ line_text (codes "drop" ∷ g.now ∷ why_text why ∷ [])) }
+    ensures { OnOk result (out.new.items ≡ out.old.items ++ line_text (codes "drop" ∷ g.now ∷ drop_text why ∷ [])) }
 {
     put_at(out, b"drop", g)?;
     put_why_word(out, why)
@@ -204,11 +180,21 @@ pub fn put_acts(out: &mut Vec<u8>, acts: &Acts) -> Result<(), NoMemory>
     Ok(())
 }
 
-/// The line of an act, without its LF: the one spelling that it has.
-pub fn write_act(alloc: Global, _h: &Header, a: &Act) -> Result<Octets, NoMemory>
+fn act_line(alloc: Global, a: &Act) -> Result<Octets, NoMemory>
     ensures { IfOk result (λ text. text ≡ act_text a.now) }
 {
     let mut out = Vec::new(alloc);
     put_act(&mut out, a)?;
     Ok(Octets::from_items(out))
+}
+
+/// The line of an act, without its LF: the one spelling that it has. It is read as that act under the gateways that it names.
+pub fn write_act(alloc: Global, _h: &Header, a: &Act) -> Result<Octets, NoMemory>
+    ensures text { IfOk result (λ text. text ≡ act_text a.now) }
+    ensures again { (gateways : List Peer) → IsTrue (are_spelled gateways) → IsActUnder gateways a.now
+        → IfOk result (λ text. act_of gateways text ≡ Ok a.now) }
+{
+    act_fits(a);
+    act_read_again();
+    act_line(alloc, a)
 }

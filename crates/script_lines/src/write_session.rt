@@ -3,10 +3,11 @@ ghost use Rattle.std.specs.Prelude.{◌≡◌, ◌++◌, ◌∷◌, [], OnOk, co
 ghost use Rattle.std.specs.List.{flat_map};
 ghost use Rattle.std.specs.Fmt.{decimal};
 ghost use Rattle.line_words.specs.Text.{spaced, limits_text, selector_text, half_text, line_text};
-ghost use Rattle.script_lines.specs.Text.{names_text, tag_word, soft_text, order_words, answer_words, notice_words};
+ghost use Rattle.script_lines.specs.Text.{names_text, tag_word, order_words, answer_words, notice_words};
+ghost use Rattle.ikeless_tree.specs.Words.{softness_text};
 
 use crate::write::put_opening;
-use ikeless_tree::{Answer, Limits, Notice, Order, SadEntry, Selector, Tag};
+use ikeless_tree::{Answer, Limits, Notice, Order, SadEntry, Selector, Tag, softness_text};
 use ikl_base::{Name, NoMemory};
 use line_words::{
     put, put_entry_words, put_half, put_limits, put_number_word, put_octet, put_selector, put_word,
@@ -91,17 +92,13 @@ fn put_acquire(out: &mut Vec<u8>, policy: &Name, selector: &Selector) -> Result<
 }
 
 fn put_soft_word(out: &mut Vec<u8>, soft: bool) -> Result<(), NoMemory>
-    ensures { OnOk result (out.new.items ≡ out.old.items ++ 32 ∷ soft_text soft) }
+    ensures { OnOk result (out.new.items ≡ out.old.items ++ 32 ∷ softness_text soft) }
 {
-    if soft {
-        put_word(out, b"soft")
-    } else {
-        put_word(out, b"hard")
-    }
+    put_word(out, softness_text(soft).as_bytes())
 }
 
 fn put_expire(out: &mut Vec<u8>, name: &Name, soft: bool, current: &Limits) -> Result<(), NoMemory>
-    ensures { OnOk result (out.new.items ≡ out.old.items ++ spaced (codes "expire" ∷ name.now ∷ soft_text soft ∷ limits_text current.now ∷ [])) }
+    ensures { OnOk result (out.new.items ≡ out.old.items ++ spaced (codes "expire" ∷ name.now ∷ softness_text soft ∷ limits_text current.now ∷ [])) }
 {
     put_word(out, b"expire")?;
     put_word(out, name.as_slice())?;

@@ -1,4 +1,4 @@
-use Rattle.std.proofs.Common.{◌≡◌, ◌∙◌, sym}
+use Rattle.std.proofs.Common.{◌∙◌, sym}
 use Rattle.event_lines.specs.Header.{peer_of}
 use Rattle.line_words.proofs.EachLemmas.{each-end}
 use Rattle.event_lines.proofs.header.peers.Goals as goal

@@ -1,4 +1,4 @@
-use Rattle.std.proofs.Common.{◌≡◌, ◌∙◌, sym}
+use Rattle.std.proofs.Common.{◌∙◌, sym}
 use Rattle.line_words.specs.Entry.{range_of}
 use Rattle.line_words.proofs.EachLemmas.{each-end}
 use Rattle.line_words.proofs.entry.ranges.Goals as goal

@@ -1,4 +1,4 @@
-use Rattle.std.proofs.Common.{◌≡◌, ◌∙◌, ◌++◌, ap}
+use Rattle.std.proofs.Common.{◌∙◌, ◌++◌, ap}
 use Rattle.line_words.specs.Text.{entry_text}
 use Rattle.line_words.proofs.PartText.{behind_mapped}
 use Rattle.line_words.proofs.write.put_entry_words.Goals as goal

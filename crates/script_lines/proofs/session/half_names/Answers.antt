@@ -1,4 +1,4 @@
-use Rattle.std.proofs.Common.{◌≡◌, ◌∙◌, sym}
+use Rattle.std.proofs.Common.{◌∙◌, sym}
 use Rattle.line_words.specs.Words.{half_name_of}
 use Rattle.line_words.proofs.EachLemmas.{each-end}
 use Rattle.script_lines.proofs.session.half_names.Goals as goal
