@@ -1,5 +1,5 @@
 -- What is told of devices, over several calls.
-use Rattle.std.proofs.Common.{◌≡◌, ℕ, List, [], ◌++◌, Option, Some, None, refl, sym, ◌∙◌, ap, append_assoc, append-nil}
+use Rattle.std.proofs.Common.{ℕ, List, [], ◌++◌, Option, Some, None, refl, sym, ◌∙◌, ap, append_assoc, append-nil}
 use Rattle.ikl_base.specs.Outside.{Gains, Loses}
 
 pub gains_none : (a : Option (List ℕ)) → Gains a a []

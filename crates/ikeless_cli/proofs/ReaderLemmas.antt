@@ -1,7 +1,5 @@
 -- How a run goes on, line by line and octet by octet.
-use Rattle.std.proofs.Common.{◌≡◌, ◌≤◌, ◌<◌, ℕ, ◌+◌, ◌==◌, List, [], ◌∷◌, ◌++◌, length, Bool, true, false, not, Option, Some, None, Ok, refl, sym, ◌∙◌, ap, append_assoc, append-nil, subst, length-append, arith, ◌⊎◌, inl, inr, MatchOption, suc, IsSome, ◌≢◌}
-use Rattle.std.specs.List.{list_all}
-use Rattle.std.proofs.lemmas.Grind.{common_steps}
+use Rattle.std.proofs.Common.{◌≡◌, ◌≤◌, ◌<◌, ℕ, ◌+◌, ◌==◌, List, [], ◌∷◌, ◌++◌, length, Bool, true, false, Option, Some, None, Ok, refl, sym, ◌∙◌, ap, append_assoc, append-nil, subst, length-append, arith, ◌⊎◌, inl, inr, suc, IsSome, ◌≢◌}
 use Rattle.std.proofs.lemmas.List.Concat.{flat_map-append}
 use Rattle.hist_acts.specs.declared.act.Act.{Act}
 use Rattle.hist_acts.specs.declared.event.Event.{Event}
@@ -18,16 +16,12 @@ use Rattle.ikl_base.specs.declared.status.Status.{Status}
 use Rattle.ikl_base.specs.declared.status.Status.TheVariants as statuses
 use Rattle.ikl_base.specs.declared.status.LineFault.{LineFault}
 use Rattle.ikl_base.specs.declared.status.LineFault.TheVariants as faults
-use Rattle.hist_acts.specs.Past.{events_taken}
 use Rattle.hist_clear.specs.Safe.{IsSafeInClear}
 use Rattle.hist_clear.proofs.SafeLemmas.{history_safe, events_taken-history}
 use Rattle.ikeless_cli.specs.Script.{HasNoLf, is_inside}
-use Rattle.ikeless_cli.specs.Run.{Taken, Ran, BrokeOff, Cause, Refuses, is_write_fault}
+use Rattle.ikeless_cli.specs.Run.{Ran, BrokeOff, Cause, Refuses, is_write_fault}
 use Rattle.ikeless_cli.specs.Reader.{Stands, TakesLine, header_kept, lines_of, Reads, Goes, Ends, Breaks, EndsWith, Finishes, SinkTells}
 use Rattle.ikeless_cli.proofs.Bytes.{gains_none, gains_more}
-
-pub clash : false ≡ true → ⊥
-clash e = cc
 
 AreLines-push : (lines : List (List ℕ)) (line : List ℕ) → AreLines lines → IsLine line → AreLines (lines ++ line ∷ [])
 AreLines-push [] line are is = (is, tt)
@@ -319,18 +313,14 @@ ends-cut_off left i t w line whole number r end e begun = ran-here (statuses.Lin
 pub finishes-ran : (status : Status) (w : Option World) (line : List ℕ) (whole : ℕ) (a b : Option (List ℕ)) (octets : List ℕ) → is_write_fault status ≡ false →
     Finishes status (λ i t. Reads i t w line whole) (Gains a b) octets →
     (input text : List ℕ) → Reads input text w line whole → (more : List ℕ) × Gains a b more × ((left : Option (List ℕ)) → Ran status left (input ++ octets) (text ++ more))
-finishes-ran statuses.WriteFault w line whole a b octets e f = absurd (clash (sym e))
+finishes-ran statuses.WriteFault w line whole a b octets e f = absurd (let no : ⊥ = cc in no)
 finishes-ran status w line whole a b octets e f = f
 
 pub finishes-broke : (status : Status) (w : Option World) (line : List ℕ) (whole : ℕ) (a b : Option (List ℕ)) (octets : List ℕ) → is_write_fault status ≡ true →
     Finishes status (λ i t. Reads i t w line whole) (Gains a b) octets →
     (input text : List ℕ) → Reads input text w line whole → (part : List ℕ) × Gains a b part × BrokeOff (input ++ octets) (text ++ part)
 finishes-broke statuses.WriteFault w line whole a b octets e f = f
-finishes-broke status w line whole a b octets e f = absurd (clash e)
-
-pub is-empty : (xs : List ℕ) → length xs ≡ 0 → xs ≡ []
-is-empty [] e = refl
-is-empty (x ∷ xs) e = absurd (omega (arith, e))
+finishes-broke status w line whole a b octets e f = absurd (let no : ⊥ = cc in no)
 
 pub isnt-empty : (xs : List ℕ) → 0 < length xs → xs ≢ []
 isnt-empty xs e empty = let size = ap length empty in absurd (omega (arith, e, size))

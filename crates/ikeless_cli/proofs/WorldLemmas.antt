@@ -1,5 +1,5 @@
 -- The steps of a run keep what its state stands for.
-use Rattle.std.proofs.Common.{◌≡◌, ℕ, ◌+◌, List, [], ◌∷◌, ◌++◌, Bool, true, false, cond, refl, sym, ◌∙◌, ap, if◌then◌else◌, ◌⊎◌, inl, inr}
+use Rattle.std.proofs.Common.{◌≡◌, ℕ, ◌+◌, List, [], ◌∷◌, Bool, true, false, cond, refl, sym, ◌∙◌, ap, if◌then◌else◌, ◌⊎◌, inl, inr}
 use Rattle.std.specs.Str.{bytes_eq}
 use Rattle.ikeless_tree.specs.declared.command.Peer.{Peer}
 use Rattle.ikeless_tree.specs.declared.entry.SpdEntry.{SpdEntry}
@@ -12,7 +12,6 @@ use Rattle.hist_acts.specs.Gateways.{is_named}
 use Rattle.hist_acts.specs.Past.{after, force, events_taken}
 use Rattle.hist_clear.specs.Answer.{answer}
 use Rattle.hist_clear.specs.History.{block}
-use Rattle.ikeless_cli.specs.declared.policies.Forced.{Forced}
 use Rattle.ikeless_cli.specs.declared.world.World.{World}
 use Rattle.ikeless_cli.specs.Policies.{kept_for, with_list}
 use Rattle.ikeless_cli.specs.World.{StandsFor, acts_at, lists_after}

@@ -2,8 +2,6 @@
 use Rattle.std.specs.Prelude.{ℕ, List, codes}
 use Rattle.ikl_base.specs.declared.status.Status.{Status}
 use Rattle.ikl_base.specs.declared.status.Status.TheVariants as statuses
-use Rattle.ikl_base.specs.declared.status.LineFault.{LineFault}
-use Rattle.ikl_base.specs.declared.status.LineFault.TheVariants as faults
 
 abbrev pub number_of : Status → ℕ
 number_of statuses.Done = 0
@@ -34,18 +32,3 @@ name_text statuses.TurnsSpent = codes "TurnsSpent"
 name_text statuses.LinkFault = codes "LinkFault"
 name_text statuses.BadReply = codes "BadReply"
 name_text statuses.Denied = codes "Denied"
-
-abbrev pub reason_text : LineFault → List ℕ
-reason_text faults.Long = codes "long"
-reason_text faults.End = codes "end"
-reason_text faults.Octet = codes "octet"
-reason_text faults.Header = codes "header"
-reason_text faults.Word = codes "word"
-reason_text faults.Count = codes "count"
-reason_text faults.Gateway = codes "gateway"
-reason_text faults.Number = codes "number"
-reason_text faults.Hex = codes "hex"
-reason_text faults.Prefix = codes "prefix"
-reason_text faults.Limits = codes "limits"
-reason_text faults.Entry = codes "entry"
-reason_text faults.Mode = codes "mode"

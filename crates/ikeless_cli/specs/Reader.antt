@@ -1,7 +1,6 @@
 -- What the state of a run between two octets stands for.
 use Rattle.std.specs.Prelude.{◌≡◌, ◌≤◌, ◌+◌, ℕ, Bool, true, false, List, [], ◌∷◌, ◌++◌, length, Option, Some, None, MatchOption, Result, Ok, Err, vec_len}
 use Rattle.ikl_base.specs.Outside.{HasRisen, IsCalm, HasFailed}
-use Rattle.std.specs.Option.{option_map}
 use Rattle.ikl_base.specs.declared.status.Status.{Status}
 use Rattle.ikl_base.specs.declared.status.Status.TheVariants as statuses
 use Rattle.ikl_base.specs.declared.status.LineFault.{LineFault}

@@ -1,9 +1,8 @@
 // What answers a packet from inside.
-ghost use Rattle.std.specs.Prelude.{◌≡◌, List, ℕ, Some, None, MatchResult, option_map};
+ghost use Rattle.std.specs.Prelude.{◌≡◌, List, ℕ, Some, None, MatchResult};
 ghost use Rattle.std.specs.Option.{option_copied};
 ghost use Rattle.ip_packet.specs.View.{seen};
 ghost use Rattle.ikeless_tree.specs.declared.entry.Direction.TheVariants as directions;
-ghost use Rattle.ikeless_tree.specs.declared.reply.DropWhy.TheVariants as why;
 ghost use Rattle.hist_acts.specs.declared.act.Act.TheVariants as acts;
 ghost use Rattle.spd_match.specs.Match.{first_entry};
 ghost use Rattle.hist_clear.specs.Answer.{answer as answer_to, by_entry};

@@ -1,5 +1,5 @@
 // The lists in force, each under the name of its gateway.
-ghost use Rattle.std.specs.Prelude.{◌≡◌, ◌++◌, OnOk, OnErr, MatchOption, List, ℕ, []};
+ghost use Rattle.std.specs.Prelude.{◌≡◌, OnOk, OnErr, MatchOption, []};
 ghost use Rattle.ikeless_cli.specs.Policies.{kept_for, with_list};
 
 use ikeless_tree::Entries;

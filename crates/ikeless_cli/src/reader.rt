@@ -1,7 +1,6 @@
 // Takes the octets of a script one by one, and writes the block of each line that they end.
-ghost use Rattle.std.specs.Prelude.{◌≡◌, ◌≢◌, ◌+◌, ◌<◌, ◌^◌, ◌≤◌, List, ℕ, length, OnOk, OnErr, IfOk, IfErr, Some, [], ◌∷◌, ◌++◌, vec_len, false};
+ghost use Rattle.std.specs.Prelude.{◌≡◌, ◌+◌, ◌<◌, ◌^◌, ◌≤◌, List, ℕ, OnOk, OnErr, IfOk, IfErr, Some, [], ◌∷◌, ◌++◌, vec_len, false};
 ghost use Rattle.ikl_base.specs.Outside.{Gains, HasCause, IsCalm, HasFailed};
-ghost use Rattle.ikl_base.specs.declared.status.Status.TheVariants as statuses;
 ghost use Rattle.ikl_base.specs.Answers.{Gives};
 ghost use Rattle.ikeless_cli.specs.Run.{is_read_fault};
 ghost use Rattle.ikeless_cli.specs.Script.{begins_with, is_taken, line_event};

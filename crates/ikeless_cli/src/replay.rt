@@ -1,6 +1,6 @@
 // The command `replay`.
-ghost use Rattle.std.specs.Prelude.{◌≡◌, ◌≢◌, ◌+◌, ◌<◌, ◌^◌, ◌≤◌, ◌↔◌, List, ℕ, Option, length, take, IfOk, IfErr, IfSome, OnOk, Some, [], ◌∷◌, ◌++◌, true, false};
-ghost use Rattle.ikl_base.specs.Outside.{AtEnd, Gains, Loses, HasRisen, HasFailed, IsCalm};
+ghost use Rattle.std.specs.Prelude.{◌≡◌, ◌+◌, ◌<◌, ◌^◌, ◌↔◌, List, ℕ, Option, IfErr, IfSome, OnOk, Some, true, false};
+ghost use Rattle.ikl_base.specs.Outside.{AtEnd, Gains, Loses, HasRisen};
 ghost use Rattle.ikl_base.specs.declared.status.Status.TheVariants as statuses;
 ghost use Rattle.ikl_base.specs.declared.status.LineFault.TheVariants as faults;
 ghost use Rattle.ikeless_cli.specs.Run.{Ran, BrokeOff, is_read_fault, is_write_fault};

@@ -1,6 +1,7 @@
 // What a program says of the status of its command.
 ghost use Rattle.std.specs.Prelude.{◌≡◌};
-ghost use Rattle.ikeless_cli.specs.Exit.{number_of, name_text, reason_text};
+ghost use Rattle.ikl_base.specs.Reasons.{reason_text};
+ghost use Rattle.ikeless_cli.specs.Exit.{number_of, name_text};
 
 use ikl_base::{LineFault, Status};
 
@@ -50,19 +51,5 @@ pub fn name_of(status: &Status) -> &'static str
 pub fn reason_of(reason: LineFault) -> &'static str
     ensures { result.now ≡ reason_text reason }
 {
-    match reason {
-        LineFault::Long => "long",
-        LineFault::End => "end",
-        LineFault::Octet => "octet",
-        LineFault::Header => "header",
-        LineFault::Word => "word",
-        LineFault::Count => "count",
-        LineFault::Gateway => "gateway",
-        LineFault::Number => "number",
-        LineFault::Hex => "hex",
-        LineFault::Prefix => "prefix",
-        LineFault::Limits => "limits",
-        LineFault::Entry => "entry",
-        LineFault::Mode => "mode",
-    }
+    reason.text()
 }

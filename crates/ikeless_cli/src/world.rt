@@ -1,5 +1,5 @@
 // What a run keeps of the gateways, and its steps.
-ghost use Rattle.std.specs.Prelude.{◌≡◌, ◌+◌, ◌<◌, ◌^◌, List, ℕ, [], ◌∷◌, ◌++◌, OnOk, OnErr, IfOk, if◌then◌else◌};
+ghost use Rattle.std.specs.Prelude.{◌≡◌, ◌+◌, ◌<◌, ◌^◌, List, [], ◌∷◌, OnOk, OnErr, IfOk};
 ghost use Rattle.hist_acts.specs.declared.act.Act.{Act as AnAct};
 ghost use Rattle.hist_acts.specs.declared.act.Act.TheVariants as acts;
 ghost use Rattle.hist_acts.specs.declared.event.Event.TheVariants as events;

@@ -1,4 +1,4 @@
-use Rattle.std.proofs.Common.{◌≡◌, ◌∙◌, ◌<◌, length, arith}
+use Rattle.std.proofs.Common.{◌∙◌, arith}
 use Rattle.std.proofs.lemmas.Grind.{common_steps}
 use Rattle.ikeless_cli.proofs.PoliciesLemmas.{with_list-at}
 use Rattle.ikeless_cli.proofs.policies.put_list.Goals as goal

@@ -1,4 +1,4 @@
-use Rattle.std.proofs.Common.{◌≡◌, ◌∙◌, ◌<◌, length, arith}
+use Rattle.std.proofs.Common.{◌∙◌, arith}
 use Rattle.ikeless_cli.proofs.ReaderLemmas.{ends-line, ends-no_memory, breaks}
 use Rattle.ikeless_cli.proofs.reader.end_line.Goals as goal
 

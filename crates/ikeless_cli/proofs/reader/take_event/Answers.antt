@@ -1,4 +1,4 @@
-use Rattle.std.proofs.Common.{◌≡◌, ◌∙◌, ◌++◌, ap}
+use Rattle.std.proofs.Common.{◌∙◌, ◌++◌, ap}
 use Rattle.script_lines.specs.Text.{text_of}
 use Rattle.ikeless_cli.proofs.ReaderLemmas.{takes-event}
 use Rattle.ikeless_cli.proofs.reader.take_event.Goals as goal

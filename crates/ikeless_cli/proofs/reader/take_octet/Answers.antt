@@ -1,4 +1,4 @@
-use Rattle.std.proofs.Common.{◌≡◌, ◌<◌, ◌≤◌, length, arith}
+use Rattle.std.proofs.Common.{arith}
 use Rattle.std.proofs.lemmas.Grind.{common_steps}
 use Rattle.ikeless_cli.proofs.ReaderLemmas.{ends-long, ends-too_long, ends-no_memory, reads-octet}
 use Rattle.ikeless_cli.proofs.reader.take_octet.Goals as goal

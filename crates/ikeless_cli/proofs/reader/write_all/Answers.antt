@@ -1,7 +1,6 @@
 use Rattle.std.proofs.Common.{◌≡◌, ℕ, List, ◌++◌, take, drop, refl, ◌∙◌, ap, append_assoc, arith}
 use Rattle.std.proofs.lemmas.List.{take-append-drop}
 use Rattle.std.proofs.lemmas.Grind.{common_steps}
-use Rattle.ikl_base.specs.Outside.{Gains}
 use Rattle.ikeless_cli.proofs.Bytes.{gains_more}
 use Rattle.ikeless_cli.proofs.reader.write_all.Goals as goal
 

@@ -1,7 +1,8 @@
-use Rattle.std.proofs.Common.{◌≡◌, ◌<◌, ◌⊎◌, inl, inr, refl, ap, length, arith}
+use Rattle.std.proofs.Common.{◌≡◌, ◌<◌, inl, inr, refl, ap, length, arith}
 use Rattle.std.proofs.lemmas.Grind.{common_steps}
 use Rattle.ikeless_cli.specs.Reader.{header_kept}
-use Rattle.ikeless_cli.proofs.ReaderLemmas.{ends-cut_off, ends-done, is-empty, isnt-empty}
+use Rattle.std.proofs.lemmas.List.{nil_from_length}
+use Rattle.ikeless_cli.proofs.ReaderLemmas.{ends-cut_off, ends-done, isnt-empty}
 use Rattle.ikeless_cli.proofs.replay.at_end.Goals as goal
 
 pub returns-in-None-clause-ran : goal.returns-in-None-clause-ran
@@ -10,7 +11,7 @@ returns-in-None-clause-ran c = λ i t left r end. rw c.cut_off.ensures (ends-cut
 pub returns-then-is_empty-clause-ran : goal.returns-then-is_empty-clause-ran
 returns-then-is_empty-clause-ran c = λ i t left r end.
     let none : length c.args.reader.now.line.items ≡ 0 = grind (arith, common_steps) in
-    ends-done left i t _ _ _ r end (is-empty c.args.reader.now.line.items none) (rw c.in-Some.is refl)
+    ends-done left i t _ _ _ r end (nil_from_length c.args.reader.now.line.items none) (rw c.in-Some.is refl)
 
 pub returns-else-is_empty-clause-ran : goal.returns-else-is_empty-clause-ran
 returns-else-is_empty-clause-ran c = λ i t left r end.

@@ -1,6 +1,5 @@
-use Rattle.std.proofs.Common.{◌≡◌, ◌+◌, ◌≤◌, ℕ, List, [], ◌++◌, length, take, true, false, refl, ap, sym, ◌∙◌, subst, length-append, arith}
-use Rattle.std.proofs.lemmas.Grind.{common_steps}
-use Rattle.ikl_base.specs.Outside.{Gains, Loses}
+use Rattle.std.proofs.Common.{◌≡◌, ◌+◌, ℕ, List, ◌++◌, take, true, subst, length-append, arith}
+use Rattle.ikl_base.specs.Outside.{Loses}
 use Rattle.ikl_base.specs.declared.status.Status.TheVariants as statuses
 use Rattle.ikeless_cli.proofs.Bytes.{gains_more, loses_more, loses_no_more}
 use Rattle.ikeless_cli.proofs.ReaderLemmas.{ran-here, finishes-ran, finishes-broke, sink-on, at-end-after}

@@ -1,4 +1,4 @@
-use Rattle.std.proofs.Common.{◌≡◌, ◌≤◌, ◌++◌, List, ℕ, take, false}
+use Rattle.std.proofs.Common.{take, false}
 use Rattle.ikl_base.specs.Outside.{Gains}
 use Rattle.ikeless_cli.specs.Reader.{Reads, Goes, IsCounted, SinkTells}
 use Rattle.ikeless_cli.proofs.replay.take_piece.Given as goal

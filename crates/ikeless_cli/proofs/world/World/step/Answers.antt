@@ -1,4 +1,4 @@
-use Rattle.std.proofs.Common.{◌≡◌, ◌∙◌, ◌+◌, ap}
+use Rattle.std.proofs.Common.{◌∙◌, ◌+◌, ap}
 use Rattle.ikeless_cli.proofs.WorldLemmas.{acts_at-block, stands-after}
 use Rattle.ikeless_cli.proofs.world.World.step.Goals as goal
 
