@@ -1,0 +1,8 @@
+//! The history of a gateway: what it does at each event, told as acts, is what the law of a gateway says.
+#![tactic(auto)]
+
+mod laws;
+
+pub use laws::{
+    histories_have_no_fault, is_every_run_safe, restarts_follow, runs_follow, steps_follow,
+};
