@@ -1,7 +1,6 @@
 -- Lists by their places, and what loops have left of them.
-use Rattle.std.proofs.Common.{◌≡◌, ℕ, zero, suc, ◌+◌, ◌-◌, ◌<◌, ◌≤◌, ◌==◌, Bool, true, false, List, [], ◌∷◌, ◌++◌, length, take, drop, get_or, min, refl, sym, ap, ◌∙◌, arith, add-one, drop-cons, if◌then◌else◌}
+use Rattle.std.proofs.Common.{◌≡◌, ℕ, zero, suc, ◌+◌, ◌-◌, ◌<◌, ◌≤◌, ◌==◌, Bool, false, List, [], ◌∷◌, ◌++◌, length, drop, get_or, refl, sym, ap, ◌∙◌, arith, add-one, drop-cons, if◌then◌else◌}
 use Rattle.std.proofs.Math.ListN.{set}
-use Rattle.std.proofs.lemmas.Grind.{common_steps}
 use Rattle.ctl_core.specs.declared.peer.Station.{Station}
 use Rattle.ctl_core.specs.declared.peer.Waiting.{Waiting}
 use Rattle.ctl_core.specs.Core.{at}
@@ -10,6 +9,12 @@ use Rattle.ctl_core.specs.Step.{set_ready}
 
 pub drop-item : {A : Type 0} (xs : List A) (i : ℕ) (x : A) → i < length xs → x ≡ get_or xs i x → drop i xs ≡ x ∷ drop (i + 1) xs
 drop-item xs i x l e = rw add-one (drop-cons xs i x l ∙ ap (λ y. y ∷ drop (suc i) xs) (sym e))
+
+-- what stands at a place, whatever would be there instead
+pub stands : {A : Type 0} (xs : List A) (i : ℕ) (d e : A) → i < length xs → get_or xs i d ≡ get_or xs i e
+stands [] i d e l = absurd (omega arith)
+stands (x ∷ xs) zero d e l = refl
+stands (x ∷ xs) (suc i) d e l = stands xs i d e (omega arith)
 
 pub drop-all : {A : Type 0} (xs : List A) (i : ℕ) → length xs ≤ i → drop i xs ≡ []
 drop-all [] zero l = refl

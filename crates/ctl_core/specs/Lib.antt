@@ -4,3 +4,4 @@ pub mod Changes
 pub mod Pass
 pub mod Step
 pub mod Room
+pub mod Idle

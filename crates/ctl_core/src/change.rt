@@ -1,6 +1,7 @@
 // What an event changes in the directions of tunnels.
 ghost use Rattle.std.specs.Prelude.{◌≡◌, ◌<◌, length, slice_index_or, ◌++◌, ◌∷◌, [], ◌==◌, not, ◌&&◌, IfOk, OnOk, if◌then◌else◌};
 ghost use Rattle.ctl_core.specs.Changes as changes;
+ghost use Rattle.ctl_core.specs.Idle as idle;
 
 use ctl_tunnels::{Direction, HalfName, HalfOrder, Pair, Progress, Shown, Tunnel};
 use ikeless_tree::SpdEntry;
@@ -64,6 +65,26 @@ impl Change {
             )),
         }
     }
+
+    /// Whether it leaves the directions of a tunnel as they are that wait for no answer.
+    pub fn spares(&self, tunnel: &Tunnel) -> bool
+        ensures { result ≡ idle.spares self.now tunnel.now }
+    {
+        match self {
+            Change::Nothing | Change::Cut(_) | Change::Answered { .. } => true,
+            Change::Ended(reqid) | Change::Rekeyed(reqid) => tunnel.reqid != *reqid,
+            Change::Read { gateway, .. }
+            | Change::Acquired { gateway, .. }
+            | Change::Worn { gateway, .. } => is_beside(*gateway, tunnel),
+        }
+    }
+}
+
+// Whether a gateway is neither of a tunnel's.
+fn is_beside(gateway: usize, tunnel: &Tunnel) -> bool
+    ensures { result ≡ idle.is_beside gateway tunnel.now }
+{
+    tunnel.first != gateway && tunnel.second != gateway
 }
 
 fn has_reqid(reqids: &[u64], reqid: u64) -> bool

@@ -8,8 +8,9 @@ ghost use Rattle.ctl_core.specs.Pass as passes;
 ghost use Rattle.ctl_core.specs.Step as steps;
 
 use crate::acts::{CtlAct, CtlActs, CtlEvent};
-use crate::change::{Change, pair_at};
+use crate::change::Change;
 use crate::draft::Draft;
+use crate::idle::is_idle;
 use crate::peer::{
     Station, address_of, append_queues, empty_queues, has_room, readiness, stations_of,
 };
@@ -173,14 +174,14 @@ impl Controller {
     // Makes the change in both directions of a tunnel, and gives each its next order.
     fn advance_pair(
         &self,
-        tunnel: Tunnel,
-        pair: Pair,
+        tunnel: &Tunnel,
+        pair: &Pair,
         change: &Change,
         ready: &[bool],
         draft: &mut Draft,
     ) -> Result<Pair, NoMemory>
-        ensures pair { IfOk result (λ p. p ≡ passes.advanced_pair self.now.stations self.now.keys (changed change.now) ready.now tunnel pair draft.old) }
-        ensures draft { OnOk result (draft.new ≡ passes.draft_pair self.now.stations self.now.keys (changed change.now) ready.now tunnel pair draft.old) }
+        ensures pair { IfOk result (λ p. p ≡ passes.advanced_pair self.now.stations self.now.keys (changed change.now) ready.now tunnel.now pair.now draft.old) }
+        ensures draft { OnOk result (draft.new ≡ passes.draft_pair self.now.stations self.now.keys (changed change.now) ready.now tunnel.now pair.now draft.old) }
     {
         let forth = tunnel.forth();
         let back = tunnel.back();
@@ -207,9 +208,14 @@ impl Controller {
         let mut after = Vec::with_capacity(self.alloc, pairs.len())?;
         let count = tunnels.len().min(pairs.len());
         for i in 0..count {
-            let pair = pair_at(pairs, i);
-            let next = self.advance_pair(tunnels[i], pair, change, ready, draft)?;
-            after.push(next)?;
+            let tunnel = &tunnels[i];
+            let pair = &pairs[i];
+            if is_idle(change, tunnel, pair) {
+                after.push(*pair)?;
+            } else {
+                let next = self.advance_pair(tunnel, pair, change, ready, draft)?;
+                after.push(next)?;
+            }
         }
         Ok(after)
     }

@@ -11,6 +11,7 @@ mod commands;
 mod controller;
 mod draft;
 mod events;
+mod idle;
 mod peer;
 
 pub use acts::{CtlAct, CtlActs, CtlEvent};

@@ -53,6 +53,7 @@ impl Station {
         }
     }
 
+    /// Whether its session is open.
     pub fn is_open(&self) -> bool
         ensures { result ≡ core.is_open self.now.session }
     {
