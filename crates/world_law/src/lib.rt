@@ -1,0 +1,2 @@
+//! The world of a script follows its law: for which past it stands, and what it does at each event.
+#![tactic(auto)]

@@ -1,0 +1,4 @@
+pub mod Nodes
+pub mod Worlds
+pub mod Steps
+pub mod Conditions
