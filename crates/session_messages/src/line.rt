@@ -23,13 +23,9 @@ pub fn write_line(alloc: Global, n: &Notice, now: u32) -> Result<Octets, NoMemor
     write_notice(alloc, n, now)
 }
 
-/// The notice of the one line that these octets are. There is none where they aren't one whole line, have more octets behind it,
-/// or its line is no notification.
-pub fn read_line(alloc: Global, octets: &[u8]) -> Result<Option<Notice>, NoMemory>
-    ensures line { IfOk result (λ x. IsHeardAs octets.now x) }
-    ensures heard { (n : Told) → IsHeard n octets.now → IfOk result (λ x. x ≡ Some n) }
+fn notice(alloc: Global, octets: &[u8]) -> Result<Option<Notice>, NoMemory>
+    ensures { IfOk result (λ x. IsHeardAs octets.now x) }
 {
-    cuts_do_not_matter();
     let mut reader = LineReader::new(alloc);
     match reader.feed(octets) {
         Ok(Heard::NoneYet) => Ok(None),
@@ -43,4 +39,14 @@ pub fn read_line(alloc: Global, octets: &[u8]) -> Result<Option<Notice>, NoMemor
         Err(OrMemory::Refused(_)) => Ok(None),
         Err(OrMemory::NoMemory) => Err(NoMemory),
     }
+}
+
+/// The notice of the one line that these octets are. There is none where they aren't one whole line, have more octets behind it,
+/// or its line is no notification.
+pub fn read_line(alloc: Global, octets: &[u8]) -> Result<Option<Notice>, NoMemory>
+    ensures line { IfOk result (λ x. IsHeardAs octets.now x) }
+    ensures heard { (n : Told) → IsHeard n octets.now → IfOk result (λ x. x ≡ Some n) }
+{
+    cuts_do_not_matter();
+    notice(alloc, octets)
 }

@@ -37,6 +37,16 @@ fn answered(alloc: Global, o: &Order, m: &HttpMessage) -> Result<Option<Answer>,
     }
 }
 
+fn answer(alloc: Global, o: &Order, octets: &[u8]) -> Result<Option<Answer>, NoMemory>
+    ensures { (looked : Looked) → Looks Response octets.now looked → IfOk result (λ x. x ≡ answer_in o.now (whole_in (length octets.now) looked)) }
+{
+    match read_whole(Feeder::responses(alloc), octets) {
+        Ok(message) => answered(alloc, o, &message),
+        Err(OrMemory::Refused(_)) => Ok(None),
+        Err(OrMemory::NoMemory) => Err(NoMemory),
+    }
+}
+
 /// The answer to an order that the response says which all these octets are. There is none where the octets aren't one whole
 /// response, have more octets behind it, or are no answer to this order.
 pub fn read_reply(alloc: Global, o: &Order, octets: &[u8]) -> Result<Option<Answer>, NoMemory>
@@ -46,9 +56,5 @@ pub fn read_reply(alloc: Global, o: &Order, octets: &[u8]) -> Result<Option<Answ
         → answer_of o.now (reply_message r) ≡ Ok a → IfOk result (λ x. x ≡ Some a) }
 {
     responses_are_read();
-    match read_whole(Feeder::responses(alloc), octets) {
-        Ok(message) => answered(alloc, o, &message),
-        Err(OrMemory::Refused(_)) => Ok(None),
-        Err(OrMemory::NoMemory) => Err(NoMemory),
-    }
+    answer(alloc, o, octets)
 }

@@ -51,7 +51,9 @@ pub fn refusals_are_text()
 pub fn lines_are_short()
     ensures line { (n : Notice) (seconds : ℕ) → IsNotice n → IsTypedNotice n → seconds < 2 ^ 32 → IsLine n seconds (line_text n seconds) }
     ensures heard { (n : Notice) (seconds : ℕ) → IsNotice n → IsTypedNotice n → seconds < 2 ^ 32 → IsHeard n (line_text n seconds) }
-{}
+{
+    notice_lines::written_is_heard();
+}
 
 /// A request that can be written is read, whatever follows it, as one that asks the same. The request of an order is read as what
 /// the order asks.
@@ -62,7 +64,9 @@ pub fn requests_are_read()
     ensures orders { (host : Addr) (o : Order) → IsAddress host → IsOrder o → IsTypedOrder o
         → (m : HttpMessage) × Looks Request (request_text (order_message host o)) (Gives m (length (request_text (order_message host o))))
         × (request_of m ≡ Ok (ask_of o)) }
-{}
+{
+    rc_resource::orders_are_read();
+}
 
 /// A response that can be written is read, whatever follows it, as one that answers each order in the same way.
 pub fn responses_are_read()

@@ -1,0 +1,11 @@
+pub mod Texts
+pub mod Names
+pub mod Values
+pub mod Fields
+pub mod Orders
+pub mod Pointers
+pub mod Errors
+pub mod Refusals
+pub mod Replies
+pub mod Again
+pub mod Lines
