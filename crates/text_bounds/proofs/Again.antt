@@ -11,7 +11,6 @@ use Rattle.rc_http.specs.Looks.{Gives, Looks}
 use Rattle.rc_http.specs.Written.{request_again, request_text, response_again, response_text, IsWritableRequest, IsWritableResponse}
 use Rattle.rc_http.proofs.AgainLemmas.{request_read_again}
 use Rattle.rc_http.proofs.AnswerLemmas.{response_read_again}
-use Rattle.rc_request.specs.declared.operation.Operation.{Operation}
 use Rattle.rc_request.specs.declared.resource.Resource.{Resource}
 use Rattle.rc_request.specs.Operations.{method_of, operation_by}
 use Rattle.rc_request.specs.Paths.{resource_of}
@@ -19,13 +18,9 @@ use Rattle.rc_request.specs.Queries.{before_mark}
 use Rattle.rc_request.specs.Requests.{by_operation, by_resource, request_of}
 use Rattle.rc_answer.specs.Answers.{answer_of}
 
-same_operation : (r : Resource) (op : Option Operation) (m : HttpMessage) → by_operation r op (request_again m) ≡ by_operation r op m
-same_operation r None m = refl
-same_operation r (Some op) m = refl
-
 same_resource : (r : Option Resource) (m : HttpMessage) → by_resource r (request_again m) ≡ by_resource r m
 same_resource None m = refl
-same_resource (Some r) m = same_operation r (operation_by r (method_of m.method)) m
+same_resource (Some r) m = elim (operation_by r (method_of m.method)) as (λ op. by_operation r op (request_again m) ≡ by_operation r op m) [ None ↦ refl | Some op ↦ refl ]
 
 pub same_request : (m : HttpMessage) → request_of (request_again m) ≡ request_of m
 unfolding request_of

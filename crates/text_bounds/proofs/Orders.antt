@@ -1,6 +1,6 @@
 -- Every order can be written.
 use Rattle.std.proofs.Common.{◌≡◌, ◌+◌, ◌*◌, ◌<◌, ◌≤◌, ◌&&◌, not, nat_lt, IsTrue, ℕ, Bool, true, false, List, [], ◌∷◌, ◌++◌, codes, length, All, None, if◌then◌else◌, refl, ap, ◌∙◌, arith, length-append}
-use Rattle.std.specs.List.{AllByRecursion, flat_map, list_all}
+use Rattle.std.specs.List.{AllByRecursion, flat_map, list_all, list_any}
 use Rattle.std.proofs.lemmas.Bool.{agree_below, agree_below_at, and_parts, and_from, not-false}
 use Rattle.std.proofs.lemmas.Bool.Decides.{nat_tests}
 use Rattle.std.proofs.lemmas.List.Elements.{recursion_from_All}
@@ -13,7 +13,9 @@ use Rattle.ikeless_tree.specs.declared.entry.SpdEntry.{SpdEntry}
 use Rattle.ikeless_tree.specs.declared.order.Order.{Order}
 use Rattle.ikeless_tree.specs.declared.order.Order.TheVariants as orders
 use Rattle.ikeless_tree.specs.declared.sad.SadEntry.{SadEntry}
-use Rattle.ikeless_tree.specs.Check.{entries_fault, entry_fault, is_key_length, is_path_octet, is_sad_name, sad_fault, spd_fault}
+use Rattle.ikeless_tree.specs.declared.reply.Feature.TheVariants as features
+use Rattle.ikeless_tree.specs.declared.reply.TreeFault.TheVariants as faults
+use Rattle.ikeless_tree.specs.Check.{entries_fault, entry_fault, has_empty_range, has_many_ranges, is_key_length, is_named, is_path_octet, is_sad_name, is_spd_name, is_window, sad_fault, spd_fault}
 use Rattle.ikeless_tree.specs.Typed.{AreTypedPolicies, IsTypedHalf, IsTypedOrder, IsTypedPolicy}
 use Rattle.yang_values.specs.Addresses.{IsAddress, address_text}
 use Rattle.yang_values.proofs.PrefixText.{address_plain}
@@ -75,11 +77,15 @@ path_size front name short few =
     let size = escaped_size name in
     omega (arith, all, size, short, few)
 
+positive : (n : ℕ) → 0 < n → nat_lt 0 n ≡ true
+positive n h = grind (arith, nat_tests, h)
+
 pub half_is_path : (name : List ℕ) → list_all is_path_octet name ≡ true → length name ≤ 64 → IsPath (half_path name)
 half_is_path name octets short =
     let front : List ℕ = codes "/restconf/data/ietf-i2nsf-ikeless:ipsec-ikeless/sad/sad-entry=" in
+    let both : length (half_path name) ≡ length (codes "/restconf/data/ietf-i2nsf-ikeless:ipsec-ikeless/sad/sad-entry=") + length (escaped name) = length-append front (escaped name) in
     record {
-      target = and_from _ _ refl (behind_front is_target_octet front name refl (all_escaped is_target_octet targets_escaped name octets));
+      target = and_from _ _ (positive (length (half_path name)) (omega (arith, both))) (behind_front is_target_octet front name refl (all_escaped is_target_octet targets_escaped name octets));
       seen = behind_front is_seen front name refl (all_escaped is_seen seen_escaped name octets);
       size = path_size front name (omega arith) short;
     }
@@ -87,8 +93,9 @@ half_is_path name octets short =
 pub policy_is_path : (name : List ℕ) → list_all is_path_octet name ≡ true → length name ≤ 64 → IsPath (policy_path name)
 policy_is_path name octets short =
     let front : List ℕ = codes "/restconf/data/ietf-i2nsf-ikeless:ipsec-ikeless/spd/spd-entry=" in
+    let both : length (policy_path name) ≡ length (codes "/restconf/data/ietf-i2nsf-ikeless:ipsec-ikeless/spd/spd-entry=") + length (escaped name) = length-append front (escaped name) in
     record {
-      target = and_from _ _ refl (behind_front is_target_octet front name refl (all_escaped is_target_octet targets_escaped name octets));
+      target = and_from _ _ (positive (length (policy_path name)) (omega (arith, both))) (behind_front is_target_octet front name refl (all_escaped is_target_octet targets_escaped name octets));
       seen = behind_front is_seen front name refl (all_escaped is_seen seen_escaped name octets);
       size = path_size front name (omega arith) short;
     }
@@ -112,11 +119,11 @@ host_size (V6 octets) h =
 sized_policy : (before : List SpdEntry) (e : SpdEntry) → entry_fault before e ≡ None → IsSizedPolicy e
 unfolding entry_fault
 sized_policy before e h =
-    let first = no_fault _ _ _ h in
-    let second = no_fault _ _ _ first.1 in
-    let third = no_fault _ _ _ second.1 in
-    let fourth = no_fault _ _ _ third.1 in
-    let fifth = no_fault _ _ _ fourth.1 in
+    let first = no_fault (list_any (is_named e.name) before) faults.DuplicateName _ h in
+    let second = no_fault (not (is_spd_name e.name)) faults.BadName _ first.1 in
+    let third = no_fault (not (is_window e.window)) faults.BadWindow _ second.1 in
+    let fourth = no_fault (has_empty_range e.selector) faults.EmptyRange _ third.1 in
+    let fifth = no_fault (has_many_ranges e.selector) (faults.Unsupported features.Ports) _ fourth.1 in
     let name = not-false _ second.0 in
     record { octets = path_octets e.name name; short = policy_size e.name name; few = fifth.0 }
 
@@ -143,12 +150,12 @@ key_by n h = grind (arith, nat_tests, h)
 pub passed_entry : (e : SadEntry) → sad_fault e ≡ None → IsSizedHalf e
 unfolding sad_fault
 passed_entry e h =
-    let first = no_fault _ _ _ h in
-    let second = no_fault _ _ _ first.1 in
-    let third = no_fault _ _ _ second.1 in
-    let fourth = no_fault _ _ _ third.1 in
-    let fifth = no_fault _ _ _ fourth.1 in
-    let sixth = no_fault _ _ _ fifth.1 in
+    let first = no_fault (not (is_sad_name e.name)) faults.BadName _ h in
+    let second = no_fault (nat_lt e.spi 256) faults.BadSpi _ first.1 in
+    let third = no_fault (not (is_key_length (length e.key))) faults.BadKeyLength _ second.1 in
+    let fourth = no_fault (not (is_window e.window)) faults.BadWindow _ third.1 in
+    let fifth = no_fault (has_empty_range e.selector) faults.EmptyRange _ fourth.1 in
+    let sixth = no_fault (has_many_ranges e.selector) (faults.Unsupported features.Ports) _ fifth.1 in
     let name = not-false _ first.0 in
     record { octets = half_octets e.name name; short = half_size e.name name; key = key_by (length e.key) (not-false _ third.0); few = sixth.0 }
 

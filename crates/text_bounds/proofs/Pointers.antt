@@ -1,5 +1,5 @@
 -- The pointers in refusals: ASCII, and short.
-use Rattle.std.proofs.Common.{◌≡◌, ◌==◌, ◌+◌, ◌<◌, ◌≤◌, ◌/◌, ◌%◌, nat_lt, ℕ, zero, suc, Bool, true, false, List, [], ◌∷◌, ◌++◌, codes, length, Option, Some, None, Result, Ok, Err, if◌then◌else◌, refl, arith, length-append, ⊤}
+use Rattle.std.proofs.Common.{◌≡◌, ◌==◌, ◌+◌, ◌-◌, ◌^◌, ◌<◌, ◌≤◌, ◌/◌, ◌%◌, nat_lt, ℕ, zero, suc, Bool, true, false, List, [], ◌∷◌, ◌++◌, codes, length, Option, Some, None, Result, Ok, Err, if◌then◌else◌, refl, arith, length-append}
 use Rattle.std.specs.List.{list_any}
 use Rattle.std.specs.Fmt.{decimal, digits, digits_onto, digit_glyph}
 use Rattle.std.proofs.lemmas.Bool.{and_from, and_parts}
@@ -8,10 +8,12 @@ use Rattle.json.proofs.Printed.Utf8.{are_ascii}
 use Rattle.serde_json.specs.Data.{Data, Items, no_items, item, Members}
 use Rattle.serde_json.specs.Find.{as_array, as_object, get}
 use Rattle.ikeless_tree.specs.declared.reply.TreeFault.{TreeFault}
+use Rattle.ikeless_tree.specs.Check.{is_sad_name, is_spd_name}
 use Rattle.json_values.specs.declared.fault.Fault.{Fault}
 use Rattle.json_values.specs.declared.fault.Kind.{Kind}
 use Rattle.json_values.specs.declared.fault.Kind.TheVariants as kinds
 use Rattle.json_values.specs.Faults.{at_member, checked, deeper, here, of_member, within, ◌>>=◌}
+use Rattle.json_values.specs.Leaves.{action_leaf, address_leaf, count_or, df_leaf, direction_leaf, fixed_number, fixed_word, key_leaf, name_leaf, needed_number, number_or, prefix_leaf, protocol_leaf, unset_leaf, wide_or}
 use Rattle.json_values.specs.Members.{config_shape, encryption_shape, limits_shape, policy_shape, processing_shape, range_shape, sad_entry_shape, selector_shape, soft_shape, spd_entry_shape, suite_shape, tunnel_shape}
 use Rattle.json_values.specs.Shapes.{each_item, has_unknown, items_read, lacks, needed_data, one_read, only_in, shape, shape_of}
 use Rattle.json_tree.specs.SelectorRead.{limits_from, ports_in, range_in, selector_in, selector_of, side_in}
@@ -147,8 +149,8 @@ good_range : (d : Data) → IsGood 10 (range_in d)
 unfolding range_in range_shape
 good_range d =
     good_then 10 _ _ (good_shape 10 _ _ d) (λ done.
-    good_then 10 _ _ (good_member 10 (codes "end") _ refl (omega arith)) (λ end.
-    good_then 10 _ _ (good_member 10 (codes "start") _ refl (omega arith)) (λ start. good_ok 10 _)))
+    good_then 10 _ _ (good_member 10 (codes "end") (needed_number 0 65535 (get (codes "end") d)) refl (omega arith)) (λ end.
+    good_then 10 _ _ (good_member 10 (codes "start") (needed_number 0 65535 (get (codes "start") d)) refl (omega arith)) (λ start. good_ok 10 _)))
 
 good_ports : (name : List ℕ) → are_ascii name ≡ true → length name ≤ 12 → (o : Option Data) → IsGood 90 (ports_in name o)
 good_ports name ascii short None = good_ok 90 []
@@ -158,13 +160,13 @@ good_side : (ports prefix : List ℕ) (d : Data) → are_ascii ports ≡ true �
 unfolding side_in
 good_side ports prefix d a p b q =
     good_then 90 _ _ (good_ports ports a p (get ports d)) (λ ranges.
-    good_then 90 _ _ (good_member 90 prefix _ b (omega (arith, q))) (λ network. good_ok 90 _))
+    good_then 90 _ _ (good_member 90 prefix (prefix_leaf (get prefix d)) b (omega (arith, q))) (λ network. good_ok 90 _))
 
 good_selector : (d : Data) → IsGood 90 (selector_in d)
 unfolding selector_in selector_shape
 good_selector d =
     good_then 90 _ _ (good_shape 90 _ _ d) (λ done.
-    good_then 90 _ _ (good_member 90 (codes "inner-protocol") _ refl (omega arith)) (λ proto.
+    good_then 90 _ _ (good_member 90 (codes "inner-protocol") (protocol_leaf (get (codes "inner-protocol") d)) refl (omega arith)) (λ proto.
     good_then 90 _ _ (good_side (codes "local-ports") (codes "local-prefix") d refl (omega arith) refl (omega arith)) (λ local.
     good_then 90 _ _ (good_side (codes "remote-ports") (codes "remote-prefix") d refl (omega arith) refl (omega arith)) (λ remote. good_ok 90 _))))
 
@@ -175,18 +177,18 @@ good_selector_of (Some d) = good_within 90 110 (codes "traffic-selector") _ refl
 good_limits_from : (d : Data) → IsGood 10 (limits_from d)
 unfolding limits_from
 good_limits_from d =
-    good_then 10 _ _ (good_member 10 (codes "bytes") _ refl (omega arith)) (λ bytes.
-    good_then 10 _ _ (good_member 10 (codes "idle") _ refl (omega arith)) (λ idle.
-    good_then 10 _ _ (good_member 10 (codes "packets") _ refl (omega arith)) (λ packets.
-    good_then 10 _ _ (good_member 10 (codes "time") _ refl (omega arith)) (λ time. good_ok 10 _))))
+    good_then 10 _ _ (good_member 10 (codes "bytes") (wide_or 0 (get (codes "bytes") d)) refl (omega arith)) (λ bytes.
+    good_then 10 _ _ (good_member 10 (codes "idle") (count_or 0 (get (codes "idle") d)) refl (omega arith)) (λ idle.
+    good_then 10 _ _ (good_member 10 (codes "packets") (count_or 0 (get (codes "packets") d)) refl (omega arith)) (λ packets.
+    good_then 10 _ _ (good_member 10 (codes "time") (count_or 0 (get (codes "time") d)) refl (omega arith)) (λ time. good_ok 10 _))))
 
 -- ---- policies
 
 good_unset : (n : ℕ) (name : List ℕ) (d : Data) → are_ascii name ≡ true → length name + 1 ≤ n → IsGood n (unset_in name d)
-good_unset n name d ascii fits = good_member n name _ ascii fits
+good_unset n name d ascii fits = good_member n name (unset_leaf (get name d)) ascii fits
 
 good_word : (n : ℕ) (name w : List ℕ) (d : Data) → are_ascii name ≡ true → length name + 1 ≤ n → IsGood n (word_in name w d)
-good_word n name w d ascii fits = good_member n name _ ascii fits
+good_word n name w d ascii fits = good_member n name (fixed_word w (get name d)) ascii fits
 
 good_suite : (d : Data) → IsGood 30 (suite_in d)
 unfolding suite_in suite_front suite_back suite_shape
@@ -205,7 +207,7 @@ good_processing : (d : Data) → IsGood 45 (processing_in d)
 unfolding processing_in processing_shape
 good_processing d =
     good_then 45 _ _ (good_shape 45 _ _ d) (λ done.
-    good_then 45 _ _ (good_member 45 (codes "action") _ refl (omega arith)) (λ action.
+    good_then 45 _ _ (good_member 45 (codes "action") (action_leaf (get (codes "action") d)) refl (omega arith)) (λ action.
     good_then 45 _ _ (good_suite_of (get (codes "ipsec-sa-cfg") d)) (λ suite. good_ok 45 _)))
 
 good_processing_of : (o : Option Data) → IsGood 110 (processing_of o)
@@ -216,7 +218,7 @@ good_policy : (d : Data) → IsGood 110 (policy_in d)
 unfolding policy_in policy_shape
 good_policy d =
     good_then 110 _ _ (good_shape 110 _ _ d) (λ done.
-    good_then 110 _ _ (good_member 110 (codes "anti-replay-window-size") _ refl (omega arith)) (λ window.
+    good_then 110 _ _ (good_member 110 (codes "anti-replay-window-size") (number_or 64 32 4096 (get (codes "anti-replay-window-size") d)) refl (omega arith)) (λ window.
     good_then 110 _ _ (good_processing_of (get (codes "processing-info") d)) (λ action.
     good_then 110 _ _ (good_selector_of (get (codes "traffic-selector") d)) (λ selector. good_ok 110 _))))
 
@@ -228,10 +230,10 @@ good_entry : (d : Data) → IsGood 130 (spd_entry_in d)
 unfolding spd_entry_in spd_entry_shape
 good_entry d =
     good_then 130 _ _ (good_shape 130 _ _ d) (λ done.
-    good_then 130 _ _ (good_member 130 (codes "direction") _ refl (omega arith)) (λ direction.
+    good_then 130 _ _ (good_member 130 (codes "direction") (direction_leaf (get (codes "direction") d)) refl (omega arith)) (λ direction.
     good_then 130 _ _ (good_policy_of (get (codes "ipsec-policy-config") d)) (λ policy.
-    good_then 130 _ _ (good_member 130 (codes "name") _ refl (omega arith)) (λ name.
-    good_then 130 _ _ (good_member 130 (codes "reqid") _ refl (omega arith)) (λ reqid. good_ok 130 _)))))
+    good_then 130 _ _ (good_member 130 (codes "name") (name_leaf is_spd_name (get (codes "name") d)) refl (omega arith)) (λ name.
+    good_then 130 _ _ (good_member 130 (codes "reqid") (wide_or 0 (get (codes "reqid") d)) refl (omega arith)) (λ reqid. good_ok 130 _)))))
 
 good_database : (d : Data) → IsGood 205 (database_in d)
 unfolding database_in
@@ -259,7 +261,7 @@ good_encryption : (d : Data) → IsGood 30 (encryption_in d)
 unfolding encryption_in encryption_shape
 good_encryption d =
     good_then 30 _ _ (good_shape 30 _ _ d) (λ done.
-    good_then 30 _ _ (good_member 30 (codes "encryption-algorithm") _ refl (omega arith)) (λ algorithm. good_member 30 (codes "key") _ refl (omega arith)))
+    good_then 30 _ _ (good_member 30 (codes "encryption-algorithm") (fixed_number 20 (get (codes "encryption-algorithm") d)) refl (omega arith)) (λ algorithm. good_member 30 (codes "key") (key_leaf (get (codes "key") d)) refl (omega arith)))
 
 good_suite_key : (d : Data) → IsGood 45 (suite_key d)
 unfolding suite_key
@@ -273,7 +275,7 @@ good_suite_key_of (Some d) = good_within 45 110 (codes "esp-sa") _ refl (omega a
 good_sealing : (d : Data) → IsGood 110 (sealing_in d)
 unfolding sealing_in
 good_sealing d =
-    good_then 110 _ _ (good_member 110 (codes "anti-replay-window-size") _ refl (omega arith)) (λ window.
+    good_then 110 _ _ (good_member 110 (codes "anti-replay-window-size") (number_or 64 32 4096 (get (codes "anti-replay-window-size") d)) refl (omega arith)) (λ window.
     good_then 110 _ _ (good_suite_key_of (get (codes "esp-sa") d)) (λ key.
     good_then 110 _ _ (good_unset 110 (codes "ext-seq-num") d refl (omega arith)) (λ narrow.
     good_then 110 _ _ (good_word 110 (codes "mode") (codes "tunnel") d refl (omega arith)) (λ mode.
@@ -308,9 +310,9 @@ good_tunnel : (d : Data) → IsGood 10 (tunnel_in d)
 unfolding tunnel_in tunnel_shape
 good_tunnel d =
     good_then 10 _ _ (good_shape 10 _ _ d) (λ done.
-    good_then 10 _ _ (good_member 10 (codes "df-bit") _ refl (omega arith)) (λ df.
-    good_then 10 _ _ (good_member 10 (codes "local") _ refl (omega arith)) (λ local.
-    good_then 10 _ _ (good_member 10 (codes "remote") _ refl (omega arith)) (λ remote. good_ok 10 _))))
+    good_then 10 _ _ (good_member 10 (codes "df-bit") (df_leaf (get (codes "df-bit") d)) refl (omega arith)) (λ df.
+    good_then 10 _ _ (good_member 10 (codes "local") (address_leaf (get (codes "local") d)) refl (omega arith)) (λ local.
+    good_then 10 _ _ (good_member 10 (codes "remote") (address_leaf (get (codes "remote") d)) refl (omega arith)) (λ remote. good_ok 10 _))))
 
 good_tunnel_of : (o : Option Data) → IsGood 110 (tunnel_of o)
 good_tunnel_of None = good_here 110 kinds.Missing
@@ -319,7 +321,7 @@ good_tunnel_of (Some d) = good_within 10 110 (codes "tunnel") _ refl (omega arit
 good_traffic : (d : Data) → IsGood 110 (traffic_in d)
 unfolding traffic_in
 good_traffic d =
-    good_then 110 _ _ (good_member 110 (codes "spi") _ refl (omega arith)) (λ spi.
+    good_then 110 _ _ (good_member 110 (codes "spi") (needed_number 256 (2 ^ 32 - 1) (get (codes "spi") d)) refl (omega arith)) (λ spi.
     good_then 110 _ _ (good_selector_of (get (codes "traffic-selector") d)) (λ selector.
     good_then 110 _ _ (good_tunnel_of (get (codes "tunnel") d)) (λ tunnel. good_ok 110 _)))
 
@@ -340,8 +342,8 @@ unfolding sad_entry_in sad_entry_shape
 good_half d =
     good_then 130 _ _ (good_shape 130 _ _ d) (λ done.
     good_then 130 _ _ (good_config_of (get (codes "ipsec-sa-config") d)) (λ config.
-    good_then 130 _ _ (good_member 130 (codes "name") _ refl (omega arith)) (λ name.
-    good_then 130 _ _ (good_member 130 (codes "reqid") _ refl (omega arith)) (λ reqid. good_ok 130 _))))
+    good_then 130 _ _ (good_member 130 (codes "name") (name_leaf is_sad_name (get (codes "name") d)) refl (omega arith)) (λ name.
+    good_then 130 _ _ (good_member 130 (codes "reqid") (wide_or 0 (get (codes "reqid") d)) refl (omega arith)) (λ reqid. good_ok 130 _))))
 
 pub good_sad_entry : (d : Data) → IsGood 230 (one_sad_entry_in d)
 unfolding one_sad_entry_in one_half

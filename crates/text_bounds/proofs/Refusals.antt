@@ -1,5 +1,5 @@
 -- What refuses a request is sound.
-use Rattle.std.proofs.Common.{◌≡◌, ◌≤◌, ℕ, Bool, true, false, List, [], ◌∷◌, codes, length, cond, Option, Some, None, Result, Ok, Err, IsUtf8, subst, refl, arith}
+use Rattle.std.proofs.Common.{◌≡◌, ◌≤◌, ℕ, Bool, true, false, List, [], ◌∷◌, codes, length, cond, is_some, Option, Some, None, Result, Ok, Err, IsUtf8, subst, refl, arith}
 use Rattle.std.specs.Prelude.{IfSome}
 use Rattle.std.specs.Str.{bytes_eq}
 use Rattle.json.proofs.Printed.Utf8.{IsUtf8-are_ascii}
@@ -24,14 +24,12 @@ use Rattle.rc_http.specs.declared.message.HttpFault.{HttpFault}
 use Rattle.rc_http.specs.declared.message.HttpFault.TheVariants as faults
 use Rattle.rc_http.specs.declared.message.HttpMessage.{HttpMessage}
 use Rattle.rc_request.specs.declared.error.RcError.{RcError}
-use Rattle.rc_request.specs.declared.operation.Operation.{Operation}
-use Rattle.rc_request.specs.declared.operation.Operation.TheVariants as operations
 use Rattle.rc_request.specs.declared.resource.Resource.{Resource}
 use Rattle.rc_request.specs.declared.resource.Resource.TheVariants as resources
 use Rattle.rc_request.specs.Operations.{allow_text, method_of, operation_by}
 use Rattle.rc_request.specs.Paths.{resource_of}
 use Rattle.rc_request.specs.Queries.{before_mark, behind_mark, place_of}
-use Rattle.rc_request.specs.Requests.{ask_by, asked, at_place, body_status, by_operation, by_resource, if_named, no_message, no_method, of_body, other_name, plain_ask, plain_error, posted, request_of, unless_query}
+use Rattle.rc_request.specs.Requests.{asked, at_place, body_status, by_operation, by_resource, if_named, no_message, no_method, of_body, other_name, plain_ask, plain_error, posted, request_of, unless_query}
 use Rattle.text_bounds.proofs.Errors.{IsAllowed, IsShort, IsSound, Allowed, Plain, sound_path, status_400, status_404, status_409, status_413, status_501}
 use Rattle.text_bounds.proofs.Fields.{IsPlainStatus}
 use Rattle.text_bounds.proofs.Pointers.{IsGood, good_sad_entry, good_spd, good_spd_entry}
@@ -104,37 +102,14 @@ sound_named name (Err f) g = record { is = g.is }
 
 -- ---- requests
 
-sound_plain : (op : Operation) (body : List ℕ) → AreSound (plain_ask op body)
-sound_plain operations.GetSpd body = asks_something asks.GetSpd
-sound_plain operations.PutSpd body = sound_asked asks.PutSpd (spd_of body) (list_body body)
-sound_plain operations.PostSpd body = sound_posted places.Last (spd_entry_of body) (entry_body body)
-sound_plain (operations.GetSpdEntry name) body = asks_something (asks.GetSpdEntry name)
-sound_plain (operations.PutSpdEntry name) body = sound_named name (spd_entry_of body) (entry_body body)
-sound_plain (operations.DeleteSpdEntry name) body = asks_something (asks.DeleteSpdEntry name)
-sound_plain operations.GetSad body = asks_something asks.GetSad
-sound_plain operations.PostSad body = sound_asked asks.PostSad (sad_entry_of body) (half_body body)
-sound_plain (operations.GetSadEntry name) body = asks_something (asks.GetSadEntry name)
-sound_plain (operations.DeleteSad name) body = asks_something (asks.DeleteSad name)
-
-sound_unless : (op : Operation) (query : Option (List ℕ)) (body : List ℕ) → AreSound (unless_query op query body)
-sound_unless op None body = sound_plain op body
-sound_unless op (Some query) body = record { is = Plain tt status_400 }
+-- an operation without a query; one with a query is refused
+sound_unless : (op : _) (query : Option (List ℕ)) (body : List ℕ) → AreSound (plain_ask op body) → AreSound (unless_query op query body)
+sound_unless op None body g = g
+sound_unless op (Some query) body g = record { is = Plain tt status_400 }
 
 sound_place : (place : Option Place) (body : List ℕ) → AreSound (at_place place body)
 sound_place None body = record { is = Plain tt status_400 }
 sound_place (Some place) body = sound_posted place (spd_entry_of body) (entry_body body)
-
-sound_ask : (op : Operation) (query : Option (List ℕ)) (body : List ℕ) → AreSound (ask_by op query body)
-sound_ask operations.GetSpd query body = sound_unless operations.GetSpd query body
-sound_ask operations.PutSpd query body = sound_unless operations.PutSpd query body
-sound_ask operations.PostSpd query body = sound_place (place_of query) body
-sound_ask (operations.GetSpdEntry name) query body = sound_unless (operations.GetSpdEntry name) query body
-sound_ask (operations.PutSpdEntry name) query body = sound_unless (operations.PutSpdEntry name) query body
-sound_ask (operations.DeleteSpdEntry name) query body = sound_unless (operations.DeleteSpdEntry name) query body
-sound_ask operations.GetSad query body = sound_unless operations.GetSad query body
-sound_ask operations.PostSad query body = sound_unless operations.PostSad query body
-sound_ask (operations.GetSadEntry name) query body = sound_unless (operations.GetSadEntry name) query body
-sound_ask (operations.DeleteSad name) query body = sound_unless (operations.DeleteSad name) query body
 
 allowed : (r : Resource) → IsAllowed (no_method (allow_text r))
 allowed resources.Spd = record { status = refl; value = refl; size = omega arith }
@@ -142,13 +117,55 @@ allowed (resources.SpdEntry name) = record { status = refl; value = refl; size =
 allowed resources.Sad = record { status = refl; value = refl; size = omega arith }
 allowed (resources.SadEntry name) = record { status = refl; value = refl; size = omega arith }
 
-sound_operation : (r : Resource) (op : Option Operation) (m : HttpMessage) → AreSound (by_operation r op m)
-sound_operation r None m = record { is = Allowed tt (allowed r) }
-sound_operation r (Some op) m = sound_ask op (behind_mark 63 m.target) m.body
+-- what is there
+abbrev taken : {X : Type 0} (o : Option X) → is_some o ≡ true → X
+taken None e = absurd (let no : ⊥ = cc in no)
+taken (Some x) e = x
+
+-- each resource by the method
+
+on_spd : (m : HttpMessage) (get put post delete : Bool) → bytes_eq m.method (codes "GET") ≡ get → bytes_eq m.method (codes "PUT") ≡ put → bytes_eq m.method (codes "POST") ≡ post
+    → bytes_eq m.method (codes "DELETE") ≡ delete → AreSound (by_operation resources.Spd (operation_by resources.Spd (method_of m.method)) m)
+unfolding method_of
+on_spd m true put post delete a b c d = rw a (sound_unless (taken (operation_by resources.Spd (method_of (codes "GET"))) refl) (behind_mark 63 m.target) m.body (asks_something asks.GetSpd))
+on_spd m false true post delete a b c d = rw (a, b) (sound_unless (taken (operation_by resources.Spd (method_of (codes "PUT"))) refl) (behind_mark 63 m.target) m.body (sound_asked asks.PutSpd (spd_of m.body) (list_body m.body)))
+on_spd m false false true delete a b c d = rw (a, b, c) (sound_place (place_of (behind_mark 63 m.target)) m.body)
+on_spd m false false false true a b c d = rw (a, b, c, d) (record { is = Allowed tt (allowed resources.Spd) })
+on_spd m false false false false a b c d = rw (a, b, c, d) (record { is = Allowed tt (allowed resources.Spd) })
+
+on_spd_entry : (name : List ℕ) (m : HttpMessage) (get put post delete : Bool) → bytes_eq m.method (codes "GET") ≡ get → bytes_eq m.method (codes "PUT") ≡ put → bytes_eq m.method (codes "POST") ≡ post
+    → bytes_eq m.method (codes "DELETE") ≡ delete → AreSound (by_operation (resources.SpdEntry name) (operation_by (resources.SpdEntry name) (method_of m.method)) m)
+unfolding method_of
+on_spd_entry name m true put post delete a b c d = rw a (sound_unless (taken (operation_by (resources.SpdEntry name) (method_of (codes "GET"))) refl) (behind_mark 63 m.target) m.body (asks_something (asks.GetSpdEntry name)))
+on_spd_entry name m false true post delete a b c d = rw (a, b) (sound_unless (taken (operation_by (resources.SpdEntry name) (method_of (codes "PUT"))) refl) (behind_mark 63 m.target) m.body (sound_named name (spd_entry_of m.body) (entry_body m.body)))
+on_spd_entry name m false false true delete a b c d = rw (a, b, c) (record { is = Allowed tt (allowed (resources.SpdEntry name)) })
+on_spd_entry name m false false false true a b c d = rw (a, b, c, d) (sound_unless (taken (operation_by (resources.SpdEntry name) (method_of (codes "DELETE"))) refl) (behind_mark 63 m.target) m.body (asks_something (asks.DeleteSpdEntry name)))
+on_spd_entry name m false false false false a b c d = rw (a, b, c, d) (record { is = Allowed tt (allowed (resources.SpdEntry name)) })
+
+on_sad : (m : HttpMessage) (get put post delete : Bool) → bytes_eq m.method (codes "GET") ≡ get → bytes_eq m.method (codes "PUT") ≡ put → bytes_eq m.method (codes "POST") ≡ post
+    → bytes_eq m.method (codes "DELETE") ≡ delete → AreSound (by_operation resources.Sad (operation_by resources.Sad (method_of m.method)) m)
+unfolding method_of
+on_sad m true put post delete a b c d = rw a (sound_unless (taken (operation_by resources.Sad (method_of (codes "GET"))) refl) (behind_mark 63 m.target) m.body (asks_something asks.GetSad))
+on_sad m false true post delete a b c d = rw (a, b) (record { is = Allowed tt (allowed resources.Sad) })
+on_sad m false false true delete a b c d = rw (a, b, c) (sound_unless (taken (operation_by resources.Sad (method_of (codes "POST"))) refl) (behind_mark 63 m.target) m.body (sound_asked asks.PostSad (sad_entry_of m.body) (half_body m.body)))
+on_sad m false false false true a b c d = rw (a, b, c, d) (record { is = Allowed tt (allowed resources.Sad) })
+on_sad m false false false false a b c d = rw (a, b, c, d) (record { is = Allowed tt (allowed resources.Sad) })
+
+on_sad_entry : (name : List ℕ) (m : HttpMessage) (get put post delete : Bool) → bytes_eq m.method (codes "GET") ≡ get → bytes_eq m.method (codes "PUT") ≡ put → bytes_eq m.method (codes "POST") ≡ post
+    → bytes_eq m.method (codes "DELETE") ≡ delete → AreSound (by_operation (resources.SadEntry name) (operation_by (resources.SadEntry name) (method_of m.method)) m)
+unfolding method_of
+on_sad_entry name m true put post delete a b c d = rw a (sound_unless (taken (operation_by (resources.SadEntry name) (method_of (codes "GET"))) refl) (behind_mark 63 m.target) m.body (asks_something (asks.GetSadEntry name)))
+on_sad_entry name m false true post delete a b c d = rw (a, b) (record { is = Allowed tt (allowed (resources.SadEntry name)) })
+on_sad_entry name m false false true delete a b c d = rw (a, b, c) (record { is = Allowed tt (allowed (resources.SadEntry name)) })
+on_sad_entry name m false false false true a b c d = rw (a, b, c, d) (sound_unless (taken (operation_by (resources.SadEntry name) (method_of (codes "DELETE"))) refl) (behind_mark 63 m.target) m.body (asks_something (asks.DeleteSad name)))
+on_sad_entry name m false false false false a b c d = rw (a, b, c, d) (record { is = Allowed tt (allowed (resources.SadEntry name)) })
 
 sound_resource : (r : Option Resource) (m : HttpMessage) → AreSound (by_resource r m)
 sound_resource None m = record { is = Plain tt status_404 }
-sound_resource (Some r) m = sound_operation r (operation_by r (method_of m.method)) m
+sound_resource (Some resources.Spd) m = on_spd m _ _ _ _ refl refl refl refl
+sound_resource (Some (resources.SpdEntry name)) m = on_spd_entry name m _ _ _ _ refl refl refl refl
+sound_resource (Some resources.Sad) m = on_sad m _ _ _ _ refl refl refl refl
+sound_resource (Some (resources.SadEntry name)) m = on_sad_entry name m _ _ _ _ refl refl refl refl
 
 sound_request : (m : HttpMessage) → AreSound (request_of m)
 unfolding request_of

@@ -9,7 +9,9 @@ use Rattle.ikeless_tree.specs.declared.entry.SpdEntry.{SpdEntry}
 use Rattle.ikeless_tree.specs.declared.order.Order.{Order}
 use Rattle.ikeless_tree.specs.declared.order.Order.TheVariants as orders
 use Rattle.ikeless_tree.specs.declared.reply.App.{App}
+use Rattle.ikeless_tree.specs.declared.reply.App.TheVariants as apps
 use Rattle.ikeless_tree.specs.declared.reply.Tag.{Tag}
+use Rattle.ikeless_tree.specs.declared.reply.Tag.TheVariants as tags
 use Rattle.ikeless_tree.specs.declared.sad.SadEntry.{SadEntry}
 use Rattle.ikeless_tree.specs.declared.sad.SadRow.{SadRow}
 use Rattle.ikeless_tree.specs.declared.sad.Tree.{Tree}
@@ -92,7 +94,7 @@ are_entries [] is h = tt
 are_entries (e ∷ es) is h = ((is.0, h.0), are_entries es is.1 h.1)
 
 sends_policy : (t : Tree) (o : Option SpdEntry) → IfSome o IsEntry → Sends (show_policy t o)
-sends_policy t None is = sends_refused 404 _ _ t status_404
+sends_policy t None is = sends_refused 404 tags.InvalidValue apps.Absent t status_404
 sends_policy t (Some e) is = let size = policy_text_size e is.0 is.1 in sends_shown t (Policy e) (omega (arith, size))
 
 sends_posted_policy : (t : Tree) (e : SpdEntry) (place : Place) → spd_fault (e ∷ []) ≡ None → Sends (post_spd t e place)
@@ -100,17 +102,19 @@ sends_posted_policy t e place h =
     let m : Outcome = made (At_policy e.name) changes.Spd (with_spd t (put_at place e t.spd)) in
     let p : Outcome = if not (has_point place t.spd) then no_point t else m in
     let f : Outcome = if is_spd_full t.spd then full t else p in
-    either (has_policy e.name t.spd) (exists t) f (sends_refused 409 _ _ t status_409)
-    (either (is_spd_full t.spd) (full t) p (sends_refused 409 _ _ t status_409)
-    (either (not (has_point place t.spd)) (no_point t) m (sends_refused 400 _ _ t status_400) (sends_policy_made e.name _ _ e refl h)))
+    either (has_policy e.name t.spd) (exists t) f (sends_refused 409 tags.ResourceDenied apps.Exists t status_409)
+    (either (is_spd_full t.spd) (full t) p (sends_refused 409 tags.ResourceDenied apps.Full t status_409)
+    (either (not (has_point place t.spd)) (no_point t) m (sends_refused 400 tags.InvalidValue apps.Point t status_400)
+    (sends_policy_made e.name changes.Spd (with_spd t (put_at place e t.spd)) e refl h)))
 
 sends_put_policy : (t : Tree) (e : SpdEntry) → spd_fault (e ∷ []) ≡ None → Sends (put_spd_entry t e)
 sends_put_policy t e h =
     let d : Outcome = done changes.Spd (with_spd t (replaced e t.spd)) in
     let m : Outcome = made (At_policy e.name) changes.Spd (with_spd t (t.spd ++ e ∷ [])) in
     let f : Outcome = if is_spd_full t.spd then full t else m in
-    either (has_policy e.name t.spd) d f (sends_done _ _)
-    (either (is_spd_full t.spd) (full t) m (sends_refused 409 _ _ t status_409) (sends_policy_made e.name _ _ e refl h))
+    either (has_policy e.name t.spd) d f (sends_done changes.Spd (with_spd t (replaced e t.spd)))
+    (either (is_spd_full t.spd) (full t) m (sends_refused 409 tags.ResourceDenied apps.Full t status_409)
+    (sends_policy_made e.name changes.Spd (with_spd t (t.spd ++ e ∷ [])) e refl h))
 
 -- ---- halves
 
@@ -138,7 +142,7 @@ are_rows [] is h = tt
 are_rows (r ∷ rs) is h = ((is.0, h.0), are_rows rs is.1 h.1)
 
 sends_half : (t : Tree) (o : Option SadRow) → IfSome o IsRow → Sends (show_half t o)
-sends_half t None is = sends_refused 404 _ _ t status_404
+sends_half t None is = sends_refused 404 tags.InvalidValue apps.Absent t status_404
 sends_half t (Some r) is = let size = row_size r is.0 is.1 in sends_shown t (Half r) (omega (arith, size))
 
 sends_halves : (t : Tree) → IsTree t → AreTypedRows t.sad → Sends (get_sad t)
@@ -151,9 +155,10 @@ sends_posted_half t e h =
     let m : Outcome = made (At_half e.name) (changes.Put e) (with_sad t (t.sad ++ new_row e ∷ [])) in
     let f : Outcome = if is_sad_full t.sad then full t else m in
     let s : Outcome = if is_inbound e.name && has_spi e.spi t.sad then spi_taken t else f in
-    either (list_any (is_row e.name) t.sad) (exists t) s (sends_refused 409 _ _ t status_409)
-    (either (is_inbound e.name && has_spi e.spi t.sad) (spi_taken t) f (sends_refused 409 _ _ t status_409)
-    (either (is_sad_full t.sad) (full t) m (sends_refused 409 _ _ t status_409) (sends_half_made _ _ e h)))
+    either (list_any (is_row e.name) t.sad) (exists t) s (sends_refused 409 tags.ResourceDenied apps.Exists t status_409)
+    (either (is_inbound e.name && has_spi e.spi t.sad) (spi_taken t) f (sends_refused 409 tags.ResourceDenied apps.SpiTaken t status_409)
+    (either (is_sad_full t.sad) (full t) m (sends_refused 409 tags.ResourceDenied apps.Full t status_409)
+    (sends_half_made (changes.Put e) (with_sad t (t.sad ++ new_row e ∷ [])) e h)))
 
 -- ---- asks
 
@@ -168,14 +173,14 @@ reply_sent t (asks.GetSpdEntry name) is typed h =
     (found IsEntry (is_named name) t.spd (are_entries t.spd (passed_policies t.spd is.policies) (recursion_from_All IsTypedPolicy t.spd typed.spd)))
 reply_sent t (asks.PutSpdEntry e) is typed h = sends_put_policy t e h
 reply_sent t (asks.DeleteSpdEntry name) is typed h =
-    either (has_policy name t.spd) (done changes.Spd (with_spd t (without_policy name t.spd))) (absent t) (sends_done _ _) (sends_refused 404 _ _ t status_404)
+    either (has_policy name t.spd) (done changes.Spd (with_spd t (without_policy name t.spd))) (absent t) (sends_done changes.Spd (with_spd t (without_policy name t.spd))) (sends_refused 404 tags.InvalidValue apps.Absent t status_404)
 reply_sent t asks.GetSad is typed h = sends_halves t is typed.sad
 reply_sent t (asks.PostSad e) is typed h = sends_posted_half t e h
 reply_sent t (asks.GetSadEntry name) is typed h =
     sends_half t (find (is_row name) t.sad)
     (found IsRow (is_row name) t.sad (are_rows t.sad (sized_halves t.sad is.halves) (recursion_from_All IsTypedRow t.sad typed.sad)))
 reply_sent t (asks.DeleteSad name) is typed h =
-    either (list_any (is_row name) t.sad) (done (changes.Gone name) (with_sad t (without_row name t.sad))) (absent t) (sends_done _ _) (sends_refused 404 _ _ t status_404)
+    either (list_any (is_row name) t.sad) (done (changes.Gone name) (with_sad t (without_row name t.sad))) (absent t) (sends_done (changes.Gone name) (with_sad t (without_row name t.sad))) (sends_refused 404 tags.InvalidValue apps.Absent t status_404)
 
 order_asks : (o : Order) → IsOrder o → IsAsk (ask_of o)
 order_asks orders.Read h = tt

@@ -100,7 +100,7 @@ sized_selector s few h =
     (sized_ports 66 12 (codes "remote-ports") s.remote_ports _ refl (same 12) (few_right (length s.local_ports) (length s.remote_ports) few) h.remote_ports
     (tight_put 1 48 13 (codes "remote-prefix") (string (prefix_text s.remote)) no_members refl (same 13) (sized_prefix s.remote h.remote) sized_none)))))
 
-sized_only : (m n : ℕ) (name : List ℕ) (d : Data) → list_all is_plain name ≡ true → length name ≤ n → IsSized m d → IsSized (1 + m + n + 4 + 1) (only name d)
+pub sized_only : (m n : ℕ) (name : List ℕ) (d : Data) → list_all is_plain name ≡ true → length name ≤ n → IsSized m d → IsSized (1 + m + n + 4 + 1) (only name d)
 sized_only m n name d plain short f = sized_object (1 + m + n + 4) _ (tight_put 1 m n name d no_members plain short f sized_none)
 
 -- ---- policies
