@@ -10,7 +10,7 @@ use Rattle.hist_acts.specs.declared.act.Act.{Act}
 use Rattle.hist_acts.specs.declared.event.Event.{Event}
 use Rattle.hist_acts.specs.declared.event.Header.{Header}
 use Rattle.hist_acts.specs.Past.{events_taken}
-use Rattle.hist_acts.specs.Sessions.{answered, openings, orders}
+use Rattle.hist_acts.specs.Sessions as sessions
 use Rattle.hist_gateway.specs.Handle.{requests}
 use Rattle.hist_controller.specs.Acts.{PlacedCommand, SetPolicy, Tunnel, End, Rekey, Keys, ControllerAct, Accepted}
 use Rattle.hist_controller.specs.Entries.{SoundCommands}
@@ -52,10 +52,10 @@ AreSpelledCommands (_ ∷ h) = AreSpelledCommands h
 
 -- At most one session is opened, one request handled and one answer heard at an event, and at most 2,051 orders are given.
 pub record AreFewAt (g : List ℕ) (h : List Act) : Type 0 where
-  pub openings : openings g h ≤ events_taken h
+  pub openings : sessions.openings g h ≤ events_taken h
   pub handled : requests g h ≤ events_taken h
-  pub answered : answered g (openings g h) h ≤ events_taken h
-  pub orders : orders g (openings g h) h ≤ 2051 * events_taken h
+  pub answered : sessions.answered g (sessions.openings g h) h ≤ events_taken h
+  pub orders : sessions.orders g (sessions.openings g h) h ≤ 2051 * events_taken h
 
 -- What holds between the events of a script without a forged arrival, of a header and of events that lines can spell.
 pub record IsTold (header : Header) (p : Past) : Type 0 where

@@ -1,0 +1,4 @@
+pub mod Each
+pub mod Found
+pub mod Octets
+pub mod Ciphers
