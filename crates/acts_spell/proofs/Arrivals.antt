@@ -20,7 +20,7 @@ use Rattle.ikeless_tree.specs.declared.sad.SadEntry.{SadEntry}
 use Rattle.esp_frame.specs.Esp.{keying, seq_of, spi_of}
 use Rattle.esp_frame.specs.Open as esp
 use Rattle.line_words.specs.Spelling.{IsKnown}
-use Rattle.replay_win.specs.Marks.{verdict_over}
+use Rattle.replay_win.specs.Marks.{greatest, verdict_over}
 use Rattle.replay_win.specs.declared.verdict.Verdict.{Verdict}
 use Rattle.replay_win.specs.declared.verdict.Verdict.TheVariants as verdicts
 use Rattle.spd_match.specs.Match.{first_entry, holds_packet}
@@ -53,9 +53,12 @@ seq-small b h = word-small (take 4 (drop 4 b)) (All-take IsOctet 4 (drop 4 b) (A
 widened : (n : ℕ) → n < 2 ^ 32 → n < 2 ^ 64
 widened n l = omega (arith, l)
 
-pub number-small : (e : SadEntry) (numbers b : List ℕ) → AreOctets b → number_of e numbers b < 2 ^ 64
+pub from-small : (e : SadEntry) (top : ℕ) (b : List ℕ) → AreOctets b → number_from e top b < 2 ^ 64
 unfolding number_from
-number-small e numbers b h = widened (seq_of b) (seq-small b h)
+from-small e top b h = widened (seq_of b) (seq-small b h)
+
+number-small : (e : SadEntry) (numbers b : List ℕ) → AreOctets b → number_of e numbers b < 2 ^ 64
+number-small e numbers b h = from-small e (greatest numbers) b h
 
 -- ---- the half of an SPI
 

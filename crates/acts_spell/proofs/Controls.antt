@@ -1,5 +1,5 @@
 -- The acts of the controller at an event: what they leave of commands and answers, how many they are, and that they have lines.
-use Rattle.std.proofs.Common.{◌≡◌, ℕ, zero, suc, ◌+◌, ◌<◌, ◌≤◌, ◌==◌, ◌&&◌, ◌||◌, nat_le, Bool, true, false, List, [], ◌∷◌, ◌++◌, length, Option, Some, None, inl, inr, refl, sym, ◌∙◌, ap, subst, arith, if◌then◌else◌}
+use Rattle.std.proofs.Common.{◌≡◌, ℕ, ◌+◌, ◌-◌, ◌<◌, ◌≤◌, ◌==◌, ◌&&◌, ◌||◌, nat_le, Bool, true, false, List, [], ◌∷◌, ◌++◌, length, Option, Some, None, inl, inr, refl, sym, ◌∙◌, ap, subst, arith, if◌then◌else◌}
 use Rattle.std.specs.List.{AllByRecursion, list_any}
 use Rattle.std.specs.Str.{bytes_eq}
 use Rattle.ikeless_tree.specs.declared.command.Command.{Command}
@@ -22,7 +22,7 @@ use Rattle.hist_controller.proofs.Spent.{short-block}
 use Rattle.hist_safety.proofs.Basics.{name-self, no}
 use Rattle.hist_world.proofs.Controls.{are_orders, then-orders}
 use Rattle.acts_spell.specs.Spelled.{AreSpelledCommands, IsSpelledCommand}
-use Rattle.acts_spell.proofs.Counts.{AreFew, count_answered, count_handled, count_opened, count_orders}
+use Rattle.acts_spell.proofs.Counts.{AreFew, count_answered, count_handled, count_opened, count_orders, count_taken}
 use Rattle.acts_spell.proofs.Each.{each-append}
 use Rattle.acts_spell.proofs.Ordered.{ArePeers, order-good}
 use Rattle.acts_spell.proofs.Told.{IsTellable}
@@ -92,6 +92,16 @@ orders-count ps (Heard f s t ∷ xs) = let e = orders-count ps xs in omega (arit
 orders-count ps (Accepted c ∷ xs) = let e = orders-count ps xs in omega (arith, e)
 orders-count ps (Refused w ∷ xs) = let e = orders-count ps xs in omega (arith, e)
 
+never-taken : (ps : List Peer) (xs : List ControllerAct) → count_taken (all_told ps xs) ≡ 0
+never-taken ps [] = refl
+never-taken ps (Ordered g s n o ∷ xs) = never-taken ps xs
+never-taken ps (Opened f s ∷ xs) = never-taken ps xs
+never-taken ps (Cut f s ∷ xs) = never-taken ps xs
+never-taken ps (Answered f s n a ∷ xs) = never-taken ps xs
+never-taken ps (Heard f s t ∷ xs) = never-taken ps xs
+never-taken ps (Accepted c ∷ xs) = never-taken ps xs
+never-taken ps (Refused w ∷ xs) = never-taken ps xs
+
 -- orders alone open, handle and answer nothing
 record AreOrdersAlone (xs : List Act) : Type 0 where
   pub opened : count_opened xs ≡ 0
@@ -155,7 +165,7 @@ block-few ps h e l =
     let m = few-besides ps h e in
     let n = orders-count ps (block ps h e) in
     let k = short-block ps h e l in
-    record { opened = m.opened; handled = m.handled; answered = m.answered; orders = omega (arith, n, k) }
+    record { taken = never-taken ps (block ps h e); opened = m.opened; handled = m.handled; answered = m.answered; orders = omega (arith, n, k) }
 
 -- ---- names
 
@@ -169,8 +179,10 @@ or-right false c e = e
 
 name-known : (ps : List Peer) (g : ℕ) → g < length ps → is_named ps (peer_name ps g) ≡ true
 name-known [] g i = absurd (omega (arith, i))
-name-known (p ∷ ps) zero i = or-true (bytes_eq p.name p.name) (is_named ps p.name) (name-self p.name)
-name-known (p ∷ ps) (suc g) i = or-right (bytes_eq p.name (peer_name ps g)) (is_named ps (peer_name ps g)) (name-known ps g (omega (arith, i)))
+name-known (p ∷ ps) g i = by-place (g == 0) refl (name-known ps (g - 1)) where
+  by-place : (b : Bool) → (g == 0) ≡ b → (g - 1 < length ps → is_named ps (peer_name ps (g - 1)) ≡ true) → is_named (p ∷ ps) (if b then p.name else peer_name ps (g - 1)) ≡ true
+  by-place true e f = or-true (bytes_eq p.name p.name) (is_named ps p.name) (name-self p.name)
+  by-place false e f = or-right (bytes_eq p.name (peer_name ps (g - 1))) (is_named ps (peer_name ps (g - 1))) (f (grind (arith, e, i)))
 
 -- ---- which acts have lines
 

@@ -34,8 +34,14 @@ count_orders [] = 0
 count_orders (acts.Order g s k o ∷ xs) = count_orders xs + 1
 count_orders (_ ∷ xs) = count_orders xs
 
--- so many at most
+abbrev pub count_taken : List Act → ℕ
+count_taken [] = 0
+count_taken (acts.Took k ∷ xs) = count_taken xs + 1
+count_taken (_ ∷ xs) = count_taken xs
+
+-- so many at most, and no further event
 pub record AreFew (xs : List Act) : Type 0 where
+  pub taken : count_taken xs ≡ 0
   pub opened : count_opened xs ≤ 1
   pub handled : count_handled xs ≤ 1
   pub answered : count_answered xs ≤ 1
@@ -43,6 +49,7 @@ pub record AreFew (xs : List Act) : Type 0 where
 
 -- none of these
 abbrev pub is_quiet : Act → Bool
+is_quiet (acts.Took k) = false
 is_quiet (acts.Opened g s) = false
 is_quiet (acts.Handled g s k a) = false
 is_quiet (acts.Answered g s k a) = false
@@ -53,27 +60,29 @@ abbrev pub are_quiet : List Act → Bool
 are_quiet xs = list_all is_quiet xs
 
 record AreNone (xs : List Act) : Type 0 where
+  pub taken : count_taken xs ≡ 0
   pub opened : count_opened xs ≡ 0
   pub handled : count_handled xs ≡ 0
   pub answered : count_answered xs ≡ 0
   pub orders : count_orders xs ≡ 0
 
 quiet-cons : (a : Act) (xs : List Act) → is_quiet a ≡ true → AreNone xs → AreNone (a ∷ xs)
+quiet-cons (acts.Took k) xs e n = absurd (no e)
 quiet-cons (acts.Opened g s) xs e n = absurd (no e)
 quiet-cons (acts.Handled g s k a) xs e n = absurd (no e)
 quiet-cons (acts.Answered g s k a) xs e n = absurd (no e)
 quiet-cons (acts.Order g s k o) xs e n = absurd (no e)
-quiet-cons a xs e n = record { opened = n.opened; handled = n.handled; answered = n.answered; orders = n.orders }
+quiet-cons a xs e n = record { taken = n.taken; opened = n.opened; handled = n.handled; answered = n.answered; orders = n.orders }
 
 quiet-none : (xs : List Act) → are_quiet xs ≡ true → AreNone xs
-quiet-none [] e = record { opened = refl; handled = refl; answered = refl; orders = refl }
+quiet-none [] e = record { taken = refl; opened = refl; handled = refl; answered = refl; orders = refl }
 quiet-none (a ∷ xs) e = quiet-cons a xs (both-left (is_quiet a) (are_quiet xs) e) (quiet-none xs (both-right (is_quiet a) (are_quiet xs) e))
 
 pub quiet-few : (xs : List Act) → are_quiet xs ≡ true → AreFew xs
 quiet-few xs e =
     let n = quiet-none xs e in
     let a = n.opened in let b = n.handled in let c = n.answered in let d = n.orders in
-    record { opened = omega (arith, a); handled = omega (arith, b); answered = omega (arith, c); orders = omega (arith, d) }
+    record { taken = n.taken; opened = omega (arith, a); handled = omega (arith, b); answered = omega (arith, c); orders = omega (arith, d) }
 
 -- ---- a session that isn't opened yet has none
 
@@ -161,15 +170,12 @@ room-from g n h xs few more =
 
 -- ---- after the acts
 
-fewer-taken : (a : Act) (h : List Act) → events_taken h ≤ events_taken (a ∷ h)
-fewer-taken (acts.Took n) h = omega arith
-fewer-taken a h = omega arith
+pub taken-same : (h xs : List Act) → count_taken xs ≡ 0 → events_taken (after h xs) ≡ events_taken h
+taken-same h [] e = refl
+taken-same h (acts.Took k ∷ xs) e = absurd (omega (arith, e))
+taken-same h (a ∷ xs) e = taken-same (a ∷ h) xs e
 
-taken-grows : (h xs : List Act) → events_taken h ≤ events_taken (after h xs)
-taken-grows h [] = omega arith
-taken-grows h (a ∷ xs) = let p = fewer-taken a h in let q = taken-grows (a ∷ h) xs in omega (arith, p, q)
-
-room-end : (m : ℕ) (g : List ℕ) (h : List Act) → m ≤ events_taken h → HasRoom m g h [] → AreFewAt g h
+room-end : (m : ℕ) (g : List ℕ) (h : List Act) → events_taken h ≡ m → HasRoom m g h [] → AreFewAt g h
 room-end m g h l r =
     let a = r.openings in let b = r.handled in let c = r.answered in let d = r.orders in
     record { openings = omega (arith, a, l); handled = omega (arith, b, l); answered = omega (arith, c, l); orders = omega (arith, d, l) }
@@ -182,5 +188,5 @@ all-steps m g h (a ∷ xs) k back r = all-steps m g (a ∷ h) xs k back (room-st
 pub few-after : ((k xs : List Act) → KeepsSessions (after k xs) → KeepsSessions k) → (g : List ℕ) (n : ℕ) (h xs : List Act) → AreFewAt g h → AreFew xs
     → KeepsSessions (after (acts.Took n ∷ h) xs) → AreFewAt g (after (acts.Took n ∷ h) xs)
 few-after back g n h xs few more k =
-    let t = taken-grows (acts.Took n ∷ h) xs in
+    let t = taken-same (acts.Took n ∷ h) xs more.taken in
     room-end (events_taken h + 1) g (after (acts.Took n ∷ h) xs) t (all-steps (events_taken h + 1) g (acts.Took n ∷ h) xs k back (room-from g n h xs few more))

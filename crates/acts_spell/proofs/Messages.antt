@@ -19,7 +19,9 @@ use Rattle.ikeless_tree.specs.declared.order.Notice.TheVariants as notices
 use Rattle.ikeless_tree.specs.declared.order.Order.{Order}
 use Rattle.ikeless_tree.specs.declared.order.Order.TheVariants as orders
 use Rattle.ikeless_tree.specs.declared.reply.App.{App}
+use Rattle.ikeless_tree.specs.declared.reply.App.TheVariants as apps
 use Rattle.ikeless_tree.specs.declared.reply.Tag.{Tag}
+use Rattle.ikeless_tree.specs.declared.reply.Tag.TheVariants as tags
 use Rattle.ikeless_tree.specs.declared.sad.SadEntry.{SadEntry}
 use Rattle.ikeless_tree.specs.declared.sad.SadRow.{SadRow}
 use Rattle.ikeless_tree.specs.declared.sad.Tree.{Tree}
@@ -30,7 +32,7 @@ use Rattle.json_tree.specs.SadEntryWritten.{ArePassed, all_rows}
 use Rattle.reply_table.specs.Order.{ask_of}
 use Rattle.reply_table.specs.Reply.{At_half, Outcome, absent, delete_sad, done, exists, full, has_spi, is_row, is_sad_full, made, new_row, post_sad, reply, spi_taken, with_sad, with_spd, without_row}
 use Rattle.reply_table.specs.declared.ask.Change.TheVariants as changes
-use Rattle.rc_http.specs.Written.{length_names, own_names, request_head, request_line, request_names, request_text, response_head, response_names, response_text, status_line, status_text, text_at, text_or_none, type_names}
+use Rattle.rc_http.specs.Written.{length_names, own_names, request_head, request_line, request_names, request_text, response_head, response_names, response_text, status_line, status_text, statuses, text_at, text_or_none, type_names}
 use Rattle.rc_resource.specs.Errors.{error_data}
 use Rattle.rc_resource.specs.Messages.{field, host_text, if_type, length_field, order_body, order_message, order_method, order_target, own_field, reply_message, type_field}
 use Rattle.rc_resource.specs.Messages as messages
@@ -129,9 +131,9 @@ either-carried false x y p q = q
 
 put-carried : (t : Tree) (e : SadEntry) → is_sad_name e.name ≡ true → IsCarried (post_sad t e)
 put-carried t e n =
-    let a : IsCarried (exists t) = record { location = none; body = refused-body _ _ } in
-    let b : IsCarried (spi_taken t) = record { location = none; body = refused-body _ _ } in
-    let c : IsCarried (full t) = record { location = none; body = refused-body _ _ } in
+    let a : IsCarried (exists t) = record { location = none; body = refused-body tags.ResourceDenied apps.Exists } in
+    let b : IsCarried (spi_taken t) = record { location = none; body = refused-body tags.ResourceDenied apps.SpiTaken } in
+    let c : IsCarried (full t) = record { location = none; body = refused-body tags.ResourceDenied apps.Full } in
     let d : IsCarried (made (At_half e.name) (changes.Put e) (with_sad t (t.sad ++ new_row e ∷ []))) = record { location = half-path-octets e.name n; body = none } in
     either-carried (list_any (is_row e.name) t.sad) (exists t) _ a
     (either-carried (is_inbound e.name && has_spi e.spi t.sad) (spi_taken t) _ b (either-carried (is_sad_full t.sad) (full t) _ c d))
@@ -139,7 +141,7 @@ put-carried t e n =
 gone-carried : (t : Tree) (x : List ℕ) → IsCarried (delete_sad t x)
 gone-carried t x =
     let a : IsCarried (done (changes.Gone x) (with_sad t (without_row x t.sad))) = record { location = none; body = none } in
-    let b : IsCarried (absent t) = record { location = none; body = refused-body _ _ } in
+    let b : IsCarried (absent t) = record { location = none; body = refused-body tags.InvalidValue apps.Absent } in
     either-carried (list_any (is_row x) t.sad) _ (absent t) a b
 
 carried : (t : Tree) (o : Order) → AllByRecursion IsGoodRow t.sad → ((e : SadEntry) → o ≡ orders.Put e → is_sad_name e.name ≡ true) → IsCarried (reply t (ask_of o))
@@ -152,16 +154,20 @@ carried t (orders.Remove x) h n = gone-carried t x
 
 texts : (n : ℕ) (rows : List (ℕ × List ℕ)) → AllByRecursion (λ row. AreOctets row.1) rows → AreOctets (text_or_none (text_at n rows))
 texts n [] h = none
-texts n (row ∷ rows) h = by-number (n == row.0) where
-  by-number : (b : Bool) → AreOctets (text_or_none (if b then Some row.1 else text_at n rows))
-  by-number true = h.0
-  by-number false = texts n rows h.1
+texts n (row ∷ rows) h = by-number (n == row.0) (texts n rows h.1) where
+  by-number : (b : Bool) → AreOctets (text_or_none (text_at n rows)) → AreOctets (text_or_none (if b then Some row.1 else text_at n rows))
+  by-number true more = h.0
+  by-number false more = more
+
+each-status : AllByRecursion (λ row. AreOctets row.1) statuses
+each-status =
+    (word (codes "200 OK") refl, (word (codes "201 Created") refl, (word (codes "204 No Content") refl, (word (codes "400 Bad Request") refl, (word (codes "404 Not Found") refl,
+    (word (codes "405 Method Not Allowed") refl, (word (codes "409 Conflict") refl, (word (codes "413 Content Too Large") refl, (word (codes "501 Not Implemented") refl, tt)))))))))
 
 status-octets : (n : ℕ) → AreOctets (status_line n)
 status-octets n =
     All-append IsOctet (codes "HTTP/1.1 ") (text_or_none (status_text n)) (word (codes "HTTP/1.1 ") refl)
-    (texts n _ (word (codes "200 OK") refl, (word (codes "201 Created") refl, (word (codes "204 No Content") refl, (word (codes "400 Bad Request") refl, (word (codes "404 Not Found") refl,
-    (word (codes "405 Method Not Allowed") refl, (word (codes "409 Conflict") refl, (word (codes "413 Content Too Large") refl, (word (codes "501 Not Implemented") refl, tt))))))))))
+    (texts n statuses each-status)
 
 length-name : (n : ℕ) → AllByRecursion AreOctets (length_names n)
 length-name n = each-if AreOctets (n == 204) [] (codes "Content-Length" ∷ []) tt (word (codes "Content-Length") refl, tt)

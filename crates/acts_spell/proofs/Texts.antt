@@ -131,10 +131,10 @@ HaveOctets fields = AllByRecursion (λ field. AreOctets field.1) fields
 
 appended : (m : Entries FieldValue) (name : List ℕ) (v : FieldValue) → AreOctets v.bytes → AreEntries m → AreEntries (append m name v)
 appended [] name v o h = ((o, tt), tt)
-appended (e ∷ m) name v o h = by-name (bytes_eq e.0 name) where
-  by-name : (b : Bool) → AreEntries (if b then (e.0, e.1 ++ v ∷ []) ∷ m else e ∷ append m name v)
-  by-name true = (each-append (λ x. AreOctets x.bytes) e.1 (v ∷ []) h.0 (o, tt), h.1)
-  by-name false = (h.0, appended m name v o h.1)
+appended (e ∷ m) name v o h = by-name (bytes_eq e.0 name) (appended m name v o h.1) where
+  by-name : (b : Bool) → AreEntries (append m name v) → AreEntries (if b then (e.0, e.1 ++ v ∷ []) ∷ m else e ∷ append m name v)
+  by-name true more = (each-append (λ x. AreOctets x.bytes) e.1 (v ∷ []) h.0 (o, tt), h.1)
+  by-name false more = (h.0, more)
 
 mapped-from : (m : Entries FieldValue) (fields : List (List ℕ × List ℕ)) → HaveOctets fields → AreEntries m → AreEntries (append_all m (map lowered fields))
 mapped-from m [] f h = h

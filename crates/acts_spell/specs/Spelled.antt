@@ -23,7 +23,7 @@ use Rattle.session_pipe.specs.Sessions.{KeepsSessions}
 
 -- a header that a line can spell
 pub record IsSpelledHeader (header : Header) : Type 0 where
-  pub header : IsHeader header
+  pub sound : IsHeader header
   pub least : 1 ≤ header.seq_last
   pub names : IsTrue (are_spelled header.gateways)
   pub addresses : All (λ p. IsAddress p.address) header.gateways
