@@ -70,7 +70,7 @@ pairs-each i (high ∷ low ∷ rest) octets e =
     let P : Type 0 = AllByRecursion IsOctet octets in
     bound P (pair_value high low i) (λ b. decode_pairs (i + 2) rest >>= (λ bs. Ok (b ∷ bs))) octets e
     (λ b first more. bound P (decode_pairs (i + 2) rest) (λ bs. Ok (b ∷ bs)) octets more
-    (λ bs then same. let s : b ∷ bs ≡ octets = cc in subst (AllByRecursion IsOctet) s (pair-small high low i b first, pairs-each (i + 2) rest bs then)))
+    (λ bs later same. let s : b ∷ bs ≡ octets = cc in subst (AllByRecursion IsOctet) s (pair-small high low i b first, pairs-each (i + 2) rest bs later)))
 
 formed : (r : Result (List ℕ) FromHexError) (octets : List ℕ) → or_form r ≡ Ok octets → r ≡ Ok octets
 formed (Ok x) octets e = let s : x ≡ octets = cc in ap Ok s
@@ -158,7 +158,7 @@ each-group (t ∷ ts) groups e =
     let P : Type 0 = AllByRecursion IsGroup groups in
     step-some P (group_of t) (λ n. option_and_then (λ ns. Some (n ∷ ns)) (each group_of ts)) groups e
     (λ n first more. step-some P (each group_of ts) (λ ns. Some (n ∷ ns)) groups more
-    (λ ns then same. subst (AllByRecursion IsGroup) (some-is (n ∷ ns) groups same) (group-small t n first, each-group ts ns then)))
+    (λ ns later same. subst (AllByRecursion IsGroup) (some-is (n ∷ ns) groups same) (group-small t n first, each-group ts ns later)))
 
 groups-small : (t groups : List ℕ) → groups_in t ≡ Some groups → AllByRecursion IsGroup groups
 groups-small t groups e = by-length (length t == 0) e where

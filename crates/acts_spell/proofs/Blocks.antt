@@ -47,7 +47,7 @@ use Rattle.acts_spell.proofs.Told.{tellable-spelled}
 
 -- what an event meets, and the laws of octets and of lines
 pub record Meets (header : Header) (p : Past) (e : Event) : Type 0 where
-  pub header : IsSpelledHeader header
+  pub spelled : IsSpelledHeader header
   pub under : IsEventUnder header.gateways e
   pub typed : IsEvent e
   pub told : IsTold header p
@@ -115,7 +115,7 @@ controlled header p e ev m g a =
       few = few;
       spelled = tellable-spelled keeps-before header.gateways (events_taken p.world + 1) (took p.world) (all_told header.gateways cs) bound (took-spelled header p m.told m.few) a.keeps
           (λ f. room-from f (events_taken p.world + 1) p.world (all_told header.gateways cs) (m.told.few f) few)
-          (all-tellable header.gateways p.controller cs (peers header m.header) a.past a.fit good);
+          (all-tellable header.gateways p.controller cs (peers header m.spelled) a.past a.fit good);
     }
 
 heard : (header : Header) (p : Past) (e : Event) (g : List ℕ) (a : Option Answer) → Meets header p e → is_named header.gateways g ≡ true → next_answer g p.world ≡ a
@@ -126,7 +126,7 @@ heard header p e g (Some x) m k n a =
     let i = number-small header.gateways g k in
     let next : next_answer (peer_name header.gateways f) p.world ≡ Some x = ap (λ (z : List ℕ). next_answer z p.world) (name-number g header.gateways i) ∙ n in
     let s = m.told.lawful in
-    controlled header p e (controller.Answers f x) m (next-plain header.gateways p.world p.controller f x s.lawful m.told.replied s.meet m.header.sound.named i next) a
+    controlled header p e (controller.Answers f x) m (next-plain header.gateways p.world p.controller f x s.lawful m.told.replied s.meet m.spelled.sound.named i next) a
 
 noticed : (header : Header) (p : Past) (e : Event) (g : List ℕ) (t : Option Notice) → Meets header p e
     → After header p (by_event header.gateways p.controller (hears (peer_number g header.gateways) t)) → Controls header p (by_event header.gateways p.controller (hears (peer_number g header.gateways) t))
@@ -137,8 +137,8 @@ noticed header p e g (Some t) m a = controlled header p e (controller.Notices (p
 after-event : (header : Header) (p : Past) (e : Event) → Meets header p e → is_forged_event header p e ≡ false → gateway_acts (under_way header) header (took p.world) e ≡ [] → After header p (controller_acts header p e)
 after-event header p e m f none =
     let k = event-of header e m.under in
-    let s = step (under_way header) header p e m.header.sound k m.told.lawful f in
-    let keeps = keep-block (under_way header) header p e m.header.sound k m.told.lawful m.told.sessions in
+    let s = step (under_way header) header p e m.spelled.sound k m.told.lawful f in
+    let keeps = keep-block (under_way header) header p e m.spelled.sound k m.told.lawful m.told.sessions in
     record {
       past = s.stands.meet.past;
       fit = s.stands.meet.fit;
@@ -165,8 +165,8 @@ ready : (header : Header) (p : Past) (e : Event) → Meets header p e → IsRead
 ready header p e m = record {
   sizes = m.sizes;
   lines = m.lines;
-  addresses = addressed header m.header;
-  last = m.header.sound.numbers;
+  addresses = addressed header m.spelled;
+  last = m.spelled.sound.numbers;
   lawful = (m.told.lawful.ready, m.told.lawful.lawful);
   past = took-spelled header p m.told m.few;
   requests = λ g. let a = (m.told.few g).handled in let b = m.few in omega (arith, a, b);
@@ -208,8 +208,8 @@ block-takes header p e m =
 pub told-after : (header : Header) (p : Past) (e : Event) → Meets header p e → is_forged_event header p e ≡ false → IsTold header (past_after (under_way header) header p e)
 told-after header p e m f =
     let k = event-of header e m.under in
-    let s = step (under_way header) header p e m.header.sound k m.told.lawful f in
-    let keeps = keep-block (under_way header) header p e m.header.sound k m.told.lawful m.told.sessions in
+    let s = step (under_way header) header p e m.spelled.sound k m.told.lawful f in
+    let keeps = keep-block (under_way header) header p e m.spelled.sound k m.told.lawful m.told.sessions in
     let more : List Act = gateway_acts (under_way header) header (took p.world) e ++ all_told header.gateways (controller_acts header p e) in
     let good = (controls header p e m).good in
     record {

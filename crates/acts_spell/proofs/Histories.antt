@@ -4,6 +4,7 @@ use Rattle.std.specs.List.{AllByRecursion}
 use Rattle.std.proofs.lemmas.List.Elements.{All-from_recursion, recursion_from_All}
 use Rattle.ikeless_tree.specs.declared.command.Peer.{Peer}
 use Rattle.esp_frame.specs.Laws.{SealedLength}
+use Rattle.event_lines.specs.Spelling.{IsEvent, IsEventUnder}
 use Rattle.hist_acts.specs.declared.act.Act.{Act}
 use Rattle.hist_acts.specs.declared.event.Event.{Event}
 use Rattle.hist_acts.specs.declared.event.Header.{Header}
@@ -17,7 +18,7 @@ use Rattle.acts_spell.proofs.Found.{AreSpelled}
 use Rattle.acts_spell.proofs.Messages.{HaveLines}
 
 meets : SealedLength → HaveLines → (header : Header) (p : Past) (e : Event) (n : ℕ) → IsSpelledHeader header → IsSpelledEvent header.gateways e → IsTold header p → events_taken p.world + (n + 1) < 2 ^ 32 → Meets header p e
-meets sizes lines header p e n h s t l = record { header = h; under = s.0; typed = s.1; told = t; few = omega (arith, l); sizes = sizes; lines = lines }
+meets sizes lines header p e n h s t l = record { spelled = h; under = s.0; typed = s.1; told = t; few = omega (arith, l); sizes = sizes; lines = lines }
 
 one-less : (n m k : ℕ) → m ≡ n + 1 → n + (k + 1) < 2 ^ 32 → m + k < 2 ^ 32
 one-less n m k e l = omega (arith, e, l)
@@ -44,3 +45,15 @@ pub history-spelled : SealedLength → HaveLines → (header : Header) (es : Lis
 history-spelled sizes lines header es h s l =
     All-from_recursion (IsSpelled header.gateways) (history (under_way header) header nothing es)
     (history-from sizes lines header nothing es h (recursion_from_All (IsSpelledEvent header.gateways) es s) (told-nothing header) (omega (arith, l)))
+
+-- ---- one event
+
+pub act-spelled : SealedLength → HaveLines → (header : Header) (p : Past) (e : Event) → IsSpelledHeader header → IsEventUnder header.gateways e → IsEvent e → IsTold header p
+    → events_taken p.world < 2 ^ 32 - 1 → All (IsSpelled header.gateways) (block (under_way header) header p e)
+act-spelled sizes lines header p e h u t told few =
+    All-from_recursion (IsSpelled header.gateways) (block (under_way header) header p e)
+    (block-spelled header p e (record { spelled = h; under = u; typed = t; told = told; few = few; sizes = sizes; lines = lines }))
+
+pub act-told : SealedLength → HaveLines → (header : Header) (p : Past) (e : Event) → IsSpelledHeader header → IsEventUnder header.gateways e → IsEvent e → IsTold header p
+    → events_taken p.world < 2 ^ 32 - 1 → is_forged_event header p e ≡ false → IsTold header (past_after (under_way header) header p e)
+act-told sizes lines header p e h u t told few f = told-after header p e (record { spelled = h; under = u; typed = t; told = told; few = few; sizes = sizes; lines = lines }) f

@@ -22,3 +22,5 @@ pub mod Gateways
 pub mod Blocks
 pub mod Histories
 pub mod AddressReads
+pub mod EventReads
+pub mod HeaderReads

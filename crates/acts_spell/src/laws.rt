@@ -1,4 +1,4 @@
-// Laws for the crates above: each is the contract of a function with an empty body.
+// Laws for the crates above: each is the contract of a function that only calls such functions.
 ghost use Rattle.std.specs.Prelude.{◌≡◌, ◌<◌, ◌-◌, ◌^◌, ℕ, false, List, All, Ok, length};
 ghost use Rattle.ikeless_tree.specs.declared.command.Peer.{Peer};
 ghost use Rattle.hist_acts.specs.declared.event.Event.{Event};
@@ -13,6 +13,10 @@ ghost use Rattle.hist_scripts.specs.Script.{AreLinesOf};
 ghost use Rattle.script_lines.specs.Text.{text_of};
 ghost use Rattle.acts_spell.specs.Spelled.{IsSpelled, IsSpelledEvent, IsSpelledHeader, IsTold};
 
+use esp_frame::seal_law;
+use script_lines::texts_differ;
+use text_bounds::lines_are_short;
+
 /// Before any event nothing is told that has no line.
 pub fn begins()
     ensures { (header : Header) → IsSpelledHeader header → IsTold header nothing }
@@ -25,7 +29,10 @@ pub fn each_act_is_spelled()
         → events_taken p.world < 2 ^ 32 - 1 → All (IsSpelled header.gateways) (block (under_way header) header p e) }
     ensures told { (header : Header) (p : Past) (e : Event) → IsSpelledHeader header → IsEventUnder header.gateways e → IsEvent e → IsTold header p
         → events_taken p.world < 2 ^ 32 - 1 → is_forged_event header p e ≡ false → IsTold header (past_after (under_way header) header p e) }
-{}
+{
+    seal_law();
+    lines_are_short();
+}
 
 /// What a line is read as, as a header or as an event under one, is a header or an event that a line can spell.
 pub fn reads_what_is_spelled()
@@ -40,7 +47,10 @@ pub fn every_history_is_spelled()
         → All (IsSpelled header.gateways) (history (under_way header) header nothing events) }
     ensures script { (line : List ℕ) (header : Header) (lines : List (List ℕ)) (events : List Event) → header_of line ≡ Ok header → AreLinesOf header lines events
         → length events < 2 ^ 32 → All (IsSpelled header.gateways) (history (under_way header) header nothing events) }
-{}
+{
+    seal_law();
+    lines_are_short();
+}
 
 /// No two histories under one header have one text.
 pub fn histories_have_one_text()
@@ -49,5 +59,7 @@ pub fn histories_have_one_text()
         → text_of (history (under_way header) header nothing these) ≡ text_of (history (under_way header) header nothing those)
         → history (under_way header) header nothing these ≡ history (under_way header) header nothing those }
 {
-    yang_values::digits_read_again();
+    seal_law();
+    lines_are_short();
+    texts_differ();
 }
