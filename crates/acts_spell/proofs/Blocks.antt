@@ -174,9 +174,11 @@ ready header p e m = record {
 
 pub block-spelled : (header : Header) (p : Past) (e : Event) → Meets header p e → AreSpelled header.gateways (block (under_way header) header p e)
 block-spelled header p e m =
-    let xs : List Act = gateway_acts (under_way header) header (took p.world) e in
-    ((took-spelled header p m.told m.few).0, each-append (IsSpelled header.gateways) xs (all_told header.gateways (controller_acts header p e))
-    (gateways-spelled header (took p.world) e (ready header p e m) m.under m.typed) (controls header p e m).spelled)
+    let xs : List Act = gateway_acts (under_way header) header (took p.world) e in (
+      (took-spelled header p m.told m.few).0,
+      each-append (IsSpelled header.gateways) xs (all_told header.gateways (controller_acts header p e))
+          (gateways-spelled header (took p.world) e (ready header p e m) m.under m.typed) (controls header p e m).spelled,
+    )
 
 -- one of the two does nothing
 one-acts : (header : Header) (p : Past) (e : Event) → (gateway_acts (under_way header) header (took p.world) e ≡ []) ⊎ (controller_acts header p e ≡ [])

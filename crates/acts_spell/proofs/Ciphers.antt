@@ -67,9 +67,11 @@ schedule-words n k zero h = first-words k n h
 schedule-words n k (suc i) h =
     let ws : List (List ℕ) = words n k i in
     let before = schedule-words n k i h in
-    each-append AreOctets ws (next_word n ws (n + i) ∷ []) before
-    (added (slice_index_or ws (n + i - n) []) (turned n (n + i) (slice_index_or ws (n + i - 1) [])) (word-at ws (n + i - n) before)
-    (turned-octets n (n + i) (slice_index_or ws (n + i - 1) []) (word-at ws (n + i - 1) before)), tt)
+    each-append AreOctets ws (next_word n ws (n + i) ∷ []) before (
+      added (slice_index_or ws (n + i - n) []) (turned n (n + i) (slice_index_or ws (n + i - 1) [])) (word-at ws (n + i - n) before)
+          (turned-octets n (n + i) (slice_index_or ws (n + i - 1) []) (word-at ws (n + i - 1) before)),
+      tt,
+    )
 
 sub-octets : (b : List ℕ) → AreOctets (sub_octets b)
 sub-octets b = mapped (λ k. s_box (octet b (k % 4) (k / 4))) (range_with_len 0 16) (λ k. box-octet (octet b (k % 4) (k / 4)))

@@ -61,7 +61,7 @@ put-good gs g t e k h =
     let b : IsGoodOutcome gs g (spi_taken t) = record { change = tt; names = no-names; status = omega arith } in
     let c : IsGoodOutcome gs g (full t) = record { change = tt; names = no-names; status = omega arith } in
     let d : IsGoodOutcome gs g (made (At_half e.name) (changes.Put e) (with_sad t (t.sad ++ new_row e ∷ []))) =
-        record { change = (((k, h.0), h.1), tt); names = no-names; status = omega arith } in
+    record { change = (((k, h.0), h.1), tt); names = no-names; status = omega arith } in
     either-good gs g (list_any (is_row e.name) t.sad) (exists t) _ a
     (either-good gs g (is_inbound e.name && has_spi e.spi t.sad) (spi_taken t) _ b (either-good gs g (is_sad_full t.sad) (full t) _ c d))
 

@@ -96,8 +96,8 @@ pub request-octets : (host : Addr) (o : Order) → IsAddress host → IsGoodOrde
 request-octets host o a h =
     let body = body-octets o h in
     let start = All-append IsOctet (order_method o ++ 32 ∷ order_target o) (codes " HTTP/1.1")
-        (All-append IsOctet (order_method o) (32 ∷ order_target o) (method-octets o) (of-each (32 ∷ order_target o) (omega arith, each-of (order_target o) (target-octets o h))))
-        (word (codes " HTTP/1.1") refl) in
+    (All-append IsOctet (order_method o) (32 ∷ order_target o) (method-octets o) (of-each (32 ∷ order_target o) (omega arith, each-of (order_target o) (target-octets o h))))
+    (word (codes " HTTP/1.1") refl) in
     let fields : List (List ℕ × List ℕ) = messages.request_fields (host_text host) (order_body o) in
     All-append IsOctet (request_head (order_message host o)) (order_body o)
     (head-octets (request_line (order_message host o)) fields (request_names (order_body o)) start (host-octets host a, fields-if (length (order_body o) == 0) (order_body o)) (asked-names (order_body o)))
@@ -160,9 +160,22 @@ texts n (row ∷ rows) h = by-number (n == row.0) (texts n rows h.1) where
   by-number false more = more
 
 each-status : AllByRecursion (λ row. AreOctets row.1) statuses
-each-status =
-    (word (codes "200 OK") refl, (word (codes "201 Created") refl, (word (codes "204 No Content") refl, (word (codes "400 Bad Request") refl, (word (codes "404 Not Found") refl,
-    (word (codes "405 Method Not Allowed") refl, (word (codes "409 Conflict") refl, (word (codes "413 Content Too Large") refl, (word (codes "501 Not Implemented") refl, tt)))))))))
+each-status = (
+  word (codes "200 OK") refl,
+  (
+    word (codes "201 Created") refl,
+    (
+      word (codes "204 No Content") refl,
+      (
+        word (codes "400 Bad Request") refl,
+        (
+          word (codes "404 Not Found") refl,
+          (word (codes "405 Method Not Allowed") refl, (word (codes "409 Conflict") refl, (word (codes "413 Content Too Large") refl, (word (codes "501 Not Implemented") refl, tt)))),
+        ),
+      ),
+    ),
+  ),
+)
 
 status-octets : (n : ℕ) → AreOctets (status_line n)
 status-octets n =

@@ -251,7 +251,7 @@ header-octets-4 o a n h =
     let s : ℕ = sum_for (header_4 o a 0) in
     let l : s < 65536 = omega arith in
     let front : List ℕ = 69 ∷ 0 ∷ ((o.payload + 20) / 256) ∷ ((o.payload + 20) % 256) ∷ (o.id / 256) ∷ (o.id % 256) ∷ (if o.df then 64 else 0) ∷ 0
-        ∷ 64 ∷ 50 ∷ (s / 256) ∷ (s % 256) ∷ [] in
+    ∷ 64 ∷ 50 ∷ (s / 256) ∷ (s % 256) ∷ [] in
     let p = n.0 in let i = n.1 in
     All-append IsOctet front a
     (of-each front (omega arith, (omega arith, (omega (arith, p), (omega arith, (omega (arith, i), (omega arith, (df-octet o.df, (omega arith, (omega arith, (omega arith, (omega (arith, l), (omega arith, tt))))))))))))) h
