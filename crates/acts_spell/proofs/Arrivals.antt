@@ -1,5 +1,5 @@
 -- What answers a datagram from outside has lines, and what arrives is octets.
-use Rattle.std.proofs.Common.{◌≡◌, ℕ, zero, suc, ◌+◌, ◌-◌, ◌/◌, ◌%◌, ◌<◌, ◌≤◌, ◌^◌, ◌==◌, ◌&&◌, ◌||◌, not, nat_lt, Bool, true, false, List, [], ◌∷◌, length, take, drop, Option, Some, None, Result, Ok, Err, refl, subst, sym, arith, if◌then◌else◌}
+use Rattle.std.proofs.Common.{◌≡◌, ℕ, ◌<◌, ◌^◌, ◌==◌, ◌&&◌, not, nat_lt, Bool, true, false, List, [], ◌∷◌, length, take, drop, Option, Some, None, Result, Ok, Err, refl, subst, arith, if◌then◌else◌}
 use Rattle.std.specs.Prelude.{find}
 use Rattle.std.specs.List.{AllByRecursion}
 use Rattle.std.proofs.lemmas.List.Elements.{All-drop, All-take}
@@ -26,13 +26,12 @@ use Rattle.replay_win.specs.declared.verdict.Verdict.TheVariants as verdicts
 use Rattle.spd_match.specs.Match.{first_entry, holds_packet}
 use Rattle.hist_acts.specs.declared.act.Act.{Act}
 use Rattle.hist_acts.specs.declared.act.Act.TheVariants as acts
-use Rattle.hist_acts.specs.Past.{after, force}
+use Rattle.hist_acts.specs.Past.{force}
 use Rattle.hist_halves.specs.Halves.{live, numbers_taken}
 use Rattle.hist_halves.specs.Sealed.{by_spi, number_from, number_of}
-use Rattle.hist_gateway.specs.Arrive.{arrive_acts, arrive_by_action, arrive_by_entry, arrive_by_half, arrive_by_view, by_inner, by_number, by_packet, by_text, by_verdict, drops, esp_acts, is_sealed_for, is_told_version, use_acts}
+use Rattle.hist_gateway.specs.Arrive.{arrive_acts, arrive_by_action, arrive_by_entry, arrive_by_half, arrive_by_view, by_inner, by_packet, by_text, by_verdict, drops, esp_acts, is_sealed_for, is_told_version}
 use Rattle.hist_gateway.specs.Datagram.{fault_why}
-use Rattle.hist_gateway.specs.Let.{unless}
-use Rattle.hist_gateway.specs.Look.{look, tells}
+use Rattle.hist_gateway.specs.Look.{tells}
 use Rattle.hist_gateway.specs.Stands.{does_bad_spi_stand}
 use Rattle.acts_spell.specs.Spelled.{IsSpelled}
 use Rattle.acts_spell.proofs.Each.{some-is}

@@ -1,5 +1,5 @@
 -- The block of an event has lines, and what is told holds again after it.
-use Rattle.std.proofs.Common.{◌≡◌, ℕ, ◌+◌, ◌-◌, ◌<◌, ◌≤◌, ◌^◌, ◌||◌, Bool, true, false, List, [], ◌∷◌, ◌++◌, All, length, Option, Some, None, ◌⊎◌, inl, inr, refl, sym, ap, ◌∙◌, subst, append-nil, arith, if◌then◌else◌}
+use Rattle.std.proofs.Common.{◌≡◌, ℕ, ◌+◌, ◌-◌, ◌<◌, ◌^◌, ◌||◌, Bool, true, false, List, [], ◌∷◌, ◌++◌, length, Option, Some, None, ◌⊎◌, inl, inr, refl, sym, ap, ◌∙◌, subst, append-nil, arith, if◌then◌else◌}
 use Rattle.std.specs.List.{AllByRecursion}
 use Rattle.std.specs.Str.{bytes_eq}
 use Rattle.std.proofs.lemmas.List.Elements.{All-from_recursion, recursion_from_All}
@@ -11,7 +11,6 @@ use Rattle.ikeless_tree.specs.declared.order.Notice.{Notice}
 use Rattle.esp_frame.specs.Laws.{SealedLength}
 use Rattle.event_lines.specs.Spelling.{IsEvent, IsEventUnder}
 use Rattle.hist_acts.specs.declared.act.Act.{Act}
-use Rattle.hist_acts.specs.declared.act.Act.TheVariants as acts
 use Rattle.hist_acts.specs.declared.event.Event.{Event}
 use Rattle.hist_acts.specs.declared.event.Event.TheVariants as events
 use Rattle.hist_acts.specs.declared.event.Header.{Header}
@@ -26,20 +25,18 @@ use Rattle.hist_controller.specs.Table.{AllFit}
 use Rattle.hist_controller.specs.Told.{all_told, peer_name}
 use Rattle.hist_world.specs.Block.{Past, answer_event, block, by_event, controller_acts, gateway_acts, hears, is_forged_event, nothing, past_after, took}
 use Rattle.hist_world.specs.Events.{IsEventOf}
-use Rattle.hist_world.specs.Stands.{Stands}
 use Rattle.hist_world.proofs.Runs.{name-number, start, step}
 use Rattle.hist_sessions.proofs.Keeps.{keep-block}
 use Rattle.hist_sessions.proofs.Pipes.{keeps-before}
 use Rattle.hist_wire.proofs.Replied.{block-replied}
 use Rattle.hist_wire.specs.Wire.{under_way}
 use Rattle.session_pipe.specs.Sessions.{KeepsSessions}
-use Rattle.acts_spell.specs.Spelled.{AreFewAt, IsSpelled, IsSpelledEvent, IsSpelledHeader, IsTold}
+use Rattle.acts_spell.specs.Spelled.{IsSpelled, IsSpelledHeader, IsTold}
 use Rattle.acts_spell.proofs.Controls.{IsGoodEvent, IsGoodPast, all-tellable, block-few, block-good}
 use Rattle.acts_spell.proofs.Counts.{AreFew, few-after, quiet-few, room-from, taken-same}
 use Rattle.acts_spell.proofs.Each.{each-after, each-append}
 use Rattle.acts_spell.proofs.Found.{AreSpelled}
 use Rattle.acts_spell.proofs.Gateways.{IsReady, gateways-spelled}
-use Rattle.acts_spell.proofs.Messages.{HaveLines}
 use Rattle.acts_spell.proofs.Ordered.{ArePeers, one-family}
 use Rattle.acts_spell.proofs.Plain.{next-plain}
 use Rattle.acts_spell.proofs.Quiet.{gateway-few}
@@ -53,7 +50,6 @@ pub record Meets (header : Header) (p : Past) (e : Event) : Type 0 where
   pub told : IsTold header p
   pub few : events_taken p.world < 2 ^ 32 - 1
   pub sizes : SealedLength
-  pub lines : HaveLines
 
 -- ---- the event is one of the header
 
@@ -164,7 +160,6 @@ controls header p e m = none-done header p m.told
 ready : (header : Header) (p : Past) (e : Event) → Meets header p e → IsReady header (took p.world)
 ready header p e m = record {
   sizes = m.sizes;
-  lines = m.lines;
   addresses = addressed header m.spelled;
   last = m.spelled.sound.numbers;
   lawful = (m.told.lawful.ready, m.told.lawful.lawful);

@@ -1,19 +1,18 @@
 -- What AES, AES-GCM and ESP make of octets are octets.
-use Rattle.std.proofs.Common.{◌≡◌, ℕ, zero, suc, ◌+◌, ◌-◌, ◌*◌, ◌/◌, ◌%◌, ◌<◌, ◌==◌, ◌&&◌, cond, Bool, true, false, nat_le, List, [], ◌∷◌, ◌++◌, length, map, take, drop, slice_index, bit_xor, Option, Some, None, refl, ap, subst, sym, arith, if◌then◌else◌}
-use Rattle.std.specs.Prelude.{slice_index_or, slice_range}
+use Rattle.std.proofs.Common.{◌≡◌, ℕ, zero, suc, ◌+◌, ◌-◌, ◌*◌, ◌/◌, ◌%◌, ◌<◌, ◌==◌, ◌&&◌, cond, Bool, true, false, nat_le, List, [], ◌∷◌, ◌++◌, length, take, slice_index, bit_xor, Some, None, subst, arith, if◌then◌else◌}
+use Rattle.std.specs.Prelude.{slice_index_or}
 use Rattle.std.specs.List.{AllByRecursion, range_with_len}
 use Rattle.std.specs.Int.{bit_at, to_be_bytes, to_le_bytes, w32, w64, w128}
 use Rattle.std.specs.Str.{bytes_eq}
 use Rattle.std.proofs.lemmas.List.Elements.{All-append, All-drop, All-take}
 use Rattle.std.proofs.lemmas.Nat.Bits.{bit_at-lt}
-use Rattle.gf_poly.specs.Poly.{from_bits, power}
 use Rattle.gf_poly.proofs.Field.{power-lt}
 use Rattle.aes_block.specs.Aes.{add_key, add_words, aes, after_rounds, affine_bit, cipher, first_words, inverse, key_word, next_word, octet, rotate_word, round_constant, s_box, shift_rows, sub_octets, sub_word, turned, words}
 use Rattle.gcm_seal.specs.Gcm.{block_of, counter, ghash, hash_key, reversed, sealed, stream, tag_of}
 use Rattle.esp_frame.specs.Esp.{Keying, aad_of, esp, icv_of, iv_of, keying, pad_len, padded, padding, text_of}
 use Rattle.esp_frame.specs.Open.{InnerPacket, inner_packet, opened}
 use Rattle.ikeless_tree.specs.Typed.{AreOctets}
-use Rattle.acts_spell.proofs.Octets.{IsOctet, bits-octet, each-of, long-octets, mapped, none, octet-at, of-each, ranged, word-octets, xor-octet}
+use Rattle.acts_spell.proofs.Octets.{IsOctet, bits-octet, long-octets, mapped, none, octet-at, of-each, ranged, word-octets, xor-octet}
 use Rattle.acts_spell.proofs.Each.{each-append, some-is}
 
 -- ---- AES

@@ -1,5 +1,5 @@
 -- How many sessions, requests, answers and orders acts add, and that there is room for them.
-use Rattle.std.proofs.Common.{◌≡◌, ℕ, ◌+◌, ◌*◌, ◌<◌, ◌≤◌, ◌==◌, ◌&&◌, Bool, true, false, List, [], ◌∷◌, ◌++◌, refl, sym, ap, ◌∙◌, subst, arith, if◌then◌else◌}
+use Rattle.std.proofs.Common.{◌≡◌, ℕ, ◌+◌, ◌*◌, ◌<◌, ◌≤◌, Bool, true, false, List, [], ◌∷◌, refl, ap, ◌∙◌, arith, if◌then◌else◌}
 use Rattle.std.specs.List.{list_all}
 use Rattle.std.specs.Str.{bytes_eq}
 use Rattle.hist_acts.specs.declared.act.Act.{Act}
@@ -8,8 +8,8 @@ use Rattle.hist_acts.specs.Past.{after, events_taken}
 use Rattle.hist_acts.specs.Sessions as sessions
 use Rattle.hist_acts.specs.Sessions.{answered, is_session, openings, orders}
 use Rattle.hist_gateway.specs.Handle.{requests}
-use Rattle.hist_safety.proofs.Basics.{both-left, both-right, name-is, no, session-is}
-use Rattle.session_pipe.specs.Sessions.{KeepsSessions, MayStand}
+use Rattle.hist_safety.proofs.Basics.{both-left, both-right, no, session-is}
+use Rattle.session_pipe.specs.Sessions.{KeepsSessions}
 use Rattle.acts_spell.specs.Spelled.{AreFewAt}
 
 -- ---- counts of acts

@@ -1,14 +1,14 @@
 -- An event that is read fits its types.
-use Rattle.std.proofs.Common.{◌≡◌, ℕ, ◌-◌, ◌^◌, ◌<◌, ◌≤◌, ◌==◌, ◌&&◌, nat_le, true, List, [], ◌∷◌, All, length, Option, Some, None, Result, Ok, Err, refl, sym, ap, ◌∙◌, subst, arith}
+use Rattle.std.proofs.Common.{◌≡◌, ℕ, ◌-◌, ◌^◌, ◌<◌, ◌==◌, nat_le, List, [], ◌∷◌, All, length, Option, Some, None, Ok, subst, arith}
 use Rattle.std.specs.Prelude.{codes}
-use Rattle.std.specs.List.{AllByRecursion, list_all, slice_split}
+use Rattle.std.specs.List.{list_all, slice_split}
 use Rattle.std.specs.Str.{bytes_eq}
 use Rattle.std.proofs.lemmas.List.Elements.{All-from_recursion, All-nil}
 use Rattle.ikl_base.specs.Address.{IsAddress}
 use Rattle.ikl_base.specs.declared.status.LineFault.{LineFault}
 use Rattle.ikl_base.specs.declared.status.LineFault.TheVariants as faults
 use Rattle.ikeless_tree.specs.Check.{spd_fault}
-use Rattle.ikeless_tree.specs.Typed.{AreOctets, AreTypedPolicies, IsTypedLimits, IsTypedPolicy, IsTypedProtocol, IsTypedRange, IsTypedSelector, IsTypedTunnel}
+use Rattle.ikeless_tree.specs.Typed.{AreTypedPolicies, IsTypedLimits, IsTypedPolicy, IsTypedProtocol, IsTypedRange, IsTypedSelector, IsTypedTunnel}
 use Rattle.ikeless_tree.specs.declared.command.Peer.{Peer}
 use Rattle.ikeless_tree.specs.declared.entry.Range.{Range}
 use Rattle.ikeless_tree.specs.declared.entry.Selector.{Selector}
@@ -18,7 +18,7 @@ use Rattle.ikeless_tree.specs.declared.sad.Limits.{Limits}
 use Rattle.yang_values.specs.Prefixes.{is_slash}
 use Rattle.line_words.specs.declared.entry.Use.{Use}
 use Rattle.line_words.specs.declared.lifetimes.Lifetimes.{Lifetimes}
-use Rattle.line_words.specs.Words.{◌>>=◌, each, gateway_of, is_printable, known_of, lane_of, number_in, octets_of, prefix_in, words}
+use Rattle.line_words.specs.Words.{◌>>=◌, gateway_of, is_printable, known_of, lane_of, number_in, octets_of, prefix_in, words}
 use Rattle.line_words.specs.Entry.{action_of, direction_of, entries_of, entry_in, entry_of, is_comma, is_dash, is_plus, ports_of, proto_of, range_in, range_of, ranges_of, selector_in, selector_of, unless_fault, use_of}
 use Rattle.line_words.specs.Limits.{counts_of, lifetimes_of, limits_in, limits_of}
 use Rattle.line_words.proofs.TakenSteps.{after, each_has, either, inside, number_most, passed}

@@ -1,5 +1,5 @@
 -- The acts of the gateways at an event have lines.
-use Rattle.std.proofs.Common.{◌≡◌, ℕ, ◌+◌, ◌<◌, ◌≤◌, ◌^◌, ◌||◌, nat_lt, max, Bool, true, false, List, [], ◌∷◌, ◌++◌, Option, Some, None, Ok, refl, sym, subst, arith, if◌then◌else◌}
+use Rattle.std.proofs.Common.{◌≡◌, ℕ, ◌+◌, ◌<◌, ◌^◌, ◌||◌, nat_lt, max, Bool, true, false, List, [], ◌∷◌, Option, Some, None, refl, sym, subst, arith, if◌then◌else◌}
 use Rattle.std.specs.List.{AllByRecursion}
 use Rattle.std.specs.Str.{bytes_eq}
 use Rattle.ikl_base.specs.Address.{IsAddress}
@@ -7,7 +7,6 @@ use Rattle.ip_packet.specs.Ttl.{with_ttl}
 use Rattle.ikeless_tree.specs.Typed.{AreOctets}
 use Rattle.ikeless_tree.specs.declared.command.Peer.{Peer}
 use Rattle.ikeless_tree.specs.declared.order.Order.{Order}
-use Rattle.reply_table.specs.Order.{ask_of}
 use Rattle.esp_frame.specs.Laws.{SealedLength}
 use Rattle.event_lines.specs.Spelling.{IsEvent, IsEventUnder}
 use Rattle.line_words.specs.Spelling.{IsKnown}
@@ -34,7 +33,6 @@ use Rattle.acts_spell.proofs.Each.{each-after, each-append}
 use Rattle.acts_spell.proofs.Found.{AreSpelled, clock-small, live-good, request-good}
 use Rattle.acts_spell.proofs.Handles.{request-spelled}
 use Rattle.acts_spell.proofs.Lets.{let-spelled}
-use Rattle.acts_spell.proofs.Messages.{HaveLines}
 use Rattle.acts_spell.proofs.Notices.{look-spelled}
 use Rattle.acts_spell.proofs.Packets.{ttl-octets}
 use Rattle.acts_spell.proofs.Sent.{flipped-octets, sent-octets}
@@ -43,7 +41,6 @@ use Rattle.acts_spell.proofs.Wires.{gateway-of, wire-few, wire-octets}
 -- what is known of a header and of what happened
 pub record IsReady (header : Header) (h : List Act) : Type 0 where
   pub sizes : SealedLength
-  pub lines : HaveLines
   pub addresses : AllByRecursion (λ p. IsAddress p.address) header.gateways
   pub last : header.seq_last < 2 ^ 32
   pub lawful : IsLawful header.gateways h
@@ -147,5 +144,5 @@ gateways-spelled header h (events.ArriveTtl g k ttl) r u t =
 gateways-spelled header h (events.Now t) r u l = clock-spelled header h t l r.past
 gateways-spelled header h (events.Boot g) r u t = boots-spelled header g (gateway_at header g) u
 gateways-spelled header h (events.Down g) r u t = down-spelled header g h r u (gateway_at header g) refl (next_request g h) refl
-gateways-spelled header h (events.Wire g lane) r u t = (((u, wire-few header g lane h), wire-octets r.lines header g lane h r.addresses r.lawful r.past), tt)
+gateways-spelled header h (events.Wire g lane) r u t = (((u, wire-few header g lane h), wire-octets header g lane h r.addresses r.lawful r.past), tt)
 gateways-spelled header h e r u t = tt

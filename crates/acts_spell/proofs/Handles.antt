@@ -1,16 +1,13 @@
 -- What answers a request has lines.
-use Rattle.std.proofs.Common.{◌≡◌, ℕ, ◌+◌, ◌<◌, ◌≤◌, ◌^◌, ◌&&◌, Bool, true, false, List, [], ◌∷◌, ◌++◌, map, All, Option, Some, None, refl, arith, if◌then◌else◌}
+use Rattle.std.proofs.Common.{◌≡◌, ℕ, ◌+◌, ◌<◌, ◌^◌, ◌&&◌, Bool, true, false, List, [], ◌∷◌, ◌++◌, map, arith, if◌then◌else◌}
 use Rattle.std.specs.List.{AllByRecursion, list_any}
 use Rattle.std.proofs.lemmas.List.Elements.{All-from_recursion, All-nil}
 use Rattle.ikeless_tree.specs.Check.{is_sad_name}
 use Rattle.ikeless_tree.specs.Half.{is_inbound}
 use Rattle.ikeless_tree.specs.declared.command.Peer.{Peer}
-use Rattle.ikeless_tree.specs.declared.order.Answer.{Answer}
 use Rattle.ikeless_tree.specs.declared.order.Order.{Order}
 use Rattle.ikeless_tree.specs.declared.order.Order.TheVariants as orders
-use Rattle.ikeless_tree.specs.declared.reply.GoneWhy.TheVariants as gone
 use Rattle.ikeless_tree.specs.declared.sad.SadEntry.{SadEntry}
-use Rattle.ikeless_tree.specs.declared.sad.SadRow.{SadRow}
 use Rattle.ikeless_tree.specs.declared.sad.Tree.{Tree}
 use Rattle.line_words.specs.Spelling.{IsHalfName, IsKnown}
 use Rattle.reply_table.specs.Order.{ask_of}
@@ -24,8 +21,7 @@ use Rattle.hist_halves.specs.Halves.{live}
 use Rattle.hist_gateway.specs.Handle.{answer_of, change_acts, reply_acts, requests}
 use Rattle.hist_gateway.specs.Rows.{row_of, tree_of}
 use Rattle.script_lines.specs.Spelling.{AreHalfNames}
-use Rattle.acts_spell.specs.Spelled.{IsSpelled}
-use Rattle.acts_spell.proofs.Found.{AreSpelled, IsGoodAnswer, IsGoodHalf, IsGoodOrder, live-good, session-small}
+use Rattle.acts_spell.proofs.Found.{AreSpelled, IsGoodHalf, IsGoodOrder, live-good, session-small}
 use Rattle.acts_spell.proofs.Notices.{half-named}
 
 -- where this is answered

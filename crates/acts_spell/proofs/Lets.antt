@@ -1,5 +1,5 @@
 -- What answers a packet from inside has lines.
-use Rattle.std.proofs.Common.{◌≡◌, ℕ, ◌+◌, ◌<◌, ◌≤◌, ◌^◌, ◌==◌, nat_le, nat_lt, not, Bool, true, false, List, [], ◌∷◌, length, Option, Some, None, Result, Ok, Err, refl, subst, ap, sym, ◌∙◌, arith, if◌then◌else◌}
+use Rattle.std.proofs.Common.{◌≡◌, ℕ, ◌+◌, ◌<◌, ◌≤◌, ◌^◌, ◌==◌, nat_le, nat_lt, not, Bool, true, false, List, [], ◌∷◌, length, Option, Some, None, Result, Ok, Err, refl, subst, arith, if◌then◌else◌}
 use Rattle.std.specs.Prelude.{find}
 use Rattle.std.specs.List.{AllByRecursion}
 use Rattle.ip_packet.specs.declared.packet.NotPacket.{NotPacket}
@@ -17,23 +17,22 @@ use Rattle.ikeless_tree.specs.declared.reply.DropWhy.TheVariants as why
 use Rattle.ikeless_tree.specs.declared.reply.TreeFault.{TreeFault}
 use Rattle.ikeless_tree.specs.declared.reply.TreeFault.TheVariants as faults
 use Rattle.ikeless_tree.specs.declared.sad.SadEntry.{SadEntry}
-use Rattle.esp_frame.specs.Esp.{esp, esp_len, keying, pad_len}
+use Rattle.esp_frame.specs.Esp.{esp_len, keying, pad_len}
 use Rattle.esp_frame.specs.Laws.{SealedLength}
 use Rattle.line_words.specs.Spelling.{IsKnown}
 use Rattle.sad_store.specs.Halves.{may_seal}
 use Rattle.spd_match.specs.Match.{decides, first_entry}
 use Rattle.hist_acts.specs.declared.act.Act.{Act}
 use Rattle.hist_acts.specs.declared.act.Act.TheVariants as acts
-use Rattle.hist_acts.specs.Past.{after, force}
+use Rattle.hist_acts.specs.Past.{force}
 use Rattle.hist_halves.specs.Halves.{live, sent}
 use Rattle.hist_gateway.specs.Datagram.{datagram, fault_why, flow_of}
 use Rattle.hist_gateway.specs.Let.{let_acts, let_by_action, let_by_entry, let_by_half, let_by_view, newer, newest, send_acts, unless}
-use Rattle.hist_gateway.specs.Look.{look, tells}
+use Rattle.hist_gateway.specs.Look.{tells}
 use Rattle.hist_gateway.specs.Stands.{does_acquire_stand, was_overflow_given}
 use Rattle.rc_resource.proofs.NameLemmas.{policy_found}
 use Rattle.acts_spell.specs.Spelled.{IsSpelled}
-use Rattle.acts_spell.proofs.Each.{each-if, some-is}
-use Rattle.acts_spell.proofs.Octets.{IsOctet, word-octets}
+use Rattle.acts_spell.proofs.Each.{some-is}
 use Rattle.acts_spell.proofs.Ciphers.{esp-octets, keying-cipher}
 use Rattle.acts_spell.proofs.Packets.{IsTypedView, datagram-octets, flow-packet, flow-typed, view-typed}
 use Rattle.acts_spell.proofs.Found.{AreSpelled, IsGoodHalf, force-good, live-good}

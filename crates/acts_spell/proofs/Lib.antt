@@ -15,6 +15,7 @@ pub mod Plain
 pub mod Controls
 pub mod Texts
 pub mod Messages
+pub mod Lines
 pub mod Rows
 pub mod Wires
 pub mod Quiet

@@ -1,7 +1,6 @@
--- The messages of a session are octets: the requests of orders, the responses of replies and the lines of notices.
-use Rattle.std.proofs.Common.{◌≡◌, ℕ, ◌+◌, ◌<◌, ◌^◌, ◌==◌, ◌&&◌, ◌||◌, nat_lt, not, Bool, true, false, List, [], ◌∷◌, ◌++◌, length, map, codes, IsUtf8, Option, Some, None, refl, sym, ap, ◌∙◌, subst, arith, if◌then◌else◌}
-use Rattle.std.specs.List.{AllByRecursion, list_all, list_any}
-use Rattle.std.specs.Fmt.{decimal}
+-- The messages of a session are octets: the requests of orders and the responses of replies.
+use Rattle.std.proofs.Common.{◌≡◌, ℕ, ◌<◌, ◌==◌, ◌&&◌, Bool, true, false, List, [], ◌∷◌, ◌++◌, length, codes, Some, None, refl, arith, if◌then◌else◌}
+use Rattle.std.specs.List.{AllByRecursion, list_any}
 use Rattle.std.proofs.lemmas.Bool.Decides.{nat_tests}
 use Rattle.std.proofs.lemmas.List.Elements.{All-append, All-from_recursion}
 use Rattle.serde_json.specs.Written.{compact_text}
@@ -9,13 +8,9 @@ use Rattle.ikl_base.specs.declared.address.Addr.{Addr}
 use Rattle.ikl_base.specs.declared.address.Addr.TheVariants.{V4, V6}
 use Rattle.ikl_base.specs.Address.{IsAddress}
 use Rattle.yang_values.specs.Addresses.{address_text}
-use Rattle.ikeless_tree.specs.Check.{has_empty_range, has_many_ranges, is_path_octet, is_sad_name, sad_fault}
+use Rattle.ikeless_tree.specs.Check.{is_path_octet, is_sad_name, sad_fault}
 use Rattle.ikeless_tree.specs.Half.{is_inbound}
-use Rattle.ikeless_tree.specs.Typed.{AreOctets, IsTypedNotice, IsTypedRow}
-use Rattle.ikeless_tree.specs.declared.entry.Range.{Range}
-use Rattle.ikeless_tree.specs.declared.entry.Selector.{Selector}
-use Rattle.ikeless_tree.specs.declared.order.Notice.{Notice}
-use Rattle.ikeless_tree.specs.declared.order.Notice.TheVariants as notices
+use Rattle.ikeless_tree.specs.Typed.{AreOctets, IsTypedRow}
 use Rattle.ikeless_tree.specs.declared.order.Order.{Order}
 use Rattle.ikeless_tree.specs.declared.order.Order.TheVariants as orders
 use Rattle.ikeless_tree.specs.declared.reply.App.{App}
@@ -30,23 +25,19 @@ use Rattle.json_tree.proofs.Passed.{half_octets}
 use Rattle.json_tree.proofs.Writable.{write_one_half, write_policies, write_rows}
 use Rattle.json_tree.specs.SadEntryWritten.{ArePassed, all_rows}
 use Rattle.reply_table.specs.Order.{ask_of}
-use Rattle.reply_table.specs.Reply.{At_half, Outcome, absent, delete_sad, done, exists, full, has_spi, is_row, is_sad_full, made, new_row, post_sad, reply, spi_taken, with_sad, with_spd, without_row}
+use Rattle.reply_table.specs.Reply.{At_half, Outcome, absent, delete_sad, done, exists, full, has_spi, is_row, is_sad_full, made, new_row, post_sad, reply, spi_taken, with_sad, without_row}
 use Rattle.reply_table.specs.declared.ask.Change.TheVariants as changes
 use Rattle.rc_http.specs.Written.{length_names, own_names, request_head, request_line, request_names, request_text, response_head, response_names, response_text, status_line, status_text, statuses, text_at, text_or_none, type_names}
 use Rattle.rc_resource.specs.Errors.{error_data}
 use Rattle.rc_resource.specs.Messages.{field, host_text, if_type, length_field, order_body, order_message, order_method, order_target, own_field, reply_message, type_field}
 use Rattle.rc_resource.specs.Messages as messages
-use Rattle.rc_resource.specs.Replies.{body_by, location_text, reply_of, shown_text}
+use Rattle.rc_resource.specs.Replies.{body_by, location_text, reply_of}
 use Rattle.rc_resource.proofs.ErrorTexts.{write_error}
 use Rattle.rc_request.specs.Paths.{escaped, half_path}
-use Rattle.notice_lines.specs.Envelope.{IsNotice, notice_data}
-use Rattle.notice_lines.specs.Reading.{IsLine}
-use Rattle.script_lines.specs.Session.{has_proto, is_one_port, is_packet}
-use Rattle.hist_wire.specs.Dates.{line_text}
-use Rattle.acts_spell.proofs.Each.{each-append, each-if, either-has}
+use Rattle.acts_spell.proofs.Each.{each-append, each-if}
 use Rattle.acts_spell.proofs.Octets.{IsOctet, each-of, none, of-each}
-use Rattle.acts_spell.proofs.Texts.{HaveOctets, address-octets, are_octets, decimal-octets, escaped-octets, head-octets, narrow, utf8-octets, word}
-use Rattle.acts_spell.proofs.Found.{IsGoodNotice, IsGoodOrder}
+use Rattle.acts_spell.proofs.Texts.{HaveOctets, address-octets, decimal-octets, escaped-octets, head-octets, narrow, utf8-octets, word}
+use Rattle.acts_spell.proofs.Found.{IsGoodOrder}
 
 -- ---- requests
 
@@ -224,43 +215,3 @@ carried-octets r c =
 
 pub response-octets : (t : Tree) (o : Order) → AllByRecursion IsGoodRow t.sad → ((e : SadEntry) → o ≡ orders.Put e → is_sad_name e.name ≡ true) → AreOctets (response_text (reply_message (reply_of (reply t (ask_of o)))))
 response-octets t o h n = carried-octets (reply t (ask_of o)) (carried t o h n)
-
--- ---- lines
-
--- every notice has its line
-abbrev pub HaveLines : Type 0
-HaveLines = (n : Notice) (seconds : ℕ) → IsNotice n → IsTypedNotice n → seconds < 2 ^ 32 → IsLine n seconds (line_text n seconds)
-
-not-empty : (n m : ℕ) → (n == m) ≡ true → (nat_lt m n || false) ≡ false
-not-empty n m e = grind (arith, nat_tests, e)
-
-one-whole : (rs : List Range) → is_one_port rs ≡ true → (list_any (λ r. nat_lt r.end r.start) rs ≡ false) × (nat_lt 8 (length rs) ≡ false)
-one-whole [] e = (refl, refl)
-one-whole (r ∷ []) e = (not-empty r.start r.end e, refl)
-one-whole (r ∷ s ∷ rs) e = cc
-
-last-two : (a b c d : Bool) → (a && b && c && d) ≡ true → (c ≡ true) × (d ≡ true)
-last-two true true true true e = (refl, refl)
-last-two true true true false e = cc
-last-two true true false d e = cc
-last-two true false c d e = cc
-last-two false b c d e = cc
-
-ports : (s : Selector) → is_packet s ≡ true → (is_one_port s.local_ports ≡ true) × (is_one_port s.remote_ports ≡ true)
-unfolding is_packet
-ports s e = last-two _ (has_proto s.proto) (is_one_port s.local_ports) (is_one_port s.remote_ports) e
-
-pub notice-whole : (n : Notice) → IsGoodNotice n → IsNotice n
-notice-whole (notices.Acquire policy s) h =
-    let p = ports s h.0.1 in
-    let a = one-whole s.local_ports p.0 in
-    let b = one-whole s.remote_ports p.1 in
-    (h.0.0, (rw (a.0, b.0) refl, rw (a.1, b.1) refl))
-notice-whole (notices.Expire name soft c) h = h.0
-notice-whole (notices.SeqOverflow name) h = h.0
-notice-whole (notices.BadSpi spi) h = tt
-
-pub line-octets : HaveLines → (n : Notice) (seconds : ℕ) → IsGoodNotice n → seconds < 2 ^ 32 → AreOctets (line_text n seconds)
-line-octets lines n seconds h l =
-    let line = lines n seconds (notice-whole n h) h.1 l in
-    subst AreOctets (sym line.text) (All-append IsOctet (compact_text (notice_data n line.stamp)) (10 ∷ []) (utf8-octets (compact_text (notice_data n line.stamp)) line.utf8) (word (10 ∷ []) refl))

@@ -1,11 +1,10 @@
 -- The notices of a gateway have lines, and so have the looks at its halves.
-use Rattle.std.proofs.Common.{◌≡◌, ℕ, ◌+◌, ◌-◌, ◌<◌, ◌≤◌, ◌^◌, nat_le, not, Bool, true, false, List, [], ◌∷◌, ◌++◌, Option, Some, None, refl, arith, if◌then◌else◌}
+use Rattle.std.proofs.Common.{◌≡◌, ℕ, ◌-◌, ◌<◌, ◌≤◌, ◌^◌, nat_le, not, Bool, true, false, List, [], ◌∷◌, Option, Some, None, refl, arith, if◌then◌else◌}
 use Rattle.std.specs.List.{AllByRecursion}
 use Rattle.ikeless_tree.specs.Check.{is_sad_name, sad_fault}
-use Rattle.ikeless_tree.specs.Typed.{IsTypedLimits, IsTypedNotice}
+use Rattle.ikeless_tree.specs.Typed.{IsTypedLimits}
 use Rattle.ikeless_tree.specs.declared.command.Peer.{Peer}
 use Rattle.ikeless_tree.specs.declared.order.Notice.{Notice}
-use Rattle.ikeless_tree.specs.declared.order.Notice.TheVariants as notices
 use Rattle.ikeless_tree.specs.declared.reply.GoneWhy.TheVariants as gone
 use Rattle.ikeless_tree.specs.declared.reply.TreeFault.{TreeFault}
 use Rattle.ikeless_tree.specs.declared.sad.Limits.{Limits}
@@ -16,7 +15,7 @@ use Rattle.life_count.specs.declared.event.LifeEvent.TheVariants as told
 use Rattle.line_words.specs.Spelling.{IsKnown}
 use Rattle.hist_acts.specs.declared.act.Act.{Act}
 use Rattle.hist_acts.specs.declared.act.Act.TheVariants as acts
-use Rattle.hist_acts.specs.Past.{after, clock}
+use Rattle.hist_acts.specs.Past.{clock}
 use Rattle.hist_acts.specs.Sessions.{session_taken}
 use Rattle.hist_gateway.specs.Let.{unless}
 use Rattle.hist_gateway.specs.Look.{event_of, expiries, given_by, goings, look, tells}

@@ -1,12 +1,11 @@
 -- Lists of numbers below 256.
-use Rattle.std.proofs.Common.{◌≡◌, ℕ, zero, suc, ◌+◌, ◌<◌, ◌≤◌, ◌^◌, List, [], ◌∷◌, ◌++◌, All, length, map, take, drop, slice_index, bit_xor, get_or, refl, sym, ap, subst, arith, cond, Bool, true, false, IsUtf8}
-use Rattle.std.specs.Prelude.{slice_index_or, slice_set}
+use Rattle.std.proofs.Common.{ℕ, zero, suc, ◌+◌, ◌<◌, ◌≤◌, ◌^◌, List, [], ◌∷◌, map, slice_index, bit_xor, arith}
+use Rattle.std.specs.Prelude.{slice_index_or}
 use Rattle.std.specs.List.{AllByRecursion, range_with_len}
-use Rattle.std.specs.Int.{bit_at, bytes_high_first, byte_at, from_be_bytes, to_be_bytes, w32, w64}
-use Rattle.std.proofs.lemmas.List.Elements.{All-cons, All-from_get_or, All-from_recursion, All-head, All-map, All-nil, All-set, All-tail, recursion_from_All}
+use Rattle.std.specs.Int.{bytes_high_first, byte_at, from_be_bytes, to_be_bytes, w32, w64}
+use Rattle.std.proofs.lemmas.List.Elements.{All-from_get_or, All-from_recursion, All-map, All-nil, recursion_from_All}
 use Rattle.std.proofs.lemmas.List.FromFn.{get_or-range_with_len, length-range_with_len}
 use Rattle.std.proofs.lemmas.Nat.{xor_of_8}
-use Rattle.std.proofs.lemmas.Nat.Bits.{bit_at-lt}
 use Rattle.gf_poly.specs.Poly.{from_bits}
 use Rattle.ikeless_tree.specs.Typed.{AreOctets}
 

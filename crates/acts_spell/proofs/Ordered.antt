@@ -1,26 +1,23 @@
 -- What a controller orders has lines: lists as they were commanded, halves of tunnels and keys as they were commanded, and names.
-use Rattle.std.proofs.Common.{◌≡◌, ℕ, ◌+◌, ◌-◌, ◌<◌, ◌≤◌, ◌^◌, ◌==◌, not, cond, ◌||◌, nat_le, Bool, true, false, List, [], ◌∷◌, ◌++◌, All, length, Option, Some, None, inl, inr, refl, sym, ap, ◌∙◌, subst, arith, filter, if◌then◌else◌}
-use Rattle.std.specs.List.{AllByRecursion, list_all}
+use Rattle.std.proofs.Common.{◌≡◌, ℕ, ◌-◌, ◌<◌, ◌≤◌, ◌^◌, ◌==◌, not, cond, Bool, true, false, List, [], ◌∷◌, length, Option, Some, inl, inr, refl, sym, subst, arith, filter, if◌then◌else◌}
+use Rattle.std.specs.List.{AllByRecursion}
 use Rattle.std.proofs.lemmas.List.Elements.{All-nil}
 use Rattle.ikl_base.specs.declared.address.Addr.{Addr}
 use Rattle.ikl_base.specs.declared.address.Addr.TheVariants.{V4, V6}
 use Rattle.ikl_base.specs.Address.{AreOneFamily, IsAddress, is_one_family}
-use Rattle.ikeless_tree.specs.Check.{sad_fault, spd_fault}
-use Rattle.ikeless_tree.specs.Typed.{AreOctets, AreTypedPolicies, IsTypedHalf, IsTypedRange, IsTypedTunnel}
+use Rattle.ikeless_tree.specs.Typed.{AreOctets, IsTypedHalf, IsTypedRange, IsTypedTunnel}
 use Rattle.ikeless_tree.specs.declared.command.Peer.{Peer}
 use Rattle.ikeless_tree.specs.declared.entry.SpdEntry.{SpdEntry}
-use Rattle.hist_acts.specs.Past.{after}
 use Rattle.hist_controller.specs.Acts.{Way, Association, ControllerOrder, Read, Policy, PutIn, PutOut, RemoveIn, RemoveOut, PlacedCommand, SetPolicy, Tunnel, End, Rekey, Keys, ControllerAct, Opened, Cut, Answered, Heard, Ordered, Accepted, Refused}
 use Rattle.hist_controller.specs.Clauses.{Has, IsControllerPast, MayOrder, next_key}
-use Rattle.hist_controller.specs.Entries.{IsSoundCommand, OneFamily, SoundCommands}
-use Rattle.hist_controller.specs.Orders.{WasOrdered}
+use Rattle.hist_controller.specs.Entries.{OneFamily, SoundCommands}
 use Rattle.hist_controller.specs.Past.{directions, inbound_put, is_answer_to, is_made_by, key_of, keys_after, left, list_if, new_ways, newest_list, oldest, queue, RemovingIn, spare}
 use Rattle.hist_controller.specs.Told.{in_entry, order_told, out_entry, peer_address}
 use Rattle.hist_controller.proofs.Entries.{in-lawful, in-removed-name, out-lawful, out-removed-name}
 use Rattle.acts_spell.specs.Spelled.{AreSpelledCommands, IsSpelledCommand}
 use Rattle.acts_spell.proofs.Each.{each-append, each-if, some-is}
 use Rattle.acts_spell.proofs.Octets.{of-each}
-use Rattle.acts_spell.proofs.Found.{IsGoodHalf, IsGoodList, IsGoodOrder}
+use Rattle.acts_spell.proofs.Found.{IsGoodList, IsGoodOrder}
 
 pub each-has : {X : Type 0} (P : X → Type 0) (x : X) (xs : List X) → AllByRecursion P xs → Has x xs → P x
 each-has P x [] h i = absurd i

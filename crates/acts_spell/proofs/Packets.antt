@@ -1,14 +1,12 @@
 -- What is seen in octets fits its types: the view of a packet, its flow, and the datagram that is written around it.
-use Rattle.std.proofs.Common.{◌≡◌, ℕ, zero, suc, ◌+◌, ◌-◌, ◌*◌, ◌/◌, ◌%◌, ◌^◌, ◌<◌, ◌≤◌, ◌==◌, ◌&&◌, ◌||◌, not, nat_lt, Bool, true, false, List, [], ◌∷◌, ◌++◌, All, length, take, drop, slice_index, Option, Some, None, Result, Ok, Err, is_ok, refl, sym, ap, ◌∙◌, subst, arith, if◌then◌else◌}
+use Rattle.std.proofs.Common.{◌≡◌, ℕ, zero, suc, ◌+◌, ◌-◌, ◌/◌, ◌%◌, ◌^◌, ◌<◌, ◌≤◌, ◌==◌, ◌&&◌, ◌||◌, not, nat_lt, Bool, true, false, List, [], ◌∷◌, ◌++◌, All, length, take, drop, slice_index, Option, Some, None, Result, Ok, Err, is_ok, refl, ap, ◌∙◌, subst, arith, if◌then◌else◌}
 use Rattle.std.specs.Prelude.{slice_set}
 use Rattle.std.proofs.lemmas.Bool.Decides.{nat_tests}
-use Rattle.std.proofs.lemmas.Bool.{and_from}
 use Rattle.std.proofs.lemmas.List.{length-drop, length-take-le}
 use Rattle.std.proofs.lemmas.List.Elements.{All-append, All-cons, All-drop, All-nil, All-set, All-take}
 use Rattle.ikl_base.specs.declared.address.Addr.{Addr}
 use Rattle.ikl_base.specs.declared.address.Addr.TheVariants.{V4, V6}
-use Rattle.ikl_base.specs.declared.address.Prefix.{Prefix}
-use Rattle.ikl_base.specs.Address.{AreOneFamily, IsAddress, address_cleared, bits_of, cleared_from, is_one_family}
+use Rattle.ikl_base.specs.Address.{IsAddress, address_cleared, bits_of, cleared_from, is_one_family}
 use Rattle.ip_packet.specs.declared.outer.Outer.{Outer}
 use Rattle.ip_packet.specs.declared.packet.NotPacket.{NotPacket}
 use Rattle.ip_packet.specs.declared.packet.NotPacket.TheVariants as faults
@@ -20,9 +18,8 @@ use Rattle.ip_packet.specs.Ttl.{with_ttl, with_ttl_4, without_sum}
 use Rattle.ip_packet.specs.View.{Packet, by_upper, is_short, packet_4, packet_6, view_of, view_of_4, view_of_6}
 use Rattle.ikeless_tree.specs.Typed.{AreOctets, IsTypedRange, IsTypedSelector}
 use Rattle.ikeless_tree.specs.declared.entry.Direction.TheVariants.{Out}
-use Rattle.ikeless_tree.specs.declared.entry.Range.{Range}
 use Rattle.ikeless_tree.specs.declared.sad.SadEntry.{SadEntry}
-use Rattle.esp_frame.specs.Esp.{esp, esp_len, keying}
+use Rattle.esp_frame.specs.Esp.{esp, keying}
 use Rattle.spd_match.specs.Match.{local_port, remote_port}
 use Rattle.script_lines.specs.Session.{is_one_port, is_packet}
 use Rattle.hist_gateway.specs.Datagram.{datagram, flow_of, one_port, outer_of, whole}

@@ -1,5 +1,5 @@
 -- The next answer to a put is 201 or a refusal.
-use Rattle.std.proofs.Common.{◌≡◌, ℕ, ◌+◌, ◌<◌, ◌==◌, ◌&&◌, ◌||◌, nat_le, Bool, true, false, List, [], ◌∷◌, ◌++◌, length, Option, Some, None, inl, inr, refl, sym, ◌∙◌, ap, subst, arith, if◌then◌else◌}
+use Rattle.std.proofs.Common.{◌≡◌, ℕ, ◌+◌, ◌<◌, ◌==◌, ◌&&◌, ◌||◌, nat_le, Bool, true, false, List, [], ◌∷◌, ◌++◌, length, Option, Some, None, inl, inr, refl, sym, ◌∙◌, ap, subst, if◌then◌else◌}
 use Rattle.std.specs.List.{list_any}
 use Rattle.std.specs.Option.{option_map}
 use Rattle.ikeless_tree.specs.Half.{is_inbound}
@@ -10,7 +10,7 @@ use Rattle.ikeless_tree.specs.declared.order.Order.TheVariants as asks
 use Rattle.ikeless_tree.specs.declared.sad.SadEntry.{SadEntry}
 use Rattle.ikeless_tree.specs.declared.sad.Tree.{Tree}
 use Rattle.reply_table.specs.Order.{ask_of}
-use Rattle.reply_table.specs.Reply.{Outcome, At_half, exists, full, has_spi, is_row, is_sad_full, made, new_row, post_sad, reply, spi_taken, with_sad}
+use Rattle.reply_table.specs.Reply.{Outcome, At_half, exists, full, has_spi, is_row, is_sad_full, made, new_row, reply, spi_taken, with_sad}
 use Rattle.reply_table.specs.declared.ask.Change.TheVariants as changes
 use Rattle.hist_acts.specs.declared.act as happened
 use Rattle.hist_acts.specs.declared.act.Act.TheVariants as acts
@@ -22,7 +22,7 @@ use Rattle.hist_controller.specs.Clauses.{IsControllerPast}
 use Rattle.hist_controller.specs.Halves.{is_plain}
 use Rattle.hist_controller.specs.Past as controller_past
 use Rattle.hist_controller.specs.Past.{oldest, queue}
-use Rattle.hist_controller.specs.Told.{Named, in_entry, order_told, out_entry, past_told, peer_name}
+use Rattle.hist_controller.specs.Told.{Named, in_entry, order_told, out_entry, peer_name}
 use Rattle.hist_safety.specs.Law.{IsLawful}
 use Rattle.hist_safety.proofs.Basics.{if-cases, some-is, spot-is}
 use Rattle.hist_safety.proofs.Sessions.{next-at, told-order}

@@ -1,6 +1,5 @@
 -- The acts of a gateway at an event open and answer nothing, give no order, and handle one request at most.
-use Rattle.std.proofs.Common.{◌≡◌, ℕ, ◌+◌, ◌≤◌, ◌&&◌, nat_lt, max, Bool, true, false, List, [], ◌∷◌, ◌++◌, Option, Some, None, Ok, refl, sym, ◌∙◌, ap, subst, append-nil, arith, if◌then◌else◌}
-use Rattle.std.specs.List.{list_all}
+use Rattle.std.proofs.Common.{◌≡◌, ℕ, ◌+◌, nat_lt, max, Bool, true, false, List, [], ◌∷◌, ◌++◌, Option, Some, None, Ok, refl, ◌∙◌, ap, arith, if◌then◌else◌}
 use Rattle.std.proofs.lemmas.Bool.{and_from}
 use Rattle.ip_packet.specs.Ttl.{with_ttl}
 use Rattle.ikeless_tree.specs.declared.order.Answer.{Answer}
@@ -23,11 +22,11 @@ use Rattle.hist_gateway.specs.Let.{let_acts}
 use Rattle.hist_gateway.specs.Rows.{tree_of}
 use Rattle.hist_safety.proofs.Basics.{both-left, both-right, no}
 use Rattle.hist_world.specs.Arrivals.{flipped, is_forged, sent_at}
-use Rattle.hist_world.specs.Block.{Shows, arrival_of, arrives_at, at_gateway, boots, by_arrival, clock_block, gateway_acts, gateway_at, handles_at, looks, raised}
+use Rattle.hist_world.specs.Block.{Shows, arrives_at, at_gateway, boots, gateway_acts, gateway_at, handles_at, looks, raised}
 use Rattle.hist_world.proofs.Arrives.{ArriveAnswer, arrive-shape}
 use Rattle.hist_world.proofs.Followers.{are_followers, is_follower, looks-follow}
 use Rattle.hist_world.proofs.Lets.{LetAnswer, Shaped, let-shape}
-use Rattle.acts_spell.proofs.Counts.{AreFew, are_quiet, count_answered, count_handled, count_opened, count_orders, is_quiet, quiet-few}
+use Rattle.acts_spell.proofs.Counts.{AreFew, are_quiet, is_quiet, quiet-few}
 
 follower-quiet : (a : Act) → is_follower a ≡ true → is_quiet a ≡ true
 follower-quiet (acts.Gone f x w) e = refl

@@ -1,5 +1,5 @@
 -- The rows of a gateway's database fit their types: what was sent and taken is counted in 64 bits.
-use Rattle.std.proofs.Common.{◌≡◌, ℕ, ◌+◌, ◌<◌, ◌^◌, ◌&&◌, max, Bool, true, false, List, [], ◌∷◌, ◌++◌, map, Option, Some, None, Result, Ok, Err, refl, sym, ap, ◌∙◌, subst, arith, if◌then◌else◌}
+use Rattle.std.proofs.Common.{◌≡◌, ℕ, ◌+◌, ◌<◌, ◌^◌, ◌&&◌, max, Bool, true, false, List, [], ◌∷◌, ◌++◌, map, Option, Some, None, Result, Ok, Err, refl, ap, ◌∙◌, arith, if◌then◌else◌}
 use Rattle.std.specs.List.{AllByRecursion}
 use Rattle.std.specs.Str.{bytes_eq}
 use Rattle.ip_packet.specs.declared.packet.NotPacket.{NotPacket}
@@ -14,7 +14,7 @@ use Rattle.hist_acts.specs.declared.act.Act.{Act}
 use Rattle.hist_acts.specs.declared.act.Act.TheVariants as acts
 use Rattle.hist_halves.specs.Halves.{arrival_number, is_half, live, number_for, number_if, numbers_taken, sent, with_number}
 use Rattle.hist_halves.specs.Sealed.{by_spi, esp_of, is_opened, number_from, payload_of}
-use Rattle.hist_gateway.specs.Rows.{last_sequence, row_of, tree_of}
+use Rattle.hist_gateway.specs.Rows.{row_of, tree_of}
 use Rattle.hist_safety.specs.Law.{IsLawful, SendMayHappen}
 use Rattle.hist_safety.proofs.Basics.{half-is}
 use Rattle.acts_spell.proofs.Each.{each-append, each-if, either-has}

@@ -1,6 +1,6 @@
 -- Texts are octets: UTF-8, decimal digits, words of a table, paths, and messages of HTTP whose values are octets.
-use Rattle.std.proofs.Common.{◌≡◌, ℕ, zero, suc, ◌+◌, ◌*◌, ◌/◌, ◌%◌, ◌<◌, ◌≤◌, ◌==◌, ◌&&◌, nat_lt, cond, Bool, true, false, List, [], ◌∷◌, ◌++◌, map, IsUtf8, codes, Option, Some, None, inl, inr, refl, sym, ap, subst, arith, slice_get, if◌then◌else◌}
-use Rattle.std.specs.Prelude.{flat_map, fold}
+use Rattle.std.proofs.Common.{◌≡◌, ℕ, zero, suc, ◌+◌, ◌/◌, ◌%◌, ◌<◌, ◌==◌, nat_lt, cond, Bool, true, false, List, [], ◌∷◌, ◌++◌, map, IsUtf8, inl, inr, refl, subst, arith, slice_get, if◌then◌else◌}
+use Rattle.std.specs.Prelude.{flat_map}
 use Rattle.std.specs.List.{AllByRecursion, list_all}
 use Rattle.std.specs.Fmt.{decimal, digit_glyph, digits, digits_onto}
 use Rattle.std.specs.Str.{bytes_eq}
@@ -9,10 +9,9 @@ use Rattle.std.proofs.lemmas.Bool.Decides.{nat_tests}
 use Rattle.std.proofs.lemmas.List.Elements.{All-append}
 use lib.Utf8.{encode, encodes, scalar, scalar_cases, scalars}
 use Rattle.http_header.specs.FieldValue.{FieldValue, plain_value}
-use Rattle.http_header.specs.HeaderMap.{Entries, append, append_all, get, get_all}
+use Rattle.http_header.specs.HeaderMap.{Entries, append, append_all, get_all}
 use Rattle.http_header.specs.Token.{lowercase}
 use Rattle.ikl_base.specs.declared.address.Addr.{Addr}
-use Rattle.ikl_base.specs.declared.address.Addr.TheVariants.{V4, V6}
 use Rattle.ikl_base.specs.Address.{IsAddress}
 use Rattle.ikeless_tree.specs.Typed.{AreOctets}
 use Rattle.yang_values.specs.Addresses.{address_text}
@@ -21,7 +20,7 @@ use Rattle.yang_values.proofs.PrefixText.{address_plain}
 use Rattle.rc_http.specs.Heads.{fields_map, lowered}
 use Rattle.rc_http.specs.Written.{bytes_of, crlf, field_line, head_text, lines, named, value_in}
 use Rattle.rc_request.specs.Paths.{escape_octet, escaped}
-use Rattle.acts_spell.proofs.Each.{each-append, each-if, some-is}
+use Rattle.acts_spell.proofs.Each.{each-append, each-if}
 use Rattle.acts_spell.proofs.Octets.{IsOctet, each-of, none, of-each}
 
 -- ---- words

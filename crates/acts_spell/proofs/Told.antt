@@ -1,5 +1,5 @@
 -- The acts of a controller have lines, where they stand where they may and there is room for their numbers.
-use Rattle.std.proofs.Common.{◌≡◌, ℕ, ◌+◌, ◌*◌, ◌<◌, ◌≤◌, ◌^◌, List, [], ◌∷◌, Some, refl, subst, arith}
+use Rattle.std.proofs.Common.{◌≡◌, ℕ, ◌+◌, ◌*◌, ◌<◌, ◌≤◌, ◌^◌, List, [], ◌∷◌, subst, arith}
 use Rattle.std.specs.List.{AllByRecursion}
 use Rattle.ikeless_tree.specs.declared.command.Peer.{Peer}
 use Rattle.line_words.specs.Spelling.{IsKnown}

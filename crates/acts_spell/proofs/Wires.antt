@@ -1,5 +1,5 @@
 -- What `wire` shows is octets, no more than a line can spell.
-use Rattle.std.proofs.Common.{◌≡◌, ℕ, ◌+◌, ◌<◌, ◌≤◌, ◌^◌, ◌==◌, nat_le, Bool, true, false, List, [], ◌∷◌, ◌++◌, length, drop, take, Option, Some, None, refl, sym, subst, arith, if◌then◌else◌}
+use Rattle.std.proofs.Common.{◌≡◌, ℕ, ◌≤◌, ◌==◌, nat_le, Bool, true, false, List, [], ◌∷◌, ◌++◌, length, drop, Option, Some, None, refl, subst, arith, if◌then◌else◌}
 use Rattle.std.specs.Prelude.{find, flat_map}
 use Rattle.std.specs.List.{AllByRecursion}
 use Rattle.std.specs.Str.{bytes_eq}
@@ -24,14 +24,15 @@ use Rattle.hist_gateway.specs.Block as node
 use Rattle.hist_gateway.specs.Rows.{tree_of}
 use Rattle.hist_safety.specs.Law.{IsLawful}
 use Rattle.hist_world.specs.Block.{gateway_at, with_peer}
-use Rattle.hist_wire.specs.Wire.{before_change, first_octets, line_at, pipe_at, request_at, response_at, response_to, shown_at, under_way}
+use Rattle.hist_wire.specs.Wire.{before_change, line_at, pipe_at, request_at, response_at, response_to, shown_at, under_way}
 use Rattle.hist_wire.proofs.Shows.{few-octets}
 use Rattle.session_pipe.specs.Past.{lines, requests, responses}
-use Rattle.session_pipe.specs.UnderWay.{UnderWay, unread, unread_octets}
+use Rattle.session_pipe.specs.UnderWay.{unread, unread_octets}
 use Rattle.acts_spell.proofs.Each.{each-append, each-if, some-is}
 use Rattle.acts_spell.proofs.Octets.{IsOctet, none}
-use Rattle.acts_spell.proofs.Found.{AreSpelled, IsGoodOrder, clock-small, request-good}
-use Rattle.acts_spell.proofs.Messages.{HaveLines, line-octets, request-octets, response-octets}
+use Rattle.acts_spell.proofs.Found.{AreSpelled, IsGoodOrder, request-good}
+use Rattle.acts_spell.proofs.Lines.{line-octets}
+use Rattle.acts_spell.proofs.Messages.{request-octets, response-octets}
 use Rattle.acts_spell.proofs.Notices.{half-named}
 use Rattle.acts_spell.proofs.Rows.{tree-good}
 
@@ -76,30 +77,30 @@ responses-octets gs g s (acts.Handled f t k a ∷ h) l p =
     (each-append AreOctets (responses (response_at g) g s h) (response_at g h a ∷ []) more (to-octets gs g h (next_request g h) l.1 p.1 refl, tt)) more
 responses-octets gs g s (x ∷ h) l p = responses-octets gs g s h l.1 p.1
 
-lines-octets : HaveLines → (gs : List Peer) (g : List ℕ) (s : ℕ) (h : List Act) → AreSpelled gs h → AllByRecursion AreOctets (lines line_at g s h)
-lines-octets have gs g s [] p = tt
-lines-octets have gs g s (acts.Notice f t n ∷ h) p =
-    let more = lines-octets have gs g s h p.1 in
+lines-octets : (gs : List Peer) (g : List ℕ) (s : ℕ) (h : List Act) → AreSpelled gs h → AllByRecursion AreOctets (lines line_at g s h)
+lines-octets gs g s [] p = tt
+lines-octets gs g s (acts.Notice f t n ∷ h) p =
+    let more = lines-octets gs g s h p.1 in
     each-if AreOctets (is_session f t g s) (lines line_at g s h ++ line_at h n ∷ []) (lines line_at g s h)
-    (each-append AreOctets (lines line_at g s h) (line_at h n ∷ []) more (line-octets have n (clock h) (p.0.0.1, p.0.1.1) (clock-small gs h p.1), tt)) more
-lines-octets have gs g s (x ∷ h) p = lines-octets have gs g s h p.1
+    (each-append AreOctets (lines line_at g s h) (line_at h n ∷ []) more (line-octets n (clock h) (p.0.0.1, p.0.1.1), tt)) more
+lines-octets gs g s (x ∷ h) p = lines-octets gs g s h p.1
 
 -- ---- what is under way
 
 dropped : (n : ℕ) (xs : List (List ℕ)) → AllByRecursion AreOctets xs → AllByRecursion AreOctets (drop n xs)
 dropped n xs h = recursion_from_All AreOctets (drop n xs) (All-drop AreOctets n xs (All-from_recursion AreOctets xs h))
 
-unread-octets : HaveLines → (gs : List Peer) (g : List ℕ) (host : Addr) (lane : Lane) (h : List Act) → IsAddress host → IsLawful gs h → AreSpelled gs h
+unread-octets : (gs : List Peer) (g : List ℕ) (host : Addr) (lane : Lane) (h : List Act) → IsAddress host → IsLawful gs h → AreSpelled gs h
     → AllByRecursion AreOctets (unread lane (pipe_at g host h))
-unread-octets have gs g host lanes.Down h a l s =
+unread-octets gs g host lanes.Down h a l s =
     let t : ℕ = session_taken g h in
     each-if AreOctets (t == 0) [] (drop (handled g t h) (requests (request_at host) g t h)) tt (dropped (handled g t h) (requests (request_at host) g t h) (requests-octets gs host g t h a s))
-unread-octets have gs g host lanes.Up h a l s =
+unread-octets gs g host lanes.Up h a l s =
     let t : ℕ = openings g h in
     each-if AreOctets (is_open g h) (drop (answered g t h) (responses (response_at g) g t h)) [] (dropped (answered g t h) (responses (response_at g) g t h) (responses-octets gs g t h l s)) tt
-unread-octets have gs g host lanes.Note h a l s =
+unread-octets gs g host lanes.Note h a l s =
     let t : ℕ = openings g h in
-    each-if AreOctets (is_open g h) (drop (notices_heard g t h) (lines line_at g t h)) [] (dropped (notices_heard g t h) (lines line_at g t h) (lines-octets have gs g t h s)) tt
+    each-if AreOctets (is_open g h) (drop (notices_heard g t h) (lines line_at g t h)) [] (dropped (notices_heard g t h) (lines line_at g t h) (lines-octets gs g t h s)) tt
 
 joined : (xs : List (List ℕ)) → AllByRecursion AreOctets xs → AreOctets (flat_map (λ message. message) xs)
 joined [] h = none
@@ -128,16 +129,16 @@ found-peer t (p ∷ ps) q a e = peer-if (t p) p q (find t ps) a.0 (found-peer t 
 pub gateway-of : (header : Header) (g : List ℕ) (c : node.Gateway) → AllByRecursion (λ p. IsAddress p.address) header.gateways → gateway_at header g ≡ Some c → IsGatewayOf header g c
 gateway-of header g c a e = of-peer header g (find (λ p. bytes_eq p.name g) header.gateways) c (λ q f. found-peer (λ p. bytes_eq p.name g) header.gateways q a f) e
 
-shown-octets : HaveLines → (header : Header) (g : List ℕ) (lane : Lane) (h : List Act) → AllByRecursion (λ p. IsAddress p.address) header.gateways → IsLawful header.gateways h → AreSpelled header.gateways h
+shown-octets : (header : Header) (g : List ℕ) (lane : Lane) (h : List Act) → AllByRecursion (λ p. IsAddress p.address) header.gateways → IsLawful header.gateways h → AreSpelled header.gateways h
     → (c : Option node.Gateway) → gateway_at header g ≡ c → AreOctets (shown_at g lane h c)
-shown-octets have header g lane h a l s None e = none
-shown-octets have header g lane h a l s (Some c) e =
+shown-octets header g lane h a l s None e = none
+shown-octets header g lane h a l s (Some c) e =
     let is = gateway-of header g c a e in
-    All-take IsOctet 4096 (unread_octets lane (pipe_at g c.address h)) (joined (unread lane (pipe_at g c.address h)) (unread-octets have header.gateways g c.address lane h is.address l s))
+    All-take IsOctet 4096 (unread_octets lane (pipe_at g c.address h)) (joined (unread lane (pipe_at g c.address h)) (unread-octets header.gateways g c.address lane h is.address l s))
 
-pub wire-octets : HaveLines → (header : Header) (g : List ℕ) (lane : Lane) (h : List Act) → AllByRecursion (λ p. IsAddress p.address) header.gateways → IsLawful header.gateways h → AreSpelled header.gateways h
+pub wire-octets : (header : Header) (g : List ℕ) (lane : Lane) (h : List Act) → AllByRecursion (λ p. IsAddress p.address) header.gateways → IsLawful header.gateways h → AreSpelled header.gateways h
     → AreOctets (under_way header g lane h)
-wire-octets have header g lane h a l s = shown-octets have header g lane h a l s (gateway_at header g) refl
+wire-octets header g lane h a l s = shown-octets header g lane h a l s (gateway_at header g) refl
 
 no-more : (n : ℕ) → n ≤ 4096 → nat_le n 4096 ≡ true
 no-more n l = grind (arith, l)

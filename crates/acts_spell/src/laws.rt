@@ -15,7 +15,6 @@ ghost use Rattle.acts_spell.specs.Spelled.{IsSpelled, IsSpelledEvent, IsSpelledH
 
 use esp_frame::seal_law;
 use script_lines::texts_differ;
-use text_bounds::lines_are_short;
 
 /// Before any event nothing is told that has no line.
 pub fn begins()
@@ -31,7 +30,6 @@ pub fn each_act_is_spelled()
         → events_taken p.world < 2 ^ 32 - 1 → is_forged_event header p e ≡ false → IsTold header (past_after (under_way header) header p e) }
 {
     seal_law();
-    lines_are_short();
 }
 
 /// What a line is read as, as a header or as an event under one, is a header or an event that a line can spell.
@@ -49,7 +47,6 @@ pub fn every_history_is_spelled()
         → length events < 2 ^ 32 → All (IsSpelled header.gateways) (history (under_way header) header nothing events) }
 {
     seal_law();
-    lines_are_short();
 }
 
 /// No two histories under one header have one text.
@@ -60,6 +57,5 @@ pub fn histories_have_one_text()
         → history (under_way header) header nothing these ≡ history (under_way header) header nothing those }
 {
     seal_law();
-    lines_are_short();
     texts_differ();
 }
