@@ -1,1 +1,9 @@
 pub mod Frames
+pub mod Orderly
+pub mod Blocks
+pub mod Turns
+pub mod Handles
+pub mod Clocks
+pub mod Forged
+pub mod Arrivals
+pub mod Gateways
