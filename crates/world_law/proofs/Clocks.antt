@@ -95,19 +95,19 @@ look-same g k j e s =
 
 -- ---- the turn of one gateway
 
-abbrev read : List Act → ℕ → List Act
+abbrev pub read : List Act → ℕ → List Act
 read h t = acts.Now (max t (clock h)) ∷ h
 
 abbrev out_of : Header → List Act → ℕ → Peer → Outcome
 out_of header h t p = outcome (node_of header h p) (Clock t)
 
-abbrev turn : Header → List Act → ℕ → Peer → List Act
+abbrev pub turn : Header → List Act → ℕ → Peer → List Act
 turn header h t p = acts_told (node_of header h p) (out_of header h t p).acts
 
-abbrev looked : Bool → List ℕ → List Act → List Act
+abbrev pub looked : Bool → List ℕ → List Act → List Act
 looked b g k = if b then look g k (live g k) else []
 
-record Looks (header : Header) (h : List Act) (t : ℕ) (p : Peer) : Type 0 where
+pub record Looks (header : Header) (h : List Act) (t : ℕ) (p : Peer) : Type 0 where
   pub acts : turn header h t p ≡ looked (nat_lt (clock h) t) p.name (read h t)
   pub kept : (out_of header h t p).kept ≡ kept_of (state_of p.name (after (read h t) (turn header h t p)))
   pub follow : are_followers (turn header h t p) ≡ true
@@ -123,7 +123,7 @@ looked-same false g k j e s = refl
 tail-is : (a b : Act) (xs ys : List Act) → a ∷ xs ≡ b ∷ ys → xs ≡ ys
 tail-is a b xs ys e = cc
 
-looks-at : Law → (header : Header) (h : List Act) (t : ℕ) (p : Peer) → Ready header h → Looks header h t p
+pub looks-at : Law → (header : Header) (h : List Act) (t : ℕ) (p : Peer) → Ready header h → Looks header h t p
 looks-at law header h t p ready =
     let b = block-is law header h p (Clock t) (ready.order p.name) (ready.named p) in
     let xs : List Act = turn header h t p in

@@ -98,22 +98,17 @@ placed-is header h k p (q ∷ ps) apart e stays = by-name (bytes_eq q.name p.nam
   rest : (rs : List Peer) → AreOthers p.name rs → map (node_of header h) rs ≡ map (node_of header k) rs
   rest [] o = refl
   rest (r ∷ rs) o =
-      let s = sym (stays r (same-sym p.name r.name ∙ o.0)) in
-      let ih = rest rs o.1 in
-      cc
+      ap (λ z. z ∷ map (node_of header h) rs) (sym (stays r (same-sym p.name r.name ∙ o.0))) ∙ ap (λ z. node_of header k r ∷ z) (rest rs o.1)
 
   by-name : (b : Bool) → bytes_eq q.name p.name ≡ b → (if b then Some q else find (λ r. bytes_eq r.name p.name) ps) ≡ Some p
       → (if b then node_of header k p ∷ map (node_of header h) ps else node_of header h q ∷ placed (node_of header k p) (map (node_of header h) ps))
       ≡ node_of header k q ∷ map (node_of header k) ps
   by-name true s e =
       let same : q ≡ p = some-is q p e in
-      let more = rest ps (subst (λ (z : Peer). AreOthers z.name ps) same apart.0) in
-      let first = ap (node_of header k) (sym same) in
-      cc
+      ap (λ z. node_of header k z ∷ map (node_of header h) ps) (sym same) ∙ ap (λ z. node_of header k q ∷ z) (rest ps (subst (λ (z : Peer). AreOthers z.name ps) same apart.0))
   by-name false s e =
-      let first = sym (stays q (same-sym p.name q.name ∙ s)) in
-      let more = placed-is header h k p ps apart.1 e stays in
-      cc
+      ap (λ z. z ∷ placed (node_of header k p) (map (node_of header h) ps)) (sym (stays q (same-sym p.name q.name ∙ s)))
+      ∙ ap (λ z. node_of header k q ∷ z) (placed-is header h k p ps apart.1 e stays)
 
 -- ---- an act of another gateway, or of none
 
@@ -205,7 +200,8 @@ nodes-away header (a ∷ xs) h p e =
 pub all-away : (header : Header) (a : Act) (h : List Act) (ps : List Peer) → ((p : Peer) → is_of p.name a ≡ false)
     → map (node_of header (a ∷ h)) ps ≡ map (node_of header h) ps
 all-away header a h [] e = refl
-all-away header a h (p ∷ ps) e = let first = node-away header a h p (e p) in let rest = all-away header a h ps e in cc
+all-away header a h (p ∷ ps) e =
+    ap (λ z. z ∷ map (node_of header (a ∷ h)) ps) (node-away header a h p (e p)) ∙ ap (λ z. node_of header h p ∷ z) (all-away header a h ps e)
 
 -- ---- the world that stands for a past
 

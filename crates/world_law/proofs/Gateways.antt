@@ -85,7 +85,7 @@ IsGatewayEvent (events.Keys key) = ⊥
 IsGatewayEvent _ = Unit {0}
 
 -- the past with the number of the event
-ready : (header : Header) (p : Past) (w : World) → IsSpelledHeader header → StandsFor header p w → Ready header (took p.world) × IsLawful header.gateways (took p.world)
+pub ready : (header : Header) (p : Past) (w : World) → IsSpelledHeader header → StandsFor header p w → Ready header (took p.world) × IsLawful header.gateways (took p.world)
 ready header p w i s =
     let l : IsLawful header.gateways (took p.world) = (s.told.lawful.ready, s.told.lawful.lawful) in
     let meet : Meet header.gateways (took p.world) p.controller = record { part = s.told.lawful.meet.part; past = s.told.lawful.meet.past; fit = s.told.lawful.meet.fit } in

@@ -62,13 +62,13 @@ rows-are g h (e ∷ es) = let r = row-is g h e in let ih = rows-are g h es in cc
 abbrev with_rows : List ℕ → List Act → List _ → Tree
 with_rows g h rows = record { spd = force g h; sad = rows }
 
-tree-is : (g : List ℕ) (h : List Act) → tables.tree_of (kept_of (state_of g h)) ≡ rows.tree_of g h
+pub tree-is : (g : List ℕ) (h : List Act) → tables.tree_of (kept_of (state_of g h)) ≡ rows.tree_of g h
 tree-is g h = ap (with_rows g h) (rows-are g h (live g h))
 
 -- ---- what goes up
 
 -- the change and the reply of a request
-abbrev replied : table.Outcome → Change → List GwAct
+abbrev pub replied : table.Outcome → Change → List GwAct
 replied r c = acts_of_change r.tree.spd c ++ done.Reply (reply_of r) ∷ []
 
 -- the gateway after them, where what is kept is this

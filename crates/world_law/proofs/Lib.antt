@@ -7,3 +7,5 @@ pub mod Clocks
 pub mod Forged
 pub mod Arrivals
 pub mod Gateways
+pub mod Tells
+pub mod Takes

@@ -1,6 +1,6 @@
 -- When a step can be carried out: what its messages are can be read and written, and its numbers fit their types. Every step of a
 -- world that stands for what happened can be.
-use Rattle.std.specs.Prelude.{◌≡◌, ℕ, ◌≤◌, ◌*◌, List, [], ◌∷◌, All, Option, Some, None, Ok, slice_get}
+use Rattle.std.specs.Prelude.{◌≡◌, ℕ, ◌<◌, ◌≤◌, ◌*◌, List, [], ◌∷◌, All, Option, Some, None, Ok, slice_get}
 use Rattle.ip_packet.specs.Ttl.{with_ttl}
 use Rattle.ikl_base.specs.declared.address.Addr.{Addr}
 use Rattle.ikeless_tree.specs.declared.command.Command.TheVariants as commands
@@ -114,7 +114,7 @@ abbrev pub CanTake : Found → script.Event → World → Type 0
 CanTake r (events.Let g o) w = TellsAt (Let o) (node_at g w)
 CanTake r (events.Arrive g o) w = TellsAt (Arrive o) (node_at g w)
 CanTake r (events.ArriveSent g k) w = TellsAt (Arrive (datagram k w.sent)) (node_at g w)
-CanTake r (events.ArriveFlip g k offset bit) w = TellsAt (Arrive (flipped offset bit (datagram k w.sent))) (node_at g w)
+CanTake r (events.ArriveFlip g k offset bit) w = (bit < 8) × TellsAt (Arrive (flipped offset bit (datagram k w.sent))) (node_at g w)
 CanTake r (events.ArriveTtl g k ttl) w = TellsAt (Arrive (with_ttl ttl (datagram k w.sent))) (node_at g w)
 CanTake r (events.Now t) w = All (λ n. All IsWritten (outcome n (Clock t)).acts) w.nodes
 CanTake r (events.Boot g) w = Unit {0}
@@ -130,7 +130,12 @@ CanTake r (events.End reqid) w = Gives (told.Command (commands.End reqid)) w
 CanTake r (events.Rekey reqid) w = Gives (told.Command (commands.Rekey reqid)) w
 CanTake r (events.Keys key) w = Gives (told.Command (commands.Keys key)) w
 
+-- no two gateways have one name
+abbrev pub AreNamed : World → Type 0
+AreNamed w = (i : ℕ) (n : Node) → slice_get w.nodes i ≡ Some n → number_of n.name w ≡ i
+
 -- the step can be carried out
 pub record CanStep (r : Found) (e : script.Event) (w : World) : Type 0 where
   pub takes : CanTake r e w
   pub counted : All (IsCounted w.taken) w.nodes
+  pub named : AreNamed w
