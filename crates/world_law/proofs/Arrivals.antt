@@ -73,10 +73,10 @@ none-sent k false = refl
 
 pub datagram-is : (k : ℕ) (h : List Act) → datagram k (sent h) ≡ sent_at k h
 datagram-is k [] = none-sent k (k == 0)
-datagram-is k (acts.Sent f y n o ∷ h) = by-number (k == sent_count h + 1) refl where
-  by-number : (b : Bool) → (k == sent_count h + 1) ≡ b → datagram k (sent h ++ o ∷ []) ≡ (if b then o else sent_at k h)
-  by-number true e = datagram-last h o k e
-  by-number false e = datagram-other h o k (k == 0) refl e ∙ datagram-is k h
+datagram-is k (acts.Sent f y n o ∷ h) = by-number (k == sent_count h + 1) refl (datagram-is k h) where
+  by-number : (b : Bool) → (k == sent_count h + 1) ≡ b → datagram k (sent h) ≡ sent_at k h → datagram k (sent h ++ o ∷ []) ≡ (if b then o else sent_at k h)
+  by-number true e ih = datagram-last h o k e
+  by-number false e ih = datagram-other h o k (k == 0) refl e ∙ ih
 datagram-is k (a ∷ h) = datagram-is k h
 
 -- ---- the arrival

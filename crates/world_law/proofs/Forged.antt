@@ -19,7 +19,7 @@ use Rattle.ikeless_tree.specs.declared.order.Notice.TheVariants as notices
 use Rattle.ikeless_tree.specs.declared.reply.DropWhy.TheVariants as why
 use Rattle.ikeless_tree.specs.declared.sad.SadEntry.{SadEntry}
 use Rattle.ikeless_tree.specs.Half.{in_half, other_half, out_half}
-use Rattle.esp_frame.specs.Esp.{keying, spi_of}
+use Rattle.esp_frame.specs.Esp.{esp as esp_octets, keying, spi_of}
 use Rattle.esp_frame.specs.Open as esp
 use Rattle.replay_win.specs.declared.verdict.Verdict.{Verdict}
 use Rattle.replay_win.specs.declared.verdict.Verdict.TheVariants as verdicts
@@ -194,25 +194,66 @@ was-sealed b (a ∷ h) e = was-sealed b h e
 small : (t : List ℕ) (e : SadEntry) → Numbered t e → e.spi < 2 ^ 32
 small t e n = let a = n.2 in let b = n.3 in omega (arith, a, b)
 
--- octets that have the SPI of a live inbound half were sealed under the other half, if they were sealed
-sealed-other : (gs : List Peer) (g x b : List ℕ) (e : SadEntry) (h : List Act) → IsLawful gs h → by_spi (spi_of b) (live g h) ≡ Some e → is_sealed x b h ≡ true → x ≡ other_half e.name
-sealed-other gs g x b e h l found s =
+-- the half that sealed octets, and the inbound half of its serial, which has the SPI in them
+record Sealer (x b : List ℕ) : Type 0 where
+  pub serial : List ℕ
+  pub name : x ≡ out_half serial
+  pub half : SadEntry
+  pub numbered : Numbered serial half
+  pub spi : spi_of b ≡ half.spi
+
+told-spi : (d i : SadEntry) (t b p : List ℕ) (n next : ℕ) → b ≡ esp_octets (keying_of d) n next p → Numbered t i → d.spi ≡ i.spi → spi_of b ≡ i.spi
+told-spi d i t b p n next sealed low same =
+    let few : (keying_of d).spi < 2 ^ 32 = subst (λ (z : ℕ). z < 2 ^ 32) (sym (keying-spi d ∙ same)) (small t i low) in
+    ap spi_of sealed ∙ (esp-spi (keying_of d) n next p few ∙ (keying-spi d ∙ same))
+
+spi-same : (d c i : SadEntry) → d ≡ c → d.spi ≡ i.spi → c.spi ≡ i.spi
+spi-same d c i e same = ap (λ (z : SadEntry). z.spi) (sym e) ∙ same
+
+sealer : (gs : List Peer) (x b : List ℕ) (h : List Act) → IsLawful gs h → is_sealed x b h ≡ true → Sealer x b
+sealer gs x b h l s =
     let w = sealed-sent gs x b h l s in
     let c = carried gs w.0 x w.1 b w.2 h l w.3 in
     let t = outbound gs x h l (order-ordered x c.0 h c.2) c.4 in
     let ordered : order_of (out_half t.0) h ≡ Some c.0 = subst (λ (z : List ℕ). order_of z h ≡ Some c.0) t.1 c.2 in
     let two = pair gs t.0 h l (order-ordered (out_half t.0) c.0 h ordered) in
     let same : two.0 ≡ c.0 = some-is two.0 c.0 (sym two.2 ∙ ordered) in
-    let one = numbered gs t.0 two.1 h l two.3 in
-    let spi : c.0.spi ≡ two.1.spi = ap (λ (z : SadEntry). z.spi) (sym same) ∙ two.5 in
-    let low : (keying_of c.0).spi < 2 ^ 32 = subst (λ (z : ℕ). z < 2 ^ 32) (sym (keying-spi c.0 ∙ spi)) (small t.0 two.1 one) in
-    let told : spi_of b ≡ c.0.spi = ap spi_of c.6 ∙ (esp-spi (keying_of c.0) w.1 (next_header w.2) w.2 low ∙ keying-spi c.0) in
+    let spi : c.0.spi ≡ two.1.spi = spi-same two.0 c.0 two.1 same two.5 in
+    let one : Numbered t.0 two.1 = numbered gs t.0 two.1 h l two.3 in
+    record {
+      serial = t.0;
+      name = t.1;
+      half = two.1;
+      numbered = one;
+      spi = told-spi c.0 two.1 t.0 b w.2 w.1 (next_header w.2) c.6 one spi;
+    }
+
+-- a live inbound half with the SPI
+record Owner (e : SadEntry) (b : List ℕ) : Type 0 where
+  pub serial : List ℕ
+  pub name : e.name ≡ in_half serial
+  pub numbered : Numbered serial e
+  pub spi : e.spi ≡ spi_of b
+
+spi-owner : (gs : List Peer) (g b : List ℕ) (e : SadEntry) (h : List Act) → IsLawful gs h → by_spi (spi_of b) (live g h) ≡ Some e → Owner e b
+spi-owner gs g b e h l found =
     let is = spi-is gs g (spi_of b) e h l found in
     let put = put-order gs g e.name e h l is.0 in
     let u = inbound gs e.name h l put.1 is.2 in
-    let own = numbered gs u.0 e h l (subst (λ (z : List ℕ). order_of z h ≡ Some e) u.1 put.3) in
-    let serial : u.0 ≡ t.0 = one-spi u.0 t.0 e two.1 own one (is.3 ∙ (told ∙ spi)) in
-    t.1 ∙ (ap out_half (sym serial) ∙ ap other_half (sym u.1))
+    record {
+      serial = u.0;
+      name = u.1;
+      numbered = numbered gs u.0 e h l (subst (λ (z : List ℕ). order_of z h ≡ Some e) u.1 put.3);
+      spi = is.3;
+    }
+
+-- octets that have the SPI of a live inbound half were sealed under the other half, if they were sealed
+sealed-other : (gs : List Peer) (g x b : List ℕ) (e : SadEntry) (h : List Act) → IsLawful gs h → by_spi (spi_of b) (live g h) ≡ Some e → is_sealed x b h ≡ true → x ≡ other_half e.name
+sealed-other gs g x b e h l found s = same-serial x b e (sealer gs x b h l s) (spi-owner gs g b e h l found) where
+  same-serial : (x b : List ℕ) (e : SadEntry) → Sealer x b → Owner e b → x ≡ other_half e.name
+  same-serial x b e a o =
+      let serial : o.serial ≡ a.serial = one-spi o.serial a.serial e a.half o.numbered a.numbered (o.spi ∙ a.spi) in
+      a.name ∙ (ap out_half (sym serial) ∙ ap other_half (sym o.name))
 
 sealed-is : (gs : List Peer) (g b : List ℕ) (e : SadEntry) (h : List Act) → IsLawful gs h → by_spi (spi_of b) (live g h) ≡ Some e → is_sealed (other_half e.name) b h ≡ was_sent b (sent h)
 sealed-is gs g b e h l found = by-test (is_sealed (other_half e.name) b h) (was_sent b (sent h)) refl refl where

@@ -1,5 +1,5 @@
 -- What stands for a past, act by act: an act is of one gateway at most, and leaves the others as they were.
-use Rattle.std.proofs.Common.{◌≡◌, ℕ, ◌+◌, ◌-◌, ◌<◌, ◌==◌, Bool, true, false, List, [], ◌∷◌, ◌++◌, map, length, Option, Some, None, refl, sym, ◌∙◌, ap, subst, arith, if◌then◌else◌}
+use Rattle.std.proofs.Common.{◌≡◌, ℕ, ◌+◌, ◌-◌, ◌<◌, ◌==◌, ◌&&◌, ◌||◌, Bool, true, false, not, List, [], ◌∷◌, ◌++◌, drop, map, length, Option, Some, None, refl, sym, ◌∙◌, ap, subst, arith, if◌then◌else◌}
 use Rattle.std.proofs.lemmas.Bool.{or_parts, true≢false}
 use Rattle.std.specs.Prelude.{find}
 use Rattle.std.specs.List.{list_any}
@@ -11,6 +11,7 @@ use Rattle.hist_acts.specs.declared.act.Act.TheVariants as acts
 use Rattle.hist_acts.specs.declared.event.Header.{Header}
 use Rattle.hist_acts.specs.Past.{after, clock, events_taken}
 use Rattle.hist_acts.specs.Sessions.{answered, openings, orders}
+use Rattle.hist_acts.specs.Sessions as sessions
 use Rattle.hist_gateway.specs.Handle.{requests}
 use Rattle.hist_gateway.specs.May.{IsNewHalf}
 use Rattle.hist_gateway.specs.State.{state_of}
@@ -18,8 +19,9 @@ use Rattle.hist_gateway.specs.State as states
 use Rattle.hist_gateway.proofs.KeepsLemmas.{did-away, keeps, same-is, same-refl, same-sym}
 use Rattle.hist_controller.specs.Told.{Named, peer_name}
 use Rattle.hist_safety.proofs.Basics.{no, some-is}
+use Rattle.session_pipe.specs.Past as pipes
 use Rattle.session_pipe.specs.UnderWay.{UnderWay}
-use Rattle.hist_wire.specs.Wire.{pipe_at}
+use Rattle.hist_wire.specs.Wire.{line_at, pipe_at, request_at, response_at}
 use Rattle.gw_tables.specs.Kept.{Kept}
 use Rattle.gw_law.specs.Told.{kept_of}
 use Rattle.ctl_core.specs.Core.{Core}
@@ -84,31 +86,32 @@ find-node header h g (p ∷ ps) = by-name (bytes_eq p.name g) (find-node header 
 -- what is found has the name
 pub found-name : (g : List ℕ) (p : Peer) (ps : List Peer) → find (λ q. bytes_eq q.name g) ps ≡ Some p → p.name ≡ g
 found-name g p [] e = absurd (cc)
-found-name g p (q ∷ ps) e = by-name (bytes_eq q.name g) refl e where
-  by-name : (b : Bool) → bytes_eq q.name g ≡ b → (if b then Some q else find (λ r. bytes_eq r.name g) ps) ≡ Some p → p.name ≡ g
-  by-name true s e = ap (λ (r : Peer). r.name) (sym (some-is q p e)) ∙ same-is q.name g s
-  by-name false s e = found-name g p ps e
+found-name g p (q ∷ ps) e = by-name (bytes_eq q.name g) refl e (found-name g p ps) where
+  by-name : (b : Bool) → bytes_eq q.name g ≡ b → (if b then Some q else find (λ r. bytes_eq r.name g) ps) ≡ Some p → (find (λ r. bytes_eq r.name g) ps ≡ Some p → p.name ≡ g) → p.name ≡ g
+  by-name true s e ih = ap (λ (r : Peer). r.name) (sym (some-is q p e)) ∙ same-is q.name g s
+  by-name false s e ih = ih e
 
 -- one gateway changes, and is put in its place
 pub placed-is : (header : Header) (h k : List Act) (p : Peer) (ps : List Peer) → AreApart ps → find (λ q. bytes_eq q.name p.name) ps ≡ Some p
     → ((q : Peer) → bytes_eq p.name q.name ≡ false → node_of header k q ≡ node_of header h q)
     → placed (node_of header k p) (map (node_of header h) ps) ≡ map (node_of header k) ps
 placed-is header h k p [] apart e stays = absurd (cc)
-placed-is header h k p (q ∷ ps) apart e stays = by-name (bytes_eq q.name p.name) refl e where
+placed-is header h k p (q ∷ ps) apart e stays = by-name (bytes_eq q.name p.name) refl e (λ f. placed-is header h k p ps apart.1 f stays) where
   rest : (rs : List Peer) → AreOthers p.name rs → map (node_of header h) rs ≡ map (node_of header k) rs
   rest [] o = refl
   rest (r ∷ rs) o =
       ap (λ z. z ∷ map (node_of header h) rs) (sym (stays r (same-sym p.name r.name ∙ o.0))) ∙ ap (λ z. node_of header k r ∷ z) (rest rs o.1)
 
   by-name : (b : Bool) → bytes_eq q.name p.name ≡ b → (if b then Some q else find (λ r. bytes_eq r.name p.name) ps) ≡ Some p
+      → (find (λ r. bytes_eq r.name p.name) ps ≡ Some p → placed (node_of header k p) (map (node_of header h) ps) ≡ map (node_of header k) ps)
       → (if b then node_of header k p ∷ map (node_of header h) ps else node_of header h q ∷ placed (node_of header k p) (map (node_of header h) ps))
       ≡ node_of header k q ∷ map (node_of header k) ps
-  by-name true s e =
+  by-name true s e ih =
       let same : q ≡ p = some-is q p e in
       ap (λ z. node_of header k z ∷ map (node_of header h) ps) (sym same) ∙ ap (λ z. node_of header k q ∷ z) (rest ps (subst (λ (z : Peer). AreOthers z.name ps) same apart.0))
-  by-name false s e =
+  by-name false s e ih =
       ap (λ z. z ∷ placed (node_of header k p) (map (node_of header h) ps)) (sym (stays q (same-sym p.name q.name ∙ s)))
-      ∙ ap (λ z. node_of header k q ∷ z) (placed-is header h k p ps apart.1 e stays)
+      ∙ ap (λ z. node_of header k q ∷ z) (ih e)
 
 -- ---- an act of another gateway, or of none
 
@@ -172,16 +175,91 @@ node_with kept pipe header h p = record {
   answered = answered p.name (openings p.name h) h;
 }
 
+-- The counts of a gateway: sessions, the one that is open and the one taken, then what is under way of them, then how many orders were
+-- given, requests handled and answers heard.
+abbrev counted : Kept → Header → Peer → ℕ → Bool → ℕ → List (List ℕ) → List (List ℕ) → List (List ℕ) → ℕ → ℕ → ℕ → Node
+counted kept header p o b t down up note given handled heard = record {
+  name = p.name;
+  config = record { address = p.address; seq_last = header.seq_last };
+  kept = kept;
+  pipe = record {
+    openings = o;
+    is_open = b;
+    is_taken = not (t == 0);
+    down = if t == 0 then [] else down;
+    up = if b then up else [];
+    note = if b then note else [];
+  };
+  orders = given;
+  handled = handled;
+  answered = heard;
+}
+
+-- what is under way of a session
+abbrev going_down : Peer → List Act → ℕ → List (List ℕ)
+going_down p h t = drop (sessions.handled p.name t h) (pipes.requests (request_at p.address) p.name t h)
+
+abbrev going_up : Peer → List Act → ℕ → List (List ℕ)
+going_up p h o = drop (answered p.name o h) (pipes.responses (response_at p.name) p.name o h)
+
+abbrev noted : Peer → List Act → ℕ → List (List ℕ)
+noted p h o = drop (sessions.notices_heard p.name o h) (pipes.lines line_at p.name o h)
+
 rest-away : (kept : Kept) (header : Header) (a : Act) (h : List Act) (p : Peer) → is_of p.name a ≡ false
     → node_with kept (pipe_at p.name p.address (a ∷ h)) header (a ∷ h) p ≡ node_with kept (pipe_at p.name p.address h) header h p
-rest-away kept header (acts.Boot f) h p e = rw e refl
-rest-away kept header (acts.Opened f s) h p e = rw e refl
-rest-away kept header (acts.Cut f s) h p e = rw e refl
-rest-away kept header (acts.Order f s k o) h p e = rw e refl
-rest-away kept header (acts.Handled f s k a) h p e = rw e refl
-rest-away kept header (acts.Answered f s k a) h p e = rw e refl
-rest-away kept header (acts.Notice f s n) h p e = rw e refl
-rest-away kept header (acts.Heard f s n) h p e = rw e refl
+rest-away kept header (acts.Boot f) h p e =
+    let g : List ℕ = p.name in
+    let o : ℕ = openings g h in
+    ap (λ (here : Bool). counted kept header p o (sessions.is_open g h) (if here then 0 else sessions.session_taken g h)
+    (going_down p h (if here then 0 else sessions.session_taken g h)) (going_up p h o) (noted p h o)
+    (orders g o h) (if here then 0 else requests g h) (answered g o h)) e
+rest-away kept header (acts.Opened f s) h p e =
+    let g : List ℕ = p.name in
+    ap (λ (here : Bool). counted kept header p (if here then openings g h + 1 else openings g h) (here || sessions.is_open g h) (if here then s else sessions.session_taken g h)
+    (going_down p h (if here then s else sessions.session_taken g h)) (going_up p h (if here then openings g h + 1 else openings g h)) (noted p h (if here then openings g h + 1 else openings g h))
+    (orders g (if here then openings g h + 1 else openings g h) h) (if here then 0 else requests g h) (answered g (if here then openings g h + 1 else openings g h) h)) e
+rest-away kept header (acts.Cut f s) h p e =
+    let g : List ℕ = p.name in
+    let o : ℕ = openings g h in
+    ap (λ (here : Bool). counted kept header p o (not here && sessions.is_open g h) (sessions.session_taken g h)
+    (going_down p h (sessions.session_taken g h)) (going_up p h o) (noted p h o) (orders g o h) (requests g h) (answered g o h)) e
+rest-away kept header (acts.Order f s k q) h p e =
+    let g : List ℕ = p.name in
+    let o : ℕ = openings g h in
+    let t : ℕ = sessions.session_taken g h in
+    let rs : List (List ℕ) = pipes.requests (request_at p.address) g t h in
+    ap (λ (here : Bool). counted kept header p o (sessions.is_open g h) t
+    (drop (sessions.handled g t h) (if here && (s == t) then rs ++ request_at p.address h q ∷ [] else rs)) (going_up p h o) (noted p h o)
+    (if here && (s == o) then orders g o h + 1 else orders g o h) (requests g h) (answered g o h)) e
+rest-away kept header (acts.Handled f s k a) h p e =
+    let g : List ℕ = p.name in
+    let o : ℕ = openings g h in
+    let t : ℕ = sessions.session_taken g h in
+    let us : List (List ℕ) = pipes.responses (response_at g) g o h in
+    ap (λ (here : Bool). counted kept header p o (sessions.is_open g h) t
+    (drop (if here && (s == t) then sessions.handled g t h + 1 else sessions.handled g t h) (pipes.requests (request_at p.address) g t h))
+    (drop (answered g o h) (if here && (s == o) then us ++ response_at g h a ∷ [] else us)) (noted p h o)
+    (orders g o h) (if here then requests g h + 1 else requests g h) (answered g o h)) e
+rest-away kept header (acts.Answered f s k a) h p e =
+    let g : List ℕ = p.name in
+    let o : ℕ = openings g h in
+    ap (λ (here : Bool). counted kept header p o (sessions.is_open g h) (sessions.session_taken g h)
+    (going_down p h (sessions.session_taken g h)) (drop (if here && (s == o) then answered g o h + 1 else answered g o h) (pipes.responses (response_at g) g o h)) (noted p h o)
+    (orders g o h) (requests g h) (if here && (s == o) then answered g o h + 1 else answered g o h)) e
+rest-away kept header (acts.Notice f s n) h p e =
+    let g : List ℕ = p.name in
+    let o : ℕ = openings g h in
+    let ls : List (List ℕ) = pipes.lines line_at g o h in
+    ap (λ (here : Bool). counted kept header p o (sessions.is_open g h) (sessions.session_taken g h)
+    (going_down p h (sessions.session_taken g h)) (going_up p h o) (drop (sessions.notices_heard g o h) (if here && (s == o) then ls ++ line_at h n ∷ [] else ls))
+    (orders g o h) (requests g h) (answered g o h)) e
+rest-away kept header (acts.Heard f s n) h p e =
+    let g : List ℕ = p.name in
+    let o : ℕ = openings g h in
+    ap (λ (here : Bool). counted kept header p o (sessions.is_open g h) (sessions.session_taken g h)
+    (going_down p h (sessions.session_taken g h)) (going_up p h o)
+    (drop (if here && (s == o) then sessions.notices_heard g o h + 1 else sessions.notices_heard g o h) (pipes.lines line_at g o h))
+    (orders g o h) (requests g h) (answered g o h)) e
 rest-away kept header a h p e = refl
 
 -- it leaves the gateway as it was

@@ -85,13 +85,13 @@ IsGatewayEvent (events.Keys key) = ⊥
 IsGatewayEvent _ = Unit {0}
 
 -- the past with the number of the event
-pub ready : (header : Header) (p : Past) (w : World) → IsSpelledHeader header → StandsFor header p w → Ready header (took p.world) × IsLawful header.gateways (took p.world)
-ready header p w i s =
+pub ready-took : (header : Header) (p : Past) (w : World) → IsSpelledHeader header → StandsFor header p w → Ready header (took p.world) × IsLawful header.gateways (took p.world)
+ready-took header p w i s =
     let l : IsLawful header.gateways (took p.world) = (s.told.lawful.ready, s.told.lawful.lawful) in
     let meet : Meet header.gateways (took p.world) p.controller = record { part = s.told.lawful.meet.part; past = s.told.lawful.meet.past; fit = s.told.lawful.meet.fit } in
     ( record {
-        apart = apart-named header.gateways i.header.named;
-        order = λ g. orderly header.gateways (took p.world) p.controller g l meet i.header.named s.told.plain;
+        apart = apart-named header.gateways i.sound.named;
+        order = λ g. orderly header.gateways (took p.world) p.controller g l meet i.sound.named s.told.plain;
         named = λ q. naming-is header.gateways header (took p.world) q l;
       }
     , l
@@ -149,14 +149,14 @@ quiet header p w (events.Tunnel spec) i is s = absurd is
 quiet header p w (events.End reqid) i is s = absurd is
 quiet header p w (events.Rekey reqid) i is s = absurd is
 quiet header p w (events.Keys key) i is s = absurd is
-quiet header p w e i is s = record { none = refl; keeps = keep-block (under_way header) header p e i.header tt s.told.lawful s.told.sessions }
+quiet header p w e i is s = record { none = refl; keeps = keep-block (under_way header) header p e i.sound tt s.told.lawful s.told.sessions }
 
 pub gateways-follow : Law → (header : Header) (p : Past) (w : World) (e : Event) → IsSpelledHeader header → IsGatewayEvent e → StandsFor header p w
     → Follows header p e (step (found p.world e) e w)
 gateways-follow law header p w e i is s =
     let xs : List Act = gateway_acts (under_way header) header (took p.world) e in
     let q = quiet header p w e i is s in
-    let r = ready header p w i s in
+    let r = ready-took header p w i s in
     let more : xs ++ all_told header.gateways (controller_acts header p e) ≡ xs = ap (λ z. xs ++ all_told header.gateways z) q.none ∙ append-nil xs in
     let are : block (under_way header) header p e ≡ acts.Took (events_taken p.world + 1) ∷ xs = ap (λ z. acts.Took (events_taken p.world + 1) ∷ z) more in
     let keeps : KeepsSessions (after (took p.world) xs) = subst (λ z. KeepsSessions (after (took p.world) z)) more q.keeps in

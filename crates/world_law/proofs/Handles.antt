@@ -8,6 +8,7 @@ use Rattle.ikeless_tree.specs.declared.order.Answer.{Answer}
 use Rattle.ikeless_tree.specs.declared.order.Lane.TheVariants as lanes
 use Rattle.ikeless_tree.specs.declared.order.Order.{Order}
 use Rattle.ikeless_tree.specs.declared.sad.SadEntry.{SadEntry}
+use Rattle.ikeless_tree.specs.declared.sad.SadRow.{SadRow}
 use Rattle.ikeless_tree.specs.declared.sad.Tree.{Tree}
 use Rattle.reply_table.specs.Order.{ask_of}
 use Rattle.reply_table.specs.declared.ask.Change.{Change}
@@ -59,7 +60,7 @@ rows-are : (g : List ℕ) (h : List Act) (es : List SadEntry) → map (row_from 
 rows-are g h [] = refl
 rows-are g h (e ∷ es) = let r = row-is g h e in let ih = rows-are g h es in cc
 
-abbrev with_rows : List ℕ → List Act → List _ → Tree
+abbrev with_rows : List ℕ → List Act → List SadRow → Tree
 with_rows g h rows = record { spd = force g h; sad = rows }
 
 pub tree-is : (g : List ℕ) (h : List Act) → tables.tree_of (kept_of (state_of g h)) ≡ rows.tree_of g h

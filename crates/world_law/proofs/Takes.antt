@@ -1,6 +1,6 @@
 -- What a gateway tells at an event can be written, and the request that it takes is that of its next order: each event of a gateway can
 -- be taken.
-use Rattle.std.proofs.Common.{◌≡◌, ℕ, ◌+◌, ◌<◌, ◌^◌, ◌≤◌, Bool, true, false, nat_lt, max, List, [], ◌∷◌, All, map, MatchOption, Option, Some, None, Ok, refl, sym, ◌∙◌, ap, subst, arith, if◌then◌else◌}
+use Rattle.std.proofs.Common.{◌≡◌, ℕ, ◌+◌, ◌-◌, ◌<◌, ◌^◌, ◌≤◌, Bool, true, false, nat_lt, max, List, [], ◌∷◌, All, map, MatchOption, Option, Some, None, Ok, refl, sym, ◌∙◌, ap, subst, arith, if◌then◌else◌}
 use Rattle.std.proofs.lemmas.List.Elements.{All-cons, All-from_recursion, All-nil, recursion_from_All}
 use Rattle.std.specs.Prelude.{find}
 use Rattle.std.specs.List.{AllByRecursion}
@@ -50,7 +50,7 @@ use Rattle.world_law.proofs.Frames.{find-node, found-name, standing, standing-is
 use Rattle.world_law.proofs.Arrivals.{datagram-is}
 use Rattle.world_law.proofs.Blocks.{Law}
 use Rattle.world_law.proofs.Clocks.{looked, read}
-use Rattle.world_law.proofs.Gateways.{IsGatewayEvent, ready}
+use Rattle.world_law.proofs.Gateways.{IsGatewayEvent, ready-took}
 use Rattle.world_law.proofs.Tells.{arrive-written, clock-written, handle-written, let-written}
 use Rattle.world_law.proofs.Turns.{Ready}
 
@@ -119,13 +119,6 @@ again-at : Law → Spells → (header : Header) (p : Past) (core : Core) (g : Li
 again-at law spells header p core g k f ready spelled known octets =
     subst (λ (o : List ℕ). TellsAt (Arrive (f o)) (node_at g (world_at header p core))) (sym (datagram-is k p.world))
     (arrive-at law spells header p core g (f (sent_at k p.world)) ready spelled known (octets (spells.sent header.gateways k p.world spelled.1)))
-
--- all gateways are known
-known-more : (g : List ℕ) (p : Peer) (ps : List Peer) → is_named ps g ≡ true → is_named (p ∷ ps) g ≡ true
-known-more g p ps e = either (bytes_eq p.name g) e where
-  either : (b : Bool) → is_named ps g ≡ true → (Rattle.std.specs.Prelude.cond b true (is_named ps g)) ≡ true
-  either true e = refl
-  either false e = e
 
 raised-spelled : Spells → (gs : List Peer) (g : List ℕ) (h : List Act) (b : Bool) → IsKnown gs g → AreSpelled gs h → AreSpelled gs (looked b g h)
 raised-spelled spells gs g h true known spelled = spells.looks gs g h known spelled
@@ -212,4 +205,4 @@ pub gateways-can : Law → Spells → (header : Header) (p : Past) (w : World) (
     → CanBe header p e → CanTake (found p.world e) e w
 gateways-can law spells header p w e i is s few can =
     subst (CanTake (found p.world e) e) (sym (standing-is header p w s))
-    (takes law spells header p w.controller e is (ready header p w i s).0 i.header.numbers (took-spelled header p w s few) can)
+    (takes law spells header p w.controller e is (ready-took header p w i s).0 i.sound.numbers (took-spelled header p w s few) can)

@@ -4,9 +4,9 @@ use Rattle.std.proofs.lemmas.Bool.{and_parts}
 use Rattle.std.proofs.lemmas.List.Elements.{All-cons, All-nil}
 use Rattle.std.specs.List.{AllByRecursion, list_all, list_any}
 use Rattle.ikl_base.specs.declared.address.Addr.{Addr}
-use Rattle.ikl_base.specs.declared.address.Range.{Range}
 use Rattle.ikeless_tree.specs.Check.{has_empty_range, has_many_ranges, is_empty_range}
 use Rattle.ikeless_tree.specs.declared.command.Peer.{Peer}
+use Rattle.ikeless_tree.specs.declared.entry.Range.{Range}
 use Rattle.ikeless_tree.specs.declared.entry.Selector.{Selector}
 use Rattle.ikeless_tree.specs.declared.order.Lane.TheVariants as lanes
 use Rattle.ikeless_tree.specs.declared.order.Notice.{Notice}
