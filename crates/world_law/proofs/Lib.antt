@@ -9,3 +9,17 @@ pub mod Arrivals
 pub mod Gateways
 pub mod Tells
 pub mod Takes
+pub mod Peers
+pub mod Moves
+pub mod Rests
+pub mod Giving
+pub mod Led
+pub mod Octets
+pub mod Typed
+pub mod Suffix
+pub mod Replies
+pub mod Notices
+pub mod Follows
+pub mod Gives
+pub mod CanStep
+pub mod ControllerEvents
