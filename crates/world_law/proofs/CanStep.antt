@@ -1,5 +1,5 @@
 -- Each event of the controller can be carried out, and what is counted at a gateway fits its type at any event.
-use Rattle.std.proofs.Common.{◌≡◌, ℕ, ◌+◌, ◌*◌, ◌<◌, ◌≤◌, ◌==◌, true, List, [], ◌∷◌, ◌++◌, map, length, Option, Some, None, slice_get, refl, sym, ◌∙◌, ap, subst, zero, suc, get_or}
+use Rattle.std.proofs.Common.{◌≡◌, ℕ, ◌*◌, ◌<◌, ◌≤◌, true, List, [], ◌∷◌, length, Option, Some, None, slice_get, refl, sym, ◌∙◌, ap, subst, zero, suc, get_or}
 use Rattle.std.specs.Option.{MatchOption, option_map}
 use Rattle.std.specs.Prelude.{All}
 use Rattle.std.specs.Str.{bytes_eq}
@@ -17,7 +17,6 @@ use Rattle.reply_table.specs.Reply.{reply}
 use Rattle.rc_resource.specs.Lists.{IsTree}
 use Rattle.rc_resource.specs.Replies.{reply_of}
 use Rattle.hist_acts.specs.declared.act.Act.{Act}
-use Rattle.hist_acts.specs.declared.event.Event.{Event}
 use Rattle.hist_acts.specs.declared.event.Event.TheVariants as events
 use Rattle.hist_acts.specs.declared.event.Header.{Header}
 use Rattle.hist_acts.specs.Gateways.{is_named}
@@ -42,9 +41,9 @@ use Rattle.ctl_core.specs.declared.acts.CtlEvent.TheVariants as told
 use Rattle.ctl_law.specs.Told.{MayBeTold, event_of}
 use Rattle.world_steps.specs.Nodes.{Node}
 use Rattle.world_steps.specs.Worlds.{World, node_at, number_of}
-use Rattle.world_steps.specs.Conditions.{Answers, AreNamed, Gives, IsCounted, IsNextAnswer, IsNextNotice, Notices, at}
+use Rattle.world_steps.specs.Conditions.{Answers, AreNamed, Gives, IsCounted, IsNextAnswer, Notices, at}
 use Rattle.world_law.specs.Stands.{StandsFor, node_of}
-use Rattle.world_law.proofs.Peers.{names-apart, number-named, peer-named}
+use Rattle.world_law.proofs.Peers.{names-apart, peer-named}
 use Rattle.world_law.proofs.Rests.{node-is, number-is}
 use Rattle.world_law.proofs.Led.{known}
 use Rattle.world_law.proofs.Follows.{IsOf, gateway-of, known-of, rests-of}

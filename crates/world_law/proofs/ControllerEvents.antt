@@ -1,5 +1,4 @@
 -- The events of the controller, case by case.
-use Rattle.std.proofs.Common.{◌≡◌, ℕ}
 use Rattle.ikeless_tree.specs.declared.command.Command.TheVariants as commands
 use Rattle.hist_acts.specs.declared.event.Event.{Event}
 use Rattle.hist_acts.specs.declared.event.Event.TheVariants as events

@@ -1,5 +1,5 @@
 -- Each event of the controller makes of the world that stands for a past the one that stands for the past with its block.
-use Rattle.std.proofs.Common.{◌≡◌, ℕ, ◌+◌, Bool, true, false, List, [], ◌∷◌, ◌++◌, length, Option, Some, None, refl, sym, ◌∙◌, ap, subst}
+use Rattle.std.proofs.Common.{◌≡◌, ℕ, ◌+◌, true, false, List, [], ◌∷◌, ◌++◌, length, Option, Some, None, refl, sym, ◌∙◌, ap, subst}
 use Rattle.ikeless_tree.specs.declared.command.Command.TheVariants as commands
 use Rattle.ikeless_tree.specs.declared.command.Peer.{Peer}
 use Rattle.ikeless_tree.specs.declared.command.TunnelSpec.{TunnelSpec}
@@ -21,7 +21,6 @@ use Rattle.hist_controller.specs.Told.{all_told}
 use Rattle.hist_world.specs.Block as law
 use Rattle.hist_world.specs.Block.{Past, answer_event, by_event, controller_acts, gateway_acts, hears, past_after, took}
 use Rattle.hist_world.specs.Headers.{IsHeader}
-use Rattle.hist_world.specs.Stands.{Meet}
 use Rattle.hist_wire.specs.Wire.{under_way}
 use Rattle.session_pipe.specs.Sessions.{KeepsSessions}
 use Rattle.acts_spell.specs.Spelled.{IsTold}

@@ -1,5 +1,5 @@
 -- What the controller orders and refuses goes down to the gateways as the law tells it.
-use Rattle.std.proofs.Common.{◌≡◌, ℕ, ◌+◌, ◌<◌, Bool, true, false, List, [], ◌∷◌, ◌++◌, length, Option, Some, slice_get, refl, sym, ◌∙◌, ap, subst}
+use Rattle.std.proofs.Common.{◌≡◌, ℕ, ◌+◌, true, false, List, [], ◌∷◌, length, Some, slice_get, refl, sym, ◌∙◌, ap, subst}
 use Rattle.std.specs.Option.{option_map}
 use Rattle.std.proofs.lemmas.Option.{slice_get-map}
 use Rattle.ikeless_tree.specs.declared.command.Peer.{Peer}
@@ -12,17 +12,17 @@ use Rattle.hist_acts.specs.Sessions.{openings, orders}
 use Rattle.hist_controller.specs.Acts.{ControllerAct, Opened, Cut, Answered, Heard, Ordered, Accepted, Refused}
 use Rattle.hist_controller.specs.Table.{AllFit, Fits}
 use Rattle.hist_controller.specs.Told.{Named, all_told, order_told, peer_name}
-use Rattle.hist_safety.proofs.Basics.{both-left, both-right, no}
+use Rattle.hist_safety.proofs.Basics.{no}
 use Rattle.hist_sessions.proofs.Pipes.{keeps-before}
-use Rattle.hist_world.proofs.Controls.{are_orders, is_order}
+use Rattle.hist_world.proofs.Controls.{are_orders}
 use Rattle.session_pipe.specs.Sessions.{KeepsSessions}
 use Rattle.ctl_law.specs.Told.{all_done}
-use Rattle.world_steps.specs.Nodes.{Node, ordered}
+use Rattle.world_steps.specs.Nodes.{ordered}
 use Rattle.world_steps.specs.Worlds.{World, with_node}
 use Rattle.world_steps.specs.Steps.{Done, behind, giving, order_at}
 use Rattle.world_law.specs.Stands.{node_of}
 use Rattle.world_law.proofs.Peers.{peer-at, place-name}
-use Rattle.world_law.proofs.Rests.{IsAt, Rests, rests-order, rests-refused}
+use Rattle.world_law.proofs.Rests.{Rests, rests-order, rests-refused}
 
 -- ---- what a controller does by itself
 

@@ -23,3 +23,4 @@ pub mod Follows
 pub mod Gives
 pub mod CanStep
 pub mod ControllerEvents
+pub mod Start

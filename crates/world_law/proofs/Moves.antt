@@ -20,7 +20,7 @@ use Rattle.session_pipe.specs.Sessions.{KeepsSessions}
 use Rattle.session_pipe.specs.Past.{after_act, responses}
 use Rattle.session_pipe.specs.UnderWay.{UnderWay, after_cut, after_open, after_push, after_take}
 use Rattle.session_pipe.specs.Past as pipes
-use Rattle.session_pipe.proofs.Counts.{answered_bound, count_requests, count_responses, no_requests, no_responses}
+use Rattle.session_pipe.proofs.Counts.{answered_bound, count_requests, no_requests, no_responses}
 use Rattle.session_pipe.proofs.Moves.{moves}
 use Rattle.hist_wire.specs.Wire.{line_at, pipe_at, request_at, response_at}
 use Rattle.gw_tables.specs.Kept.{Kept, session_taken}

@@ -1,8 +1,8 @@
 -- The notice that the controller hears next has its line under way, with the clock as it was where it was given.
-use Rattle.std.proofs.Common.{◌≡◌, ℕ, zero, suc, ◌+◌, ◌^◌, ◌<◌, ◌==◌, ◌&&◌, ◌||◌, nat_lt, max, Bool, true, false, List, [], ◌∷◌, ◌++◌, drop, length, Option, Some, None, slice_get, ◌⊎◌, inl, inr, refl, sym, ◌∙◌, ap, subst, arith, if◌then◌else◌, length-append}
+use Rattle.std.proofs.Common.{◌≡◌, ℕ, ◌+◌, ◌^◌, ◌<◌, ◌||◌, nat_lt, Bool, true, false, List, [], ◌∷◌, ◌++◌, drop, length, Option, Some, None, slice_get, ◌⊎◌, inl, inr, refl, sym, ◌∙◌, ap, subst, arith, if◌then◌else◌, length-append}
 use Rattle.std.specs.Option.{MatchOption}
 use Rattle.std.specs.List.{list_any}
-use Rattle.ikeless_tree.specs.Check.{has_empty_range, has_many_ranges, is_empty_range}
+use Rattle.ikeless_tree.specs.Check.{is_empty_range}
 use Rattle.ikeless_tree.specs.Typed.{IsTypedNotice}
 use Rattle.ikeless_tree.specs.declared.command.Peer.{Peer}
 use Rattle.ikeless_tree.specs.declared.entry.Range.{Range}
@@ -11,14 +11,14 @@ use Rattle.ikeless_tree.specs.declared.order.Lane.TheVariants as lanes
 use Rattle.ikeless_tree.specs.declared.order.Notice.{Notice}
 use Rattle.ikeless_tree.specs.declared.order.Notice.TheVariants as notices
 use Rattle.notice_lines.specs.Envelope.{IsNotice, IsWhole}
-use Rattle.script_lines.specs.Session.{has_proto, is_one_port, is_packet, is_whole}
+use Rattle.script_lines.specs.Session.{is_one_port, is_packet}
 use Rattle.script_lines.specs.Spelling.{IsNoticeSpelled}
 use Rattle.hist_acts.specs.declared.act.Act.{Act}
 use Rattle.hist_acts.specs.declared.act.Act.TheVariants as acts
 use Rattle.hist_acts.specs.Past.{clock}
 use Rattle.hist_acts.specs.Sessions as sessions
 use Rattle.hist_acts.specs.Sessions.{is_open, is_session, next_notice, notices_heard, openings}
-use Rattle.hist_safety.proofs.Basics.{both-left, both-right, no}
+use Rattle.hist_safety.proofs.Basics.{no}
 use Rattle.session_pipe.specs.Sessions.{KeepsSessions}
 use Rattle.session_pipe.specs.Past.{lines}
 use Rattle.session_pipe.specs.UnderWay.{next_message}

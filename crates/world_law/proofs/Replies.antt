@@ -1,5 +1,5 @@
 -- The answer that the controller hears next is that of the reply to the oldest order that waits, and is read as it.
-use Rattle.std.proofs.Common.{◌≡◌, ℕ, zero, suc, ◌+◌, ◌<◌, ◌==◌, ◌&&◌, Bool, true, false, List, [], ◌∷◌, ◌++◌, drop, length, Option, Some, None, Ok, slice_get, ◌⊎◌, inl, inr, refl, sym, ◌∙◌, ap, subst, arith, if◌then◌else◌}
+use Rattle.std.proofs.Common.{◌≡◌, ℕ, zero, suc, ◌+◌, ◌<◌, ◌==◌, ◌&&◌, Bool, true, false, List, [], ◌∷◌, ◌++◌, drop, length, Some, None, Ok, slice_get, ◌⊎◌, inl, inr, refl, sym, ◌∙◌, ap, subst, arith, if◌then◌else◌}
 use Rattle.std.specs.Option.{option_map}
 use Rattle.ikeless_tree.specs.Typed.{IsTypedOrder}
 use Rattle.ikeless_tree.specs.declared.command.Peer.{Peer}
@@ -9,7 +9,7 @@ use Rattle.ikeless_tree.specs.declared.order.Order.{Order}
 use Rattle.ikeless_tree.specs.declared.order.Order.TheVariants as asks
 use Rattle.ikeless_tree.specs.declared.sad.Tree.{Tree}
 use Rattle.reply_table.specs.Order.{ask_of}
-use Rattle.reply_table.specs.Reply.{Outcome, reply}
+use Rattle.reply_table.specs.Reply.{reply}
 use Rattle.rc_http.specs.Written.{response_text}
 use Rattle.rc_answer.specs.Answers as reading
 use Rattle.rc_answer.proofs.StatusLemmas.{answer_has}
@@ -26,7 +26,7 @@ use Rattle.hist_controller.specs.Acts.{ControllerAct, ControllerOrder}
 use Rattle.hist_controller.specs.Machine.{place}
 use Rattle.hist_controller.specs.Numbers.{numbered}
 use Rattle.hist_controller.specs.Past as controller
-use Rattle.hist_controller.specs.Told.{Named, order_told, past_told, peer_name}
+use Rattle.hist_controller.specs.Told.{Named, order_told, peer_name}
 use Rattle.hist_controller.proofs.Transcript.{order-told}
 use Rattle.hist_controller.proofs.WaitsFor.{queue-numbered}
 use Rattle.hist_safety.proofs.Basics.{both-left, spot-is}
@@ -45,7 +45,6 @@ use Rattle.ctl_law.specs.Stands.{StandsFor}
 use Rattle.ctl_law.specs.Told.{is_status_of, may_answer}
 use Rattle.ctl_law.proofs.Steps.{expects}
 use Rattle.world_law.proofs.Peers.{place-name}
-use Rattle.world_law.proofs.Rests.{IsAt}
 use Rattle.world_law.proofs.Suffix.{Known, known-before, known-older}
 use Rattle.world_law.proofs.Typed.{AreSpelled, rows-typed, spelled-head, spelled-tail, tree-stands}
 

@@ -1,5 +1,5 @@
 -- What a gateway keeps of a past whose acts lines can spell: its databases have no fault, and each of their numbers is one of its type.
-use Rattle.std.proofs.Common.{◌≡◌, ℕ, ◌+◌, ◌-◌, ◌^◌, ◌<◌, ◌≤◌, Bool, true, false, ◌&&◌, ◌||◌, not, nat_le, max, List, [], ◌∷◌, ◌++◌, map, length, get_or, Option, Some, None, refl, sym, ◌∙◌, ap, subst, arith, if◌then◌else◌}
+use Rattle.std.proofs.Common.{◌≡◌, ℕ, ◌+◌, ◌-◌, ◌^◌, ◌<◌, ◌≤◌, Bool, true, false, ◌&&◌, ◌||◌, not, nat_le, List, [], ◌∷◌, ◌++◌, map, length, get_or, Option, Some, None, refl, ◌∙◌, ap, subst, arith, if◌then◌else◌}
 use Rattle.std.proofs.lemmas.Bool.{not-true}
 use Rattle.std.proofs.lemmas.List.{length-map}
 use Rattle.std.proofs.lemmas.List.Elements.{All-head, All-map, All-nil, All-tail}
@@ -12,11 +12,10 @@ use Rattle.ikeless_tree.specs.Typed.{AreTypedPolicies, AreTypedRows, IsTypedHalf
 use Rattle.ikeless_tree.specs.declared.command.Peer.{Peer}
 use Rattle.ikeless_tree.specs.declared.entry.SpdEntry.{SpdEntry}
 use Rattle.ikeless_tree.specs.declared.sad.SadEntry.{SadEntry}
-use Rattle.ikeless_tree.specs.declared.sad.SadRow.{SadRow}
 use Rattle.json_tree.specs.SadEntryWritten.{ArePassed}
 use Rattle.life_count.specs.Lifetime.{counts_at, cut}
 use Rattle.replay_win.specs.Marks.{greatest}
-use Rattle.rc_resource.specs.Lists.{AreApart, AreDistinct, IsTree}
+use Rattle.rc_resource.specs.Lists.{AreDistinct, IsTree}
 use Rattle.esp_frame.specs.Esp.{spi_of}
 use Rattle.hist_acts.specs.declared.act.Act.{Act}
 use Rattle.hist_acts.specs.declared.act.Act.TheVariants as acts
@@ -25,12 +24,12 @@ use Rattle.hist_halves.specs.Sealed.{by_spi, esp_of, is_opened, number_from}
 use Rattle.hist_halves.specs.Halves.{arrival_number, is_half, live, number_for, number_if, numbers_taken, sent, with_number}
 use Rattle.hist_gateway.specs.May.{are_apart, has_half}
 use Rattle.hist_gateway.specs.Rows.{last_sequence, row_of, tree_of}
-use Rattle.hist_gateway.specs.Uses.{counts, installed_at, last_used, octets_used, times_used}
+use Rattle.hist_gateway.specs.Uses.{installed_at, last_used, octets_used, times_used}
 use Rattle.hist_controller.specs.Acts.{ControllerAct}
 use Rattle.hist_controller.specs.Halves.{PlainAnswers}
 use Rattle.hist_controller.specs.Told.{Named}
 use Rattle.hist_safety.specs.Law.{IsLawful}
-use Rattle.hist_safety.proofs.Basics.{both-left, both-right, half-is, no}
+use Rattle.hist_safety.proofs.Basics.{both-left, both-right, half-is}
 use Rattle.hist_world.specs.Stands.{Meet}
 use Rattle.hist_world.proofs.Fresh.{live-apart}
 use Rattle.hist_world.proofs.Room.{few-live}
