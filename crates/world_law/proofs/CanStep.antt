@@ -61,8 +61,8 @@ has-name [] i p e = absurd (none-is p e) where
   none-is a e = cc
 has-name (q ∷ ps) zero p e = or_left (bytes_eq q.name p.name) (is_named ps p.name)
     (name-true q.name p.name (ap (λ (z : Peer). z.name) (some-is q p e))) where
-  some-is : (a b : Peer) → Some a ≡ Some b → a ≡ b
-  some-is a b e = cc
+      some-is : (a b : Peer) → Some a ≡ Some b → a ≡ b
+      some-is a b e = cc
 has-name (q ∷ ps) (suc i) p e = or_right (bytes_eq q.name p.name) (is_named ps p.name) (has-name ps i p e)
 
 -- a name tells the number
@@ -92,7 +92,7 @@ are-named header p w i s j n e =
     let f : Peer → Node = node_of header p.world in
     let m = mapped f (slice_get ps j) n (sym (slice_get-map f ps j) ∙ ap (λ ns. slice_get ns j) (sym s.nodes) ∙ e) in
     ap (λ (z : Node). number_of z.name w) (sym m.node) ∙ number-is header p.world w (m.peer).name (rests-of header p w s)
-        ∙ number-there ps j m.peer i.named m.is
+    ∙ number-there ps j m.peer i.named m.is
 
 -- ---- what is counted
 
@@ -120,7 +120,7 @@ gives-at : Texts → (header : Header) (p : Past) (w : World) (e : CtlEvent) (k 
     → AreSpelled header.gateways (after k (all_told header.gateways (block header.gateways p.controller (event_of e)))) → Gives e w
 gives-at t header p w e k i s may fit spelled =
     gives t header p.world k p.controller w e i.addresses
-        (rests-of header p w s) s.controller s.told.lawful.meet.past s.told.plain may fit spelled
+    (rests-of header p w s) s.controller s.told.lawful.meet.past s.told.plain may fit spelled
 
 number-at : (header : Header) (p : Past) (w : World) (g : List ℕ) → StandsFor header p w → number_of g w ≡ peer_number g header.gateways
 number-at header p w g s = number-is header p.world w g (rests-of header p w s)
@@ -130,7 +130,7 @@ known-at : (header : Header) (p : Past) (w : World) (g : List ℕ) → IsHeader 
 known-at header p w g i e s =
     let q = gateway-of header g p.world w i e (rests-of header p w s) in
     subst (λ n. n < length w.controller.stations) (sym (number-at header p w g s))
-        (known header.gateways p.controller w.controller (peer_number g header.gateways) s.controller q.1.at.low)
+    (known header.gateways p.controller w.controller (peer_number g header.gateways) s.controller q.1.at.low)
 
 -- the law's event at the controller has this number
 at-number : (header : Header) (p : Past) (w : World) (g : List ℕ) (f : ℕ → CtlEvent) (k : List Act) → StandsFor header p w
@@ -152,7 +152,7 @@ pub open-gives : Texts → (header : Header) (p : Past) (g : List ℕ) (w : Worl
     → IsTold header (past_after (under_way header) header p (events.Open g)) → Gives (told.Opened (number_of g w)) w
 open-gives t header p g w i e s a =
     gives-at t header p w (told.Opened (number_of g w)) (took p.world) i s (known-at header p w g i.sound e s)
-        (fit-number header p w g told.Opened s a.lawful.meet.fit)
+    (fit-number header p w g told.Opened s a.lawful.meet.fit)
     (at-number header p w g told.Opened (took p.world) s a.spelled)
 
 pub cut-gives : Texts → (header : Header) (p : Past) (g : List ℕ) (w : World) → IsSpelledHeader header → is_named header.gateways g ≡ true
@@ -160,7 +160,7 @@ pub cut-gives : Texts → (header : Header) (p : Past) (g : List ℕ) (w : World
     → IsTold header (past_after (under_way header) header p (events.Cut g)) → Gives (told.Cut (number_of g w)) w
 cut-gives t header p g w i e s a =
     gives-at t header p w (told.Cut (number_of g w)) (took p.world) i s (known-at header p w g i.sound e s)
-        (fit-number header p w g told.Cut s a.lawful.meet.fit)
+    (fit-number header p w g told.Cut s a.lawful.meet.fit)
     (at-number header p w g told.Cut (took p.world) s a.spelled)
 
 pub command-gives : Texts → (header : Header) (p : Past) (x : Command) (w : World) → IsSpelledHeader header → StandsFor header p w
@@ -176,7 +176,7 @@ none-up : (q : Peer) (h : List Act) → KeepsSessions h → next_answer q.name h
 none-up q h keep e =
     let m : Option (List ℕ) = next_message lanes.Up (pipe_at q.name q.address h) in
     subst (λ v. MatchOption v (m ≡ None) (λ a. (w : List Act) × (m ≡ Some (response_at q.name w a)))) e
-        (answer_next (request_at q.address) (response_at q.name) line_at q.name h keep)
+    (answer_next (request_at q.address) (response_at q.name) line_at q.name h keep)
 
 answers-at : Texts → (header : Header) (p : Past) (g : List ℕ) (w : World) (q : Peer) (a : Option Answer) → IsSpelledHeader header
     → IsOf header g p.world w q → StandsFor header p w
@@ -193,23 +193,25 @@ answers-at t header p g w q (Some a) i o s next fit spelled =
     let number : number_of q.name w ≡ n = o.number in
     let there : next_answer q.name p.world ≡ Some a = ap (λ z. next_answer z p.world) o.is.name ∙ next in
     let is = replies.next-is ps q n p.world p.controller a i.sound.named o.at.low o.at.place
-        (known-of header p s.told) s.told.lawful.meet s.told.sessions s.told.replied there in
+    (known-of header p s.told) s.told.lawful.meet s.told.sessions s.told.replied there in
     let k : Known ps is.older = is.there in
     let tree = subst IsTree (sym is.is) (tree-stands ps q.name is.older k.acts k.lawful k.meet i.sound.named k.plain k.spelled) in
     let rows = subst (λ z. AreTypedRows z.sad) (sym is.is) (rows-typed ps q.name is.older k.lawful k.spelled) in
     let policies = subst (λ z. AreTypedPolicies z.spd) (sym is.is) (policies-typed ps q.name is.older k.spelled) in
     let may = replies.next-may ps q n p.world p.controller a w.controller i.sound.named s.controller o.at.low is in
     let gives = gives-at t header p w (told.Answered n a) (took p.world) i s
-        (known ps p.controller w.controller n s.controller o.at.low, may) fit spelled in
-    subst (λ j. IsNextAnswer (node_of header p.world q) j w.controller a × Gives (told.Answered j a) w) (sym number)
-    (record {
-      reply = reply_of (reply is.tree (ask_of (order_told ps is.order)));
-      next = is.message;
-      writable = t.replies is.tree (order_told ps is.order) tree rows policies is.order_is is.typed;
-      order = order_told ps is.order;
-      expected = replies.next-expected ps q n p.world p.controller a w.controller s.controller o.at.low is;
-      says = replies.next-reads ps q n p.world p.controller a i.sound.named is;
-    }, gives)
+    (known ps p.controller w.controller n s.controller o.at.low, may) fit spelled in
+    subst (λ j. IsNextAnswer (node_of header p.world q) j w.controller a × Gives (told.Answered j a) w) (sym number) (
+      record {
+        reply = reply_of (reply is.tree (ask_of (order_told ps is.order)));
+        next = is.message;
+        writable = t.replies is.tree (order_told ps is.order) tree rows policies is.order_is is.typed;
+        order = order_told ps is.order;
+        expected = replies.next-expected ps q n p.world p.controller a w.controller s.controller o.at.low is;
+        says = replies.next-reads ps q n p.world p.controller a i.sound.named is;
+      },
+      gives,
+    )
 
 pub up-answers : Texts → (header : Header) (p : Past) (g : List ℕ) (w : World) → IsSpelledHeader header → is_named header.gateways g ≡ true
     → StandsFor header p w
@@ -237,9 +239,10 @@ notices-at t header p g w q (Some a) i o s next fit spelled =
     let there : next_notice q.name p.world ≡ Some a = ap (λ z. next_notice z p.world) o.is.name ∙ next in
     let is = notices.next-is ps q p.world a s.told.spelled there in
     let gives = gives-at t header p w (told.Noticed n a) (took p.world) i s
-        (known ps p.controller w.controller n s.controller o.at.low) fit spelled in
-    (record { seconds = is.seconds; next = is.message; heard = t.heard a is.seconds (notices.notice-is a is.spelled) is.typed is.small },
-    subst (λ j. Gives (told.Noticed j a) w) (sym number) gives)
+    (known ps p.controller w.controller n s.controller o.at.low) fit spelled in (
+      record { seconds = is.seconds; next = is.message; heard = t.heard a is.seconds (notices.notice-is a is.spelled) is.typed is.small },
+      subst (λ j. Gives (told.Noticed j a) w) (sym number) gives,
+    )
 
 pub note-notices : Texts → (header : Header) (p : Past) (g : List ℕ) (w : World) → IsSpelledHeader header
     → is_named header.gateways g ≡ true → StandsFor header p w

@@ -74,8 +74,14 @@ follows-led header p e w d none told taken l =
       acts = ap (λ n. acts.Took (n + 1) ∷ d.acts) taken ∙ ap (λ z. acts.Took (events_taken p.world + 1) ∷ z) l.acts
           ∙ ap (λ xs. acts.Took (events_taken p.world + 1) ∷ (xs ++ all_told ps cs)) (sym none);
       genuine = l.genuine;
-      stands = record { nodes = rests.nodes; controller = l.controller; sent = rests.sent; clock = rests.clock; taken = rests.taken;
-          told = told };
+      stands = record {
+        nodes = rests.nodes;
+        controller = l.controller;
+        sent = rests.sent;
+        clock = rests.clock;
+        taken = rests.taken;
+        told = told;
+      };
     }
 
 -- ---- the gateway of an event
@@ -90,12 +96,14 @@ pub gateway-of : (header : Header) (g : List ℕ) (h : List Act) (w : World) →
 gateway-of header g h w i e r =
     let ps : List Peer = header.gateways in
     let q = peer-named ps g e in
-    let p : Peer = q.0 in
-    (p, record {
-      is = q.1;
-      at = record { names = i.named; low = number-low ps g e; place = q.1.place };
-      number = number-is header h w p.name r ∙ ap (λ z. peer_number z ps) q.1.name;
-    })
+    let p : Peer = q.0 in (
+      p,
+      record {
+        is = q.1;
+        at = record { names = i.named; low = number-low ps g e; place = q.1.place };
+        number = number-is header h w p.name r ∙ ap (λ z. peer_number z ps) q.1.name;
+      },
+    )
 
 -- ---- sessions
 
@@ -112,7 +120,7 @@ open-follows header p g w i e s t =
     let led = open-led header h p.controller v n q.0 r q.1.at q.1.number t.lawful.meet.fit t.sessions in
     follows-led header p (events.Open g) w (open_at v (node_at g v)) refl t s.taken
     (subst (λ z. Led header h p.controller (block header.gateways p.controller (controller.Opens n)) (open_at v z))
-        (sym (node-is header h v g q.0 r.rests q.1.is)) led)
+    (sym (node-is header h v g q.0 r.rests q.1.is)) led)
 
 pub cut-follows : (header : Header) (p : Past) (g : List ℕ) (w : World) → IsHeader header → is_named header.gateways g ≡ true
     → StandsFor header p w
@@ -127,7 +135,7 @@ cut-follows header p g w i e s t =
     let led = cut-led header h p.controller v n q.0 r q.1.at q.1.number t.lawful.meet.fit t.sessions in
     follows-led header p (events.Cut g) w (cut_at v (node_at g v)) refl t s.taken
     (subst (λ z. Led header h p.controller (block header.gateways p.controller (controller.Cuts n)) (cut_at v z))
-        (sym (node-is header h v g q.0 r.rests q.1.is)) led)
+    (sym (node-is header h v g q.0 r.rests q.1.is)) led)
 
 -- ---- answers and notices
 
@@ -149,11 +157,11 @@ up-case header p g w (Some a) i e s next fit keep =
     let n : ℕ = peer_number g ps in
     let there : next_answer (q.0).name p.world ≡ Some a = ap (λ z. next_answer z p.world) q.1.is.name ∙ next in
     let is = replies.next-is ps q.0 n p.world p.controller a i.named q.1.at.low q.1.at.place
-        (known-of header p s.told) s.told.lawful.meet s.told.sessions s.told.replied there in
+    (known-of header p s.told) s.told.lawful.meet s.told.sessions s.told.replied there in
     let led = up-led header h p.controller v n q.0 a r q.1.at q.1.number (replies.next-waits ps q.0 n p.world p.controller a is)
     (replies.next-may ps q.0 n p.world p.controller a w.controller i.named s.controller q.1.at.low is) fit keep in
     subst (λ z. Led header h p.controller (block ps p.controller (controller.Answers n a)) (up_at (Some a) v z))
-        (sym (node-is header h v g q.0 r.rests q.1.is)) led
+    (sym (node-is header h v g q.0 r.rests q.1.is)) led
 
 pub up-follows : (header : Header) (p : Past) (g : List ℕ) (w : World) → IsHeader header → is_named header.gateways g ≡ true
     → StandsFor header p w
@@ -181,7 +189,7 @@ note-case header p g w (Some a) i e s next fit keep =
     let there : next_notice (q.0).name p.world ≡ Some a = ap (λ z. next_notice z p.world) q.1.is.name ∙ next in
     let led = note-led header h p.controller v n q.0 a r q.1.at q.1.number (notices.next-open q.0 p.world a there) fit keep in
     subst (λ z. Led header h p.controller (block ps p.controller (controller.Notices n a)) (note_at (Some a) v z))
-        (sym (node-is header h v g q.0 r.rests q.1.is)) led
+    (sym (node-is header h v g q.0 r.rests q.1.is)) led
 
 pub note-follows : (header : Header) (p : Past) (g : List ℕ) (w : World) → IsHeader header → is_named header.gateways g ≡ true
     → StandsFor header p w
@@ -199,7 +207,7 @@ pub policy-follows : (header : Header) (p : Past) (g : List ℕ) (list : List Sp
 policy-follows header p g list w i s t =
     follows-led header p (events.Policy g list) w (controlled (told.Command (commands.Policy g list)) (taken_world w)) refl t s.taken
     (command-led header (took p.world) p.controller (taken_world w) (commands.Policy g list)
-        (ready-of header p w i s) t.lawful.meet.fit t.sessions)
+    (ready-of header p w i s) t.lawful.meet.fit t.sessions)
 
 pub tunnel-follows : (header : Header) (p : Past) (spec : TunnelSpec) (w : World) → IsHeader header → StandsFor header p w
     → IsTold header (past_after (under_way header) header p (events.Tunnel spec))
@@ -207,7 +215,7 @@ pub tunnel-follows : (header : Header) (p : Past) (spec : TunnelSpec) (w : World
 tunnel-follows header p spec w i s t =
     follows-led header p (events.Tunnel spec) w (controlled (told.Command (commands.Tunnel spec)) (taken_world w)) refl t s.taken
     (command-led header (took p.world) p.controller (taken_world w) (commands.Tunnel spec)
-        (ready-of header p w i s) t.lawful.meet.fit t.sessions)
+    (ready-of header p w i s) t.lawful.meet.fit t.sessions)
 
 pub end-follows : (header : Header) (p : Past) (reqid : ℕ) (w : World) → IsHeader header → StandsFor header p w
     → IsTold header (past_after (under_way header) header p (events.End reqid))
@@ -215,7 +223,7 @@ pub end-follows : (header : Header) (p : Past) (reqid : ℕ) (w : World) → IsH
 end-follows header p reqid w i s t =
     follows-led header p (events.End reqid) w (controlled (told.Command (commands.End reqid)) (taken_world w)) refl t s.taken
     (command-led header (took p.world) p.controller (taken_world w) (commands.End reqid)
-        (ready-of header p w i s) t.lawful.meet.fit t.sessions)
+    (ready-of header p w i s) t.lawful.meet.fit t.sessions)
 
 pub rekey-follows : (header : Header) (p : Past) (reqid : ℕ) (w : World) → IsHeader header → StandsFor header p w
     → IsTold header (past_after (under_way header) header p (events.Rekey reqid))
@@ -223,7 +231,7 @@ pub rekey-follows : (header : Header) (p : Past) (reqid : ℕ) (w : World) → I
 rekey-follows header p reqid w i s t =
     follows-led header p (events.Rekey reqid) w (controlled (told.Command (commands.Rekey reqid)) (taken_world w)) refl t s.taken
     (command-led header (took p.world) p.controller (taken_world w) (commands.Rekey reqid)
-        (ready-of header p w i s) t.lawful.meet.fit t.sessions)
+    (ready-of header p w i s) t.lawful.meet.fit t.sessions)
 
 pub keys-follows : (header : Header) (p : Past) (key : List ℕ) (w : World) → IsHeader header → StandsFor header p w
     → IsTold header (past_after (under_way header) header p (events.Keys key))
@@ -231,4 +239,4 @@ pub keys-follows : (header : Header) (p : Past) (key : List ℕ) (w : World) →
 keys-follows header p key w i s t =
     follows-led header p (events.Keys key) w (controlled (told.Command (commands.Keys key)) (taken_world w)) refl t s.taken
     (command-led header (took p.world) p.controller (taken_world w) (commands.Keys key)
-        (ready-of header p w i s) t.lawful.meet.fit t.sessions)
+    (ready-of header p w i s) t.lawful.meet.fit t.sessions)

@@ -91,7 +91,7 @@ all-given t header h w (Cut g k ∷ xs) all r f s = all-given t header h w xs al
     (spelled-tail header.gateways (acts.Cut (peer_name header.gateways g) k) (all_told header.gateways xs) s)
 all-given t header h w (Answered g k n a ∷ xs) all r f s =
     all-given t header h w xs all r f.1 (spelled-tail header.gateways (acts.Answered (peer_name header.gateways g) k n a)
-        (all_told header.gateways xs) s)
+    (all_told header.gateways xs) s)
 all-given t header h w (Heard g k n ∷ xs) all r f s = all-given t header h w xs all r f.1
     (spelled-tail header.gateways (acts.Heard (peer_name header.gateways g) k n) (all_told header.gateways xs) s)
 all-given t header h w (Accepted c ∷ xs) all r f s = all-given t header h w xs all r f.1 s
@@ -107,7 +107,7 @@ all-given t header h w (Ordered g k n o ∷ xs) all r f s =
     let q = peer-at ps g f.0 in
     let p : Peer = q.0 in
     All-cons (IsGiven w.nodes) (done.Order g order) (all_done ps xs)
-        (given-at header h w g p order r q.1 (order-sent t p.address order (address-there ps g p all q.1) good.0 good.1))
+    (given-at header h w g p order r q.1 (order-sent t p.address order (address-there ps g p all q.1) good.0 good.1))
     (all-given t header h w xs all r f.1 (spelled-tail ps act (all_told ps xs) s))
 
 pub gives : Texts → (header : Header) (h k : List Act) (c : List ControllerAct) (w : World) (e : CtlEvent) → HaveAddresses header.gateways

@@ -100,7 +100,7 @@ giving-gives header h (Accepted c ∷ xs) w names r a f keep = giving-gives head
 giving-gives header h (Refused why ∷ xs) w names r a f keep =
     let before = keeps-before (acts.Refused why ∷ h) (all_told header.gateways xs) keep in
     gave-more header h (acts.Refused why) (acts.Refused why) (all_told header.gateways xs) w w
-        (giving (all_done header.gateways xs) w) refl refl
+    (giving (all_done header.gateways xs) w) refl refl
     (giving-gives header (acts.Refused why ∷ h) xs w names (rests-refused header why h w before.1 r) a f.1 keep)
 giving-gives header h (Ordered g s n o ∷ xs) w names r a f keep =
     let ps : List Peer = header.gateways in
@@ -114,7 +114,7 @@ giving-gives header h (Ordered g s n o ∷ xs) w names r a f keep =
     let rest = rests-order header (peer_name ps g) s n order h w g p (record { names = names; low = f.0; place = q.1 }) name before r in
     let more = giving-gives header (act ∷ h) xs v names rest a f.1 keep in
     subst (λ z. Gave header h (act ∷ all_told ps xs) w (order_at order (all_done ps xs) w z (giving (all_done ps xs))))
-        (sym (node-there header h w g p r q.1))
+    (sym (node-there header h w g p r q.1))
     (gave-more header h act (acts.Order p.name (openings p.name h) (orders p.name (openings p.name h) h + 1) order) (all_told ps xs) w v
-        (giving (all_done ps xs) v)
+    (giving (all_done ps xs) v)
     (same-order (peer_name ps g) p.name s n order h (sym name) before.0.1 before.0.2) refl more)

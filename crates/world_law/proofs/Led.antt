@@ -76,8 +76,13 @@ went header h c xs e w names rests stands past plain may same given fit keep =
     let g = giving-gives header h xs v names (rests-controller header h w core rests) given fit keep in
     let all : (stepped w.controller e).acts ≡ all_done ps xs = follows.acts ∙ same in
     subst (λ z. Went header h c xs e (giving z v)) (sym all)
-    (record { acts = g.acts; genuine = g.genuine; rests = g.rests; controller = subst (StandsFor ps (after c (block ps c (event_of e))))
-        (sym g.controller) follows.stands })
+    (record {
+      acts = g.acts;
+      genuine = g.genuine;
+      rests = g.rests;
+      controller = subst (StandsFor ps (after c (block ps c (event_of e))))
+          (sym g.controller) follows.stands;
+    })
 
 -- the gateway is known to the controller
 pub known : (ps : List Peer) (c : List ControllerAct) (k : Core) (i : ℕ) → StandsFor ps c k → i < length ps → i < length k.stations
@@ -94,7 +99,7 @@ opens : (header : Header) (h : List Act) (c : List ControllerAct) (w : World) (i
     → KeepsSessions (after h (all_told header.gateways (if b then [] else going c (Opened i (openings i c + 1)))))
     → Led header h c (if b then [] else going c (Opened i (openings i c + 1)))
     (if b then did [] w else behind (acts.Opened p.name (sessions.openings p.name h + 1) ∷ [])
-        (controlled (told.Opened i) (with_node (opened (node_of header h p)) w)))
+    (controlled (told.Opened i) (with_node (opened (node_of header h p)) w)))
 opens header h c w i p true r at e fit keep = still header h c w r
 opens header h c w i p false r at e fit keep =
     let ps : List Peer = header.gateways in
@@ -104,14 +109,14 @@ opens header h c w i p false r at e fit keep =
     let v : World = with_node (opened (node_of header h p)) w in
     let name : peer_name ps i ≡ p.name = place-name ps i p at.place in
     let rests = rests-opened header (peer_name ps i) (openings i c + 1) h w i p at name
-        (keeps-before (act ∷ h) (all_told ps xs) keep) r.rests in
+    (keeps-before (act ∷ h) (all_told ps xs) keep) r.rests in
     let same : all_done ps (block ps c (Opens i)) ≡ all_done ps xs = ap (λ z. all_done ps (if z then [] else going c own)) e in
     let t = went header (act ∷ h) c xs (told.Opened i) v r.names rests r.controller r.meet.past r.plain
-        (known ps c w.controller i r.controller at.low) same
+    (known ps c w.controller i r.controller at.low) same
     (orders-given xs (then-orders c own)) (fit-parts (length ps) c (own ∷ xs) fit).0.1 keep in
     let first : acts.Opened p.name (sessions.openings p.name h + 1) ≡ act =
     ap (λ z. acts.Opened z (sessions.openings z h + 1)) (sym name) ∙ ap (λ n. acts.Opened (peer_name ps i) (n + 1))
-        (openings-meet ps h c i r.names r.meet at.low) in
+    (openings-meet ps h c i r.names r.meet at.low) in
     record {
       acts = ap (λ z. z ∷ (controlled (told.Opened i) v).acts) first ∙ ap (λ z. act ∷ z) t.acts;
       genuine = t.genuine;
@@ -129,13 +134,13 @@ open-led header h c w i p r at number fit keep =
     let ps : List Peer = header.gateways in
     let n : Node = node_of header h p in
     let live : sessions.is_open p.name h ≡ is_open i c = ap (λ z. sessions.is_open z h) (sym (place-name ps i p at.place))
-        ∙ open-meet ps h c i r.names r.meet at.low in
+    ∙ open-meet ps h c i r.names r.meet at.low in
     subst (λ b. Led header h c (block ps c (Opens i))
     (if b then did [] w else behind (acts.Opened p.name (sessions.openings p.name h + 1) ∷ [])
-        (controlled (told.Opened (number_of p.name w)) (with_node (opened n) w)))) (sym live)
+    (controlled (told.Opened (number_of p.name w)) (with_node (opened n) w)))) (sym live)
     (subst (λ j. Led header h c (block ps c (Opens i))
     (if is_open i c then did [] w else behind (acts.Opened p.name (sessions.openings p.name h + 1) ∷ [])
-        (controlled (told.Opened j) (with_node (opened n) w)))) (sym number)
+    (controlled (told.Opened j) (with_node (opened n) w)))) (sym number)
     (opens header h c w i p (is_open i c) r at refl fit keep))
 
 cuts : (header : Header) (h : List Act) (c : List ControllerAct) (w : World) (i : ℕ) (p : Peer) (b : Bool) → Ready header h c w
@@ -144,7 +149,7 @@ cuts : (header : Header) (h : List Act) (c : List ControllerAct) (w : World) (i 
     → KeepsSessions (after h (all_told header.gateways (if b then going c (Cut i (openings i c)) else [])))
     → Led header h c (if b then going c (Cut i (openings i c)) else [])
     (if b then behind (acts.Cut p.name (sessions.openings p.name h) ∷ [])
-        (controlled (told.Cut i) (with_node (cut (node_of header h p)) w)) else did [] w)
+    (controlled (told.Cut i) (with_node (cut (node_of header h p)) w)) else did [] w)
 cuts header h c w i p false r at e fit keep = still header h c w r
 cuts header h c w i p true r at e fit keep =
     let ps : List Peer = header.gateways in
@@ -156,11 +161,11 @@ cuts header h c w i p true r at e fit keep =
     let rests = rests-cut header (peer_name ps i) (openings i c) h w i p at name (keeps-before (act ∷ h) (all_told ps xs) keep) r.rests in
     let same : all_done ps (block ps c (Cuts i)) ≡ all_done ps xs = ap (λ z. all_done ps (if z then going c own else [])) e in
     let t = went header (act ∷ h) c xs (told.Cut i) v r.names rests r.controller r.meet.past r.plain
-        (known ps c w.controller i r.controller at.low) same
+    (known ps c w.controller i r.controller at.low) same
     (orders-given xs (then-orders c own)) (fit-parts (length ps) c (own ∷ xs) fit).0.1 keep in
     let first : acts.Cut p.name (sessions.openings p.name h) ≡ act =
     ap (λ z. acts.Cut z (sessions.openings z h)) (sym name) ∙ ap (acts.Cut (peer_name ps i))
-        (openings-meet ps h c i r.names r.meet at.low) in
+    (openings-meet ps h c i r.names r.meet at.low) in
     record {
       acts = ap (λ z. z ∷ (controlled (told.Cut i) v).acts) first ∙ ap (λ z. act ∷ z) t.acts;
       genuine = t.genuine;
@@ -178,13 +183,13 @@ cut-led header h c w i p r at number fit keep =
     let ps : List Peer = header.gateways in
     let n : Node = node_of header h p in
     let live : sessions.is_open p.name h ≡ is_open i c = ap (λ z. sessions.is_open z h) (sym (place-name ps i p at.place))
-        ∙ open-meet ps h c i r.names r.meet at.low in
+    ∙ open-meet ps h c i r.names r.meet at.low in
     subst (λ b. Led header h c (block ps c (Cuts i))
     (if b then behind (acts.Cut p.name (sessions.openings p.name h) ∷ [])
-        (controlled (told.Cut (number_of p.name w)) (with_node (cut n) w)) else did [] w)) (sym live)
+    (controlled (told.Cut (number_of p.name w)) (with_node (cut n) w)) else did [] w)) (sym live)
     (subst (λ j. Led header h c (block ps c (Cuts i))
     (if is_open i c then behind (acts.Cut p.name (sessions.openings p.name h) ∷ [])
-        (controlled (told.Cut j) (with_node (cut n) w)) else did [] w)) (sym number)
+    (controlled (told.Cut j) (with_node (cut n) w)) else did [] w)) (sym number)
     (cuts header h c w i p (is_open i c) r at refl fit keep))
 
 -- ---- what a gateway sends
@@ -195,7 +200,7 @@ hears : (header : Header) (h : List Act) (c : List ControllerAct) (w : World) (i
     → KeepsSessions (after h (all_told header.gateways (if b then going c (Heard i (openings i c) t) else [])))
     → Led header h c (if b then going c (Heard i (openings i c) t) else [])
     (behind (acts.Heard p.name (sessions.openings p.name h) t ∷ [])
-        (controlled (told.Noticed i t) (with_node (heard_notice (node_of header h p)) w)))
+    (controlled (told.Noticed i t) (with_node (heard_notice (node_of header h p)) w)))
 hears header h c w i p t false o r at e fit keep = absurd (no o)
 hears header h c w i p t true o r at e fit keep =
     let ps : List Peer = header.gateways in
@@ -205,14 +210,14 @@ hears header h c w i p t true o r at e fit keep =
     let v : World = with_node (heard_notice (node_of header h p)) w in
     let name : peer_name ps i ≡ p.name = place-name ps i p at.place in
     let rests = rests-heard header (peer_name ps i) (openings i c) t h w i p at name
-        (keeps-before (act ∷ h) (all_told ps xs) keep) r.rests in
+    (keeps-before (act ∷ h) (all_told ps xs) keep) r.rests in
     let same : all_done ps (block ps c (Notices i t)) ≡ all_done ps xs = ap (λ z. all_done ps (if z then going c own else [])) e in
     let s = went header (act ∷ h) c xs (told.Noticed i t) v r.names rests r.controller r.meet.past r.plain
-        (known ps c w.controller i r.controller at.low) same
+    (known ps c w.controller i r.controller at.low) same
     (orders-given xs (then-orders c own)) (fit-parts (length ps) c (own ∷ xs) fit).0.1 keep in
     let first : acts.Heard p.name (sessions.openings p.name h) t ≡ act =
     ap (λ z. acts.Heard z (sessions.openings z h) t) (sym name) ∙ ap (λ n. acts.Heard (peer_name ps i) n t)
-        (openings-meet ps h c i r.names r.meet at.low) in
+    (openings-meet ps h c i r.names r.meet at.low) in
     record {
       acts = ap (λ z. z ∷ (controlled (told.Noticed i t) v).acts) first ∙ ap (λ z. act ∷ z) s.acts;
       genuine = s.genuine;
@@ -231,9 +236,9 @@ note-led header h c w i p t r at number live fit keep =
     let ps : List Peer = header.gateways in
     let n : Node = node_of header h p in
     let same : sessions.is_open p.name h ≡ is_open i c = ap (λ z. sessions.is_open z h) (sym (place-name ps i p at.place))
-        ∙ open-meet ps h c i r.names r.meet at.low in
+    ∙ open-meet ps h c i r.names r.meet at.low in
     subst (λ j. Led header h c (block ps c (Notices i t)) (behind (acts.Heard p.name (sessions.openings p.name h) t ∷ [])
-        (controlled (told.Noticed j t) (with_node (heard_notice n) w)))) (sym number)
+    (controlled (told.Noticed j t) (with_node (heard_notice n) w)))) (sym number)
     (hears header h c w i p t (is_open i c) (sym same ∙ live) r at refl fit keep)
 
 answers : (header : Header) (h : List Act) (c : List ControllerAct) (w : World) (i : ℕ) (p : Peer) (a : Answer) (os : List ControllerOrder)
@@ -253,10 +258,10 @@ answers header h c w i p a (o ∷ os) q some r at may fit keep =
     let v : World = with_node (heard_answer (node_of header h p)) w in
     let name : peer_name ps i ≡ p.name = place-name ps i p at.place in
     let rests = rests-answered header (peer_name ps i) (openings i c) (answered i c + 1) a h w i p at name
-        (keeps-before (act ∷ h) (all_told ps xs) keep) r.rests in
+    (keeps-before (act ∷ h) (all_told ps xs) keep) r.rests in
     let same : all_done ps (block ps c (Answers i a)) ≡ all_done ps xs = ap (λ z. all_done ps (by_answer c i a z)) q in
     let t = went header (act ∷ h) c xs (told.Answered i a) v r.names rests r.controller r.meet.past r.plain
-        (known ps c w.controller i r.controller at.low, may) same
+    (known ps c w.controller i r.controller at.low, may) same
     (orders-given xs (then-orders c own)) (fit-parts (length ps) c (own ∷ xs) fit).0.1 keep in
     let session : sessions.openings (peer_name ps i) h ≡ openings i c = openings-meet ps h c i r.names r.meet at.low in
     let first : acts.Answered p.name (sessions.openings p.name h) (sessions.answered p.name (sessions.openings p.name h) h + 1) a ≡ act =
@@ -282,7 +287,7 @@ up-led header h c w i p a r at number some may fit keep =
     let n : Node = node_of header h p in
     subst (λ j. Led header h c (block ps c (Answers i a))
     (behind (acts.Answered p.name (sessions.openings p.name h) (sessions.answered p.name (sessions.openings p.name h) h + 1) a ∷ [])
-        (controlled (told.Answered j a) (with_node (heard_answer n) w)))) (sym number)
+    (controlled (told.Answered j a) (with_node (heard_answer n) w)))) (sym number)
     (answers header h c w i p a (queue i c) refl some r at may fit keep)
 
 -- ---- a command

@@ -105,7 +105,7 @@ pipe-away p a h k e =
 pub took-stays : (header : Header) (k : ℕ) (h : List Act) (p : Peer) → KeepsSessions h → Stays header (acts.Took k) h p
 took-stays header k h p keep =
     same-parts header p (kept_of (state_of p.name (acts.Took k ∷ h))) (kept_of (state_of p.name h))
-        (pipe_at p.name p.address (acts.Took k ∷ h)) (pipe_at p.name p.address h)
+    (pipe_at p.name p.address (acts.Took k ∷ h)) (pipe_at p.name p.address h)
     (orders p.name (openings p.name h) h) (orders p.name (openings p.name h) h) (requests p.name h) (requests p.name h)
     (answered p.name (openings p.name h) h) (answered p.name (openings p.name h) h)
     (kept-took p.name k h) (pipe-away p (acts.Took k) h (tt, keep) refl) refl refl refl
@@ -113,7 +113,7 @@ took-stays header k h p keep =
 pub refused-stays : (header : Header) (w : Refusal) (h : List Act) (p : Peer) → KeepsSessions h → Stays header (acts.Refused w) h p
 refused-stays header w h p keep =
     same-parts header p (kept_of (state_of p.name (acts.Refused w ∷ h))) (kept_of (state_of p.name h))
-        (pipe_at p.name p.address (acts.Refused w ∷ h)) (pipe_at p.name p.address h)
+    (pipe_at p.name p.address (acts.Refused w ∷ h)) (pipe_at p.name p.address h)
     (orders p.name (openings p.name h) h) (orders p.name (openings p.name h) h) (requests p.name h) (requests p.name h)
     (answered p.name (openings p.name h) h) (answered p.name (openings p.name h) h)
     (kept-refused p.name w h) (pipe-away p (acts.Refused w) h (tt, keep) refl) refl refl refl
@@ -124,7 +124,7 @@ pub opened-stays : (header : Header) (f : List ℕ) (s : ℕ) (h : List Act) (p 
     → bytes_eq f p.name ≡ false → Stays header (acts.Opened f s) h p
 opened-stays header f s h p keep e =
     same-parts header p (kept_of (state_of p.name (acts.Opened f s ∷ h))) (kept_of (state_of p.name h))
-        (pipe_at p.name p.address (acts.Opened f s ∷ h)) (pipe_at p.name p.address h)
+    (pipe_at p.name p.address (acts.Opened f s ∷ h)) (pipe_at p.name p.address h)
     (orders p.name (openings p.name (acts.Opened f s ∷ h)) h) (orders p.name (openings p.name h) h)
     (requests p.name (acts.Opened f s ∷ h)) (requests p.name h)
     (answered p.name (openings p.name (acts.Opened f s ∷ h)) h) (answered p.name (openings p.name h) h)
@@ -140,7 +140,7 @@ pub cut-stays : (header : Header) (f : List ℕ) (s : ℕ) (h : List Act) (p : P
     → bytes_eq f p.name ≡ false → Stays header (acts.Cut f s) h p
 cut-stays header f s h p keep e =
     same-parts header p (kept_of (state_of p.name (acts.Cut f s ∷ h))) (kept_of (state_of p.name h))
-        (pipe_at p.name p.address (acts.Cut f s ∷ h)) (pipe_at p.name p.address h)
+    (pipe_at p.name p.address (acts.Cut f s ∷ h)) (pipe_at p.name p.address h)
     (orders p.name (openings p.name h) h) (orders p.name (openings p.name h) h) (requests p.name h) (requests p.name h)
     (answered p.name (openings p.name h) h) (answered p.name (openings p.name h) h)
     (kept-cut p.name f s h) (pipe-away p (acts.Cut f s) h keep e) refl refl refl
@@ -155,7 +155,7 @@ order-stays header f s k o h p keep e =
     same-parts header p (kept_of (state_of p.name (acts.Order f s k o ∷ h))) (kept_of (state_of p.name h))
     (pipe_at p.name p.address (acts.Order f s k o ∷ h)) (pipe_at p.name p.address h)
     (orders p.name (openings p.name h) (acts.Order f s k o ∷ h)) (orders p.name (openings p.name h) h) (requests p.name h)
-        (requests p.name h)
+    (requests p.name h)
     (answered p.name (openings p.name h) h) (answered p.name (openings p.name h) h)
     (kept-order p.name f s k o h) (pipe-away p (acts.Order f s k o) h keep e)
     (no-more (bytes_eq f p.name) (s == openings p.name h) (orders p.name (openings p.name h) h) e) refl refl
@@ -176,7 +176,7 @@ pub heard-stays : (header : Header) (f : List ℕ) (s : ℕ) (n : Notice) (h : L
     → Stays header (acts.Heard f s n) h p
 heard-stays header f s n h p keep e =
     same-parts header p (kept_of (state_of p.name (acts.Heard f s n ∷ h))) (kept_of (state_of p.name h))
-        (pipe_at p.name p.address (acts.Heard f s n ∷ h)) (pipe_at p.name p.address h)
+    (pipe_at p.name p.address (acts.Heard f s n ∷ h)) (pipe_at p.name p.address h)
     (orders p.name (openings p.name h) h) (orders p.name (openings p.name h) h) (requests p.name h) (requests p.name h)
     (answered p.name (openings p.name h) h) (answered p.name (openings p.name h) h)
     (kept-heard p.name f s n h) (pipe-away p (acts.Heard f s n) h keep e) refl refl refl
@@ -188,14 +188,14 @@ no-orders : (p : Peer) (h : List Act) → KeepsSessions h → orders p.name (ope
 no-orders p h keep =
     let next : openings p.name h < openings p.name h + 1 = omega arith in
     sym (count_requests (request_at p.address) p.name (openings p.name h + 1) h) ∙ ap length
-        (no_requests (request_at p.address) p.name (openings p.name h + 1) h keep next)
+    (no_requests (request_at p.address) p.name (openings p.name h + 1) h keep next)
 
 no-answers : (p : Peer) (h : List Act) → KeepsSessions h → answered p.name (openings p.name h + 1) h ≡ 0
 no-answers p h keep =
     let next : openings p.name h < openings p.name h + 1 = omega arith in
     let few = answered_bound (response_at p.name) p.name (openings p.name h + 1) h keep in
     let none : length (responses (response_at p.name) p.name (openings p.name h + 1) h) ≡ 0 = ap length
-        (no_responses (response_at p.name) p.name (openings p.name h + 1) h keep next) in
+    (no_responses (response_at p.name) p.name (openings p.name h + 1) h keep next) in
     omega (arith, few, none)
 
 pub opened-moves : (header : Header) (f : List ℕ) (s : ℕ) (h : List Act) (p : Peer) → KeepsSessions (acts.Opened f s ∷ h)
@@ -205,7 +205,7 @@ opened-moves header f s h p keep e =
     same-parts header p (kept_of (state_of p.name (acts.Opened f s ∷ h))) (session_taken (kept_of (state_of p.name h)))
     (pipe_at p.name p.address (acts.Opened f s ∷ h)) (after_open (pipe_at p.name p.address h))
     (orders p.name (openings p.name (acts.Opened f s ∷ h)) h) 0 (requests p.name (acts.Opened f s ∷ h)) 0
-        (answered p.name (openings p.name (acts.Opened f s ∷ h)) h) 0
+    (answered p.name (openings p.name (acts.Opened f s ∷ h)) h) 0
     (kept-opened p.name f s h e) (pipe-there p (acts.Opened f s) h keep e)
     (ap (λ n. orders p.name n h) number ∙ no-orders p h keep.1)
     (if-new (bytes_eq f p.name) 0 (requests p.name h) e)
@@ -237,11 +237,11 @@ order-moves header f s k o h p keep e =
     same-parts header p (kept_of (state_of p.name (acts.Order f s k o ∷ h))) (kept_of (state_of p.name h))
     (pipe_at p.name p.address (acts.Order f s k o ∷ h)) (after_push lanes.Down (request_at p.address h o) (pipe_at p.name p.address h))
     (orders p.name (openings p.name h) (acts.Order f s k o ∷ h)) (orders p.name (openings p.name h) h + 1) (requests p.name h)
-        (requests p.name h)
+    (requests p.name h)
     (answered p.name (openings p.name h) h) (answered p.name (openings p.name h) h)
     (kept-order p.name f s k o h) (pipe-there p (acts.Order f s k o) h keep e)
     (one-more (bytes_eq f p.name) (s == openings p.name h) (orders p.name (openings p.name h) h) e
-        (newest f p.name s h e keep.0.1)) refl refl
+    (newest f p.name s h e keep.0.1)) refl refl
 
 pub answered-moves : (header : Header) (f : List ℕ) (s k : ℕ) (a : Answer) (h : List Act) (p : Peer)
     → KeepsSessions (acts.Answered f s k a ∷ h) → bytes_eq f p.name ≡ true

@@ -60,10 +60,12 @@ ports-of s e = grind (arith, e)
 
 packet-whole : (s : Selector) → is_packet s ≡ true → IsWhole s
 packet-whole s e =
-    let p = ports-of s e in
-    (neither (list_any is_empty_range s.local_ports) (list_any is_empty_range s.remote_ports) (one-empty s.local_ports p.0)
-        (one-empty s.remote_ports p.1),
-    neither (nat_lt 8 (length s.local_ports)) (nat_lt 8 (length s.remote_ports)) (one-many s.local_ports p.0) (one-many s.remote_ports p.1))
+    let p = ports-of s e in (
+      neither (list_any is_empty_range s.local_ports) (list_any is_empty_range s.remote_ports) (one-empty s.local_ports p.0)
+          (one-empty s.remote_ports p.1),
+      neither (nat_lt 8 (length s.local_ports)) (nat_lt 8 (length s.remote_ports)) (one-many s.local_ports p.0)
+          (one-many s.remote_ports p.1),
+    )
 
 pub notice-is : (n : Notice) → IsNoticeSpelled n → IsNotice n
 notice-is (notices.Acquire policy s) e = (e.0, packet-whole s e.1)
@@ -96,9 +98,13 @@ place-more gs ns ls n seconds small spelled typed p = record {
       let q = p.each k t e in
       (q.0, q.1, q.2, q.3, pushed ls (line_text n seconds) (line_text t q.0) k q.4)
   by-place k t (inr e) =
-      let last : k ≡ length ls = e.0 ∙ sym p.long in
-      (seconds, small, subst IsNoticeSpelled e.1 spelled, subst IsTypedNotice e.1 typed,
-      ap (slice_get (ls ++ line_text n seconds ∷ [])) last ∙ at-end ls (line_text n seconds) ∙ ap (λ z. Some (line_text z seconds)) e.1)
+      let last : k ≡ length ls = e.0 ∙ sym p.long in (
+        seconds,
+        small,
+        subst IsNoticeSpelled e.1 spelled,
+        subst IsTypedNotice e.1 typed,
+        ap (slice_get (ls ++ line_text n seconds ∷ [])) last ∙ at-end ls (line_text n seconds) ∙ ap (λ z. Some (line_text z seconds)) e.1,
+      )
 
 place-if : (gs : List Peer) (b : Bool) (ns : List Notice) (ls : List (List ℕ)) (n : Notice) (seconds : ℕ) → seconds < 2 ^ 32
     → IsNoticeSpelled n → IsTypedNotice n → Places gs ns ls
@@ -118,7 +124,7 @@ places gs g s (acts.Notice f t n ∷ h) p =
     let rest = spelled-tail gs (acts.Notice f t n) h p in
     let one = spelled-head gs (acts.Notice f t n) h p in
     place-if gs (is_session f t g s) (sessions.notices g s h) (lines line_at g s h) n (clock h) (clock-low gs h rest) one.0.1 one.1.1
-        (places gs g s h rest)
+    (places gs g s h rest)
 places gs g s (a ∷ h) p = places gs g s h (spelled-tail gs a h p)
 
 -- ---- the next notice
@@ -148,7 +154,7 @@ next-is gs p h t s e =
 pub next-open : (p : Peer) (h : List Act) (t : Notice) → next_notice p.name h ≡ Some t → is_open p.name h ≡ true
 next-open p h t e =
     (else_none (is_open p.name h) (slice_get (sessions.notices p.name (openings p.name h) h)
-        (notices_heard p.name (openings p.name h) h)) t e).0
+    (notices_heard p.name (openings p.name h) h)) t e).0
 
 -- no line is under way where there is no next notice
 pub none-next : (p : Peer) (h : List Act) → KeepsSessions h → next_notice p.name h ≡ None
@@ -156,4 +162,4 @@ pub none-next : (p : Peer) (h : List Act) → KeepsSessions h → next_notice p.
 none-next p h keep e =
     let m : Option (List ℕ) = next_message lanes.Note (pipe_at p.name p.address h) in
     subst (λ v. MatchOption v (m ≡ None) (λ n. (w : List Act) × (m ≡ Some (line_at w n)))) e
-        (notice_next (request_at p.address) (response_at p.name) line_at p.name h keep)
+    (notice_next (request_at p.address) (response_at p.name) line_at p.name h keep)

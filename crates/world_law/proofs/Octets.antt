@@ -26,16 +26,16 @@ step-octets : (next : ℕ) (o : List ℕ) (after : Result (ℕ × List ℕ) NotP
     → OctetsAbove (upper_step next o after)
 step-octets next o after all rest =
     above-if (next == 44) (Err faults.Fragment) (if is_extension next then (if passes_end o then Err faults.Length else after) else Ok
-        (next, o)) tt
+    (next, o)) tt
     (above-if (is_extension next) (if passes_end o then Err faults.Length else after) (Ok (next, o))
-        (above-if (passes_end o) (Err faults.Length) after tt rest) all)
+    (above-if (passes_end o) (Err faults.Length) after tt rest) all)
 
 within-octets : (n next : ℕ) (o : List ℕ) → AreOctets o → OctetsAbove (upper_within n next o)
 within-octets zero next o all = step-octets next o (Err faults.Length) all tt
 within-octets (suc n) next o all =
     let rest : List ℕ = drop (extension_length o) o in
     step-octets next o (upper_within n (slice_index o 0) rest) all
-        (within-octets n (slice_index o 0) rest (All-drop (λ z. z < 256) (extension_length o) o all))
+    (within-octets n (slice_index o 0) rest (All-drop (λ z. z < 256) (extension_length o) o all))
 
 upper-octets : (next : ℕ) (o : List ℕ) → AreOctets o → OctetsAbove (upper_of next o)
 unfolding upper_of
@@ -56,7 +56,7 @@ by-upper o (Err fault) p = tt
 four-octets : (o : List ℕ) → AreOctets o → OctetsIn (view_of_4 o)
 four-octets o all =
     in-if (is_length_wrong o) (Err faults.Length)
-        (if is_sum_wrong o then Err faults.HeaderSum else if is_fragment o then Err faults.Fragment else Ok (packet_4 o)) tt
+    (if is_sum_wrong o then Err faults.HeaderSum else if is_fragment o then Err faults.Fragment else Ok (packet_4 o)) tt
     (in-if (is_sum_wrong o) (Err faults.HeaderSum) (if is_fragment o then Err faults.Fragment else Ok (packet_4 o)) tt
     (in-if (is_fragment o) (Err faults.Fragment) (Ok (packet_4 o)) tt (All-drop (λ z. z < 256) (header_length o) o all)))
 
@@ -69,7 +69,7 @@ view-octets : (o : List ℕ) → AreOctets o → OctetsIn (view_of o)
 unfolding view_of
 view-octets o all =
     in-if (is_short o) (Err faults.Short)
-        (if version o == 4 then view_of_4 o else if version o == 6 then view_of_6 o else Err faults.Version) tt
+    (if version o == 4 then view_of_4 o else if version o == 6 then view_of_6 o else Err faults.Version) tt
     (in-if (version o == 4) (view_of_4 o) (if version o == 6 then view_of_6 o else Err faults.Version) (four-octets o all)
     (in-if (version o == 6) (view_of_6 o) (Err faults.Version) (six-octets o all) tt))
 
@@ -96,4 +96,4 @@ number-small xs all =
     let ys : List ℕ = slice_range xs 4 8 in
     let low : AreOctets ys = All-take (λ z. z < 256) 4 (drop 4 xs) (All-drop (λ z. z < 256) 4 xs all) in
     four-bytes (slice_index ys 0) (slice_index ys 1) (slice_index ys 2) (slice_index ys 3) (octet-at ys 0 low) (octet-at ys 1 low)
-        (octet-at ys 2 low) (octet-at ys 3 low)
+    (octet-at ys 2 low) (octet-at ys 3 low)

@@ -46,9 +46,9 @@ pub number-low : (ps : List Peer) (g : List ℕ) → is_named ps g ≡ true → 
 number-low [] g e = absurd (no e)
 number-low (q ∷ ps) g e = known-case (bytes_eq q.name g) (peer_number g ps) (length ps)
     (λ s. number-low ps g (rest (bytes_eq q.name g) s e)) where
-  rest : (b : Bool) → b ≡ false → (b || is_named ps g) ≡ true → is_named ps g ≡ true
-  rest true s e = absurd (no (sym s))
-  rest false s e = e
+      rest : (b : Bool) → b ≡ false → (b || is_named ps g) ≡ true → is_named ps g ≡ true
+      rest true s e = absurd (no (sym s))
+      rest false s e = e
 
 -- ---- by number
 

@@ -107,8 +107,15 @@ end-if false xs x k e n = cc
 on : (g : List ℕ) (s k : ℕ) (b : Act) (h : List Act) (a : Answer) (i : IsHandled g s k h a)
     → slice_get (orders_given g s (b ∷ h)) k ≡ Some i.order
     → slice_get (responses (response_at g) g s (b ∷ h)) k ≡ Some (response_for g i.older i.order) → IsHandled g s k (b ∷ h) a
-on g s k b h a i given response = record { newer = b ∷ i.newer; older = i.older; order = i.order; all = ap (λ z. b ∷ z) i.all;
-    given = given; says = i.says; response = response }
+on g s k b h a i given response = record {
+  newer = b ∷ i.newer;
+  older = i.older;
+  order = i.order;
+  all = ap (λ z. b ∷ z) i.all;
+  given = given;
+  says = i.says;
+  response = response;
+}
 
 -- the order of the next request has the number of its answer
 next-given : (g : List ℕ) (s k : ℕ) (h : List Act) (o : Order) → KeepsSessions h → s ≡ session_taken g h → k ≡ handled g s h
@@ -152,12 +159,13 @@ is-handled g s k (acts.Order f t j o ∷ h) a keep replied e =
     on g s k (acts.Order f t j o) h a i (pushed-if (is_session f t g s) (orders_given g s h) o i.order k i.given) i.response
 is-handled g s k (acts.Handled f t j b ∷ h) a keep replied e = by-place (is_session f t g s && (j == k + 1)) refl e
     (is-handled g s k h a keep.1 replied.1) where
-  by-place : (c : Bool) → (is_session f t g s && (j == k + 1)) ≡ c → (if c then Some b else answer_at g s (k + 1) h) ≡ Some a
-      → (answer_at g s (k + 1) h ≡ Some a → IsHandled g s k h a) → IsHandled g s k (acts.Handled f t j b ∷ h) a
-  by-place true here e ih = handled-now f t j b g s k h a keep replied here (some-answer b a e)
-  by-place false here e ih =
-      let i = ih e in
-      on g s k (acts.Handled f t j b) h a i i.given (pushed-if (is_session f t g s) (responses (response_at g) g s h) (response_at g h b)
+      by-place : (c : Bool) → (is_session f t g s && (j == k + 1)) ≡ c → (if c then Some b else answer_at g s (k + 1) h) ≡ Some a
+          → (answer_at g s (k + 1) h ≡ Some a → IsHandled g s k h a) → IsHandled g s k (acts.Handled f t j b ∷ h) a
+      by-place true here e ih = handled-now f t j b g s k h a keep replied here (some-answer b a e)
+      by-place false here e ih =
+          let i = ih e in
+          on g s k (acts.Handled f t j b) h a i i.given
+          (pushed-if (is_session f t g s) (responses (response_at g) g s h) (response_at g h b)
           (response_for g i.older i.order) k i.response)
 is-handled g s k (b ∷ h) a keep replied e = let i = is-handled g s k h a keep.1 replied.1 e in on g s k b h a i i.given i.response
 
@@ -213,7 +221,7 @@ given-good gs g s k [] o p e = absurd (no-order o e)
 given-good gs g s k (acts.Order f t j q ∷ h) o p e =
     let a = spelled-head gs (acts.Order f t j q) h p in
     good-if (is_session f t g s) (orders_given g s h) q o k (order-good q a.0.1 a.1.2)
-        (given-good gs g s k h o (spelled-tail gs (acts.Order f t j q) h p)) e
+    (given-good gs g s k h o (spelled-tail gs (acts.Order f t j q) h p)) e
 given-good gs g s k (a ∷ h) o p e = given-good gs g s k h o (spelled-tail gs a h p) e
 
 -- the order that waits longest is the next one
@@ -227,9 +235,9 @@ oldest-given ps i h c o names low meet keep live e =
     let k : ℕ = controller.answered i c in
     let number : k + 1 + 0 ≡ k + 1 = omega arith in
     let waiting : place 0 (controller.queue i c) ≡ numbered i s (k + 1) c = queue-numbered (length ps) c meet.past i live 0 ∙ ap
-        (λ z. numbered i s z c) number in
+    (λ z. numbered i s z c) number in
     ap (option_map (order_told ps)) waiting ∙ sym (order-told ps c names meet.fit i s (k + 1) low) ∙ ap (order_at g s (k + 1))
-        (sym meet.part)
+    (sym meet.part)
     ∙ sym (order-at-part g s (k + 1) h) ∙ order-at g s k h keep ∙ e
 
 record Oldest (ps : List Peer) (q : List ControllerOrder) (o : Order) : Type 0 where
@@ -258,7 +266,7 @@ next-is ps p i h c a names low at known meet keep replied e =
     let session : s ≡ controller.openings i c = ap (λ z. openings z h) (sym name) ∙ openings-meet ps h c i names meet low in
     let count : k ≡ controller.answered i c =
     ap (λ z. answered g z h) session ∙ ap (λ z. answered z (controller.openings i c) h) (sym name)
-        ∙ answered-meet ps h c i names meet low in
+    ∙ answered-meet ps h c i names meet low in
     let is_up : controller.is_open i c ≡ true = sym (open-meet ps h c i names meet low) ∙ ap (λ z. is_open z h) name ∙ live.0 in
     let given : slice_get (orders_given (peer_name ps i) (controller.openings i c) h) (controller.answered i c) ≡ Some r.order =
     ap (λ z. slice_get (orders_given z (controller.openings i c) h) (controller.answered i c)) name
@@ -270,7 +278,7 @@ next-is ps p i h c a names low at known meet keep replied e =
     let there : Known ps before = known-before ps r.older (known-older ps r.newer r.older (subst (Known ps) r.all known)) in
     let up : next_message lanes.Up (pipe_at g p.address h) ≡ Some (response_for g r.older r.order) =
     ap (λ b. slice_get (if b then drop k (responses (response_at g) g s h) else []) 0) live.0 ∙ next-drop k
-        (responses (response_at g) g s h) ∙ r.response in
+    (responses (response_at g) g s h) ∙ r.response in
     record {
       order = oldest.order;
       rest = oldest.rest;
@@ -298,7 +306,7 @@ next-reads ps p i h c a names n =
     let o : Order = order_told ps n.order in
     let read = reply_again (tree_of p.name n.older) o tree typed in
     subst (λ t. reading.answer_of o (reply_message (reply_of (reply t (ask_of o)))) ≡ Ok (answer_of (reply t (ask_of o)))) (sym n.is) read
-        ∙ ap (λ z. Ok z) (sym n.says)
+    ∙ ap (λ z. Ok z) (sym n.says)
 
 same-status : (o : Order) (status : ℕ) → reading.is_status_of o status ≡ is_status_of o status
 same-status asks.Read status = refl

@@ -34,20 +34,45 @@ none-left a k e = cc
 older-part : (ps : List Peer) (a : Act) (k : List Act) (c : List ControllerAct) → a ∷ k ≡ past_told ps c → IsControllerPast (length ps) c
     → AllFit (length ps) c → PlainAnswers c → Older ps k
 older-part ps a k [] e p f y = absurd (none-left a k e)
-older-part ps a k (Opened g s ∷ c) e p f y = record { acts = c; told = rest-is a (acts.Opened (peer_name ps g) s) k (past_told ps c) e;
-    past = p.1; fit = f.1; plain = y }
-older-part ps a k (Cut g s ∷ c) e p f y = record { acts = c; told = rest-is a (acts.Cut (peer_name ps g) s) k (past_told ps c) e;
-    past = p.1; fit = f.1; plain = y }
+older-part ps a k (Opened g s ∷ c) e p f y = record {
+  acts = c;
+  told = rest-is a (acts.Opened (peer_name ps g) s) k (past_told ps c) e;
+  past = p.1;
+  fit = f.1;
+  plain = y;
+}
+older-part ps a k (Cut g s ∷ c) e p f y = record {
+  acts = c;
+  told = rest-is a (acts.Cut (peer_name ps g) s) k (past_told ps c) e;
+  past = p.1;
+  fit = f.1;
+  plain = y;
+}
 older-part ps a k (Answered g s n b ∷ c) e p f y =
     record { acts = c; told = rest-is a (acts.Answered (peer_name ps g) s n b) k (past_told ps c) e; past = p.1; fit = f.1; plain = y.1 }
-older-part ps a k (Heard g s t ∷ c) e p f y = record { acts = c; told = rest-is a (acts.Heard (peer_name ps g) s t) k (past_told ps c) e;
-    past = p.1; fit = f.1; plain = y }
+older-part ps a k (Heard g s t ∷ c) e p f y = record {
+  acts = c;
+  told = rest-is a (acts.Heard (peer_name ps g) s t) k (past_told ps c) e;
+  past = p.1;
+  fit = f.1;
+  plain = y;
+}
 older-part ps a k (Ordered g s n o ∷ c) e p f y =
-    record { acts = c; told = rest-is a (acts.Order (peer_name ps g) s n (order_told ps o)) k (past_told ps c) e; past = p.1; fit = f.1;
-        plain = y }
+    record {
+      acts = c;
+      told = rest-is a (acts.Order (peer_name ps g) s n (order_told ps o)) k (past_told ps c) e;
+      past = p.1;
+      fit = f.1;
+      plain = y;
+    }
 older-part ps a k (Accepted x ∷ c) e p f y = older-part ps a k c e p.1 f.1 y
-older-part ps a k (Refused w ∷ c) e p f y = record { acts = c; told = rest-is a (acts.Refused w) k (past_told ps c) e; past = p.1;
-    fit = f.1; plain = y }
+older-part ps a k (Refused w ∷ c) e p f y = record {
+  acts = c;
+  told = rest-is a (acts.Refused w) k (past_told ps c) e;
+  past = p.1;
+  fit = f.1;
+  plain = y;
+}
 
 -- ---- all of it
 
@@ -60,8 +85,13 @@ pub record Known (ps : List Peer) (h : List Act) : Type 0 where
   pub spelled : AreSpelled ps h
 
 known-by : (ps : List Peer) (h : List Act) → IsLawful ps h → AreSpelled ps h → Older ps (controllers_part h) → Known ps h
-known-by ps h l s o = record { lawful = l; acts = o.acts; meet = record { part = o.told; past = o.past; fit = o.fit }; plain = o.plain;
-    spelled = s }
+known-by ps h l s o = record {
+  lawful = l;
+  acts = o.acts;
+  meet = record { part = o.told; past = o.past; fit = o.fit };
+  plain = o.plain;
+  spelled = s;
+}
 
 older-of : (ps : List Peer) (a : Act) (h : List Act) → Known ps (a ∷ h) → a ∷ controllers_part h ≡ controllers_part (a ∷ h)
     → Older ps (controllers_part h)

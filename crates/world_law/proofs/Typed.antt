@@ -59,7 +59,7 @@ force-has : (R : List SpdEntry → Type 0) (gs : List Peer) → R []
 force-has R gs none put g [] s = none
 force-has R gs none put g (acts.Policy f list ∷ h) s =
     by-gateway R (bytes_eq f g) list (force g h) (put f list (spelled-head gs (acts.Policy f list) h s))
-        (force-has R gs none put g h (spelled-tail gs (acts.Policy f list) h s))
+    (force-has R gs none put g h (spelled-tail gs (acts.Policy f list) h s))
 force-has R gs none put g (acts.Boot f ∷ h) s = by-gateway R (bytes_eq f g) [] (force g h) none
     (force-has R gs none put g h (spelled-tail gs (acts.Boot f) h s))
 force-has R gs none put g (a ∷ h) s = force-has R gs none put g h (spelled-tail gs a h s)
@@ -89,8 +89,12 @@ low-64 : (n : ℕ) → cut 18446744073709551615 n < 2 ^ 64
 low-64 n = let q = cut-low 18446744073709551615 n in omega (arith, q)
 
 pub counts-typed : (now installed used octets times : ℕ) → IsTypedLimits (counts_at now installed used octets times)
-counts-typed now installed used octets times = record { time = low-32 (now - installed); bytes = low-64 octets; packets = low-32 times;
-    idle = low-32 (now - used) }
+counts-typed now installed used octets times = record {
+  time = low-32 (now - installed);
+  bytes = low-64 octets;
+  packets = low-32 times;
+  idle = low-32 (now - used);
+}
 
 abbrev AreLow : List ℕ → Type 0
 AreLow [] = Unit {0}
@@ -130,6 +134,7 @@ arrival-low gs g x numbers [] s = tt
 arrival-low gs g x numbers (acts.Arrived f o ∷ h) s = by-gateway (bytes_eq f g) where
   octets : All (λ z. z < 256) o
   octets = (spelled-head gs (acts.Arrived f o) h s).1
+
   by-gateway : (b : Bool) → IsLow (if b then number_for x (greatest numbers) (live g h) (esp_of o) else None)
   by-gateway true = found-low x (greatest numbers) (esp_of o) (by_spi (spi_of (esp_of o)) (live g h))
       (λ d. from-low o (greatest numbers) d octets)
@@ -147,7 +152,7 @@ taken-low gs g x (acts.Put f e ∷ h) s = low-if (is_half f e.name g x) [] (numb
 taken-low gs g x (acts.Gave f y n o ∷ h) s =
     let ih = taken-low gs g x h (spelled-tail gs (acts.Gave f y n o) h s) in
     low-if (is_half f y g x) (numbers_taken g x h ++ n ∷ []) (numbers_taken g x h)
-        (low-more (numbers_taken g x h) n ih (spelled-head gs (acts.Gave f y n o) h s).1.0) ih
+    (low-more (numbers_taken g x h) n ih (spelled-head gs (acts.Gave f y n o) h s).1.0) ih
 taken-low gs g x (acts.Drop f w ∷ h) s =
     let rest = spelled-tail gs (acts.Drop f w) h s in
     let ih = taken-low gs g x h rest in
@@ -177,7 +182,7 @@ sent-low gs g x (acts.Put f e ∷ h) l = low-number (is_half f e.name g x) 0 (se
 sent-low gs g x (acts.Sent f y n o ∷ h) l =
     low-number (is_half f y g x) (sent g x h + 1) (sent g x h)
     (λ e. let is = half-is f y g x e in subst (λ z. sent z x h + 1 < 2 ^ 64) is.0
-        (subst (λ z. sent f z h + 1 < 2 ^ 64) is.1 (sent-more gs f y n o h l)))
+    (subst (λ z. sent f z h + 1 < 2 ^ 64) is.1 (sent-more gs f y n o h l)))
     (sent-low gs g x h l.1)
 sent-low gs g x (a ∷ h) l = sent-low gs g x h l.1
 
@@ -222,9 +227,10 @@ named-rows g h x (e ∷ es) = ap (λ z. bytes_eq e.name x || z) (named-rows g h 
 
 distinct : (g : List ℕ) (h : List Act) (es : List SadEntry) → are_apart es ≡ true → AreDistinct (map (row_of g h) es)
 distinct g h [] p = tt
-distinct g h (e ∷ es) p =
-    (named-rows g h e.name es ∙ not-true (has_half e.name es) (both-left (not (has_half e.name es)) (are_apart es) p),
-    distinct g h es (both-right (not (has_half e.name es)) (are_apart es) p))
+distinct g h (e ∷ es) p = (
+  named-rows g h e.name es ∙ not-true (has_half e.name es) (both-left (not (has_half e.name es)) (are_apart es) p),
+  distinct g h es (both-right (not (has_half e.name es)) (are_apart es) p),
+)
 
 pub tree-stands : (gs : List Peer) (g : List ℕ) (h : List Act) (c : List ControllerAct) → IsLawful gs h → Meet gs h c → Named gs
     → PlainAnswers c → AreSpelled gs h → IsTree (tree_of g h)
