@@ -51,6 +51,21 @@ impl Gateway {
         })
     }
 
+    /// Its address and its last number.
+    pub fn config(&self) -> Config
+        ensures config { result ≡ self.now.config }
+        ensures bounds { CanBoot result }
+    {
+        self.config
+    }
+
+    /// The clock, in seconds.
+    pub fn clock(&self) -> u32
+        ensures { result ≡ self.now.kept.clock }
+    {
+        self.tables.clock()
+    }
+
     /// One event: appends what the gateway does. Want of memory changes nothing.
     ///
     /// A request that was read speaks of entries without a fault. One that wasn't has a fault whose path, if any, is UTF-8. The

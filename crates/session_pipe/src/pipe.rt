@@ -51,6 +51,27 @@ impl Pipe {
         }
     }
 
+    /// How many sessions were opened; the last one has this number.
+    pub fn openings(&self) -> u32
+        ensures { result ≡ self.now.openings }
+    {
+        self.openings
+    }
+
+    /// Whether the controller sees the last session as open.
+    pub fn is_open(&self) -> bool
+        ensures { result ≡ self.now.is_open }
+    {
+        self.is_open
+    }
+
+    /// Whether the gateway has the last session.
+    pub fn is_taken(&self) -> bool
+        ensures { result ≡ self.now.is_taken }
+    {
+        self.is_taken
+    }
+
     /// Opens a session, which the gateway takes at once, and answers its number. All messages of older sessions are
     /// gone. Where the controller sees a session open, nothing changes.
     pub fn open(&mut self) -> Option<u32>
