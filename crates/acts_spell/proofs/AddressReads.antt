@@ -36,11 +36,13 @@ use Rattle.acts_spell.proofs.Packets.{cleared-address}
 
 -- ---- hex digits
 
-bound : {A B : Type 0} → (P : Type 0) (r : Result A FromHexError) (f : A → Result B FromHexError) (y : B) → (r >>= f) ≡ Ok y → ((x : A) → r ≡ Ok x → f x ≡ Ok y → P) → P
+bound : {A B : Type 0} → (P : Type 0) (r : Result A FromHexError) (f : A → Result B FromHexError) (y : B) → (r >>= f) ≡ Ok y
+    → ((x : A) → r ≡ Ok x → f x ≡ Ok y → P) → P
 bound P (Ok x) f y is k = k x refl is
 bound P (Err e) f y is k = cc
 
-by-range : (c v : ℕ) (x y z : Bool) → (nat_le 65 c && nat_le c 70) ≡ x → (nat_le 97 c && nat_le c 102) ≡ y → (nat_le 48 c && nat_le c 57) ≡ z
+by-range : (c v : ℕ) (x y z : Bool) → (nat_le 65 c && nat_le c 70) ≡ x → (nat_le 97 c && nat_le c 102) ≡ y
+    → (nat_le 48 c && nat_le c 57) ≡ z
     → (if x then Some (c - 55) else if y then Some (c - 87) else if z then Some (c - 48) else None) ≡ Some v → v < 16
 by-range c v true y z p q r e = let s = some-is (c - 55) v e in grind (arith, nat_tests, p, s)
 by-range c v false true z p q r e = let s = some-is (c - 87) v e in grind (arith, nat_tests, q, s)
@@ -76,14 +78,16 @@ formed : (r : Result (List ℕ) FromHexError) (octets : List ℕ) → or_form r 
 formed (Ok x) octets e = let s : x ≡ octets = cc in ap Ok s
 formed (Err f) octets e = cc
 
-not-odd : (b : Bool) (f : FromHexError) (r : Result (List ℕ) FromHexError) (octets : List ℕ) → (if b then Err f else r) ≡ Ok octets → r ≡ Ok octets
+not-odd : (b : Bool) (f : FromHexError) (r : Result (List ℕ) FromHexError) (octets : List ℕ) → (if b then Err f else r) ≡ Ok octets
+    → r ≡ Ok octets
 not-odd true f r octets e = cc
 not-odd false f r octets e = e
 
 digits-each : (text octets : List ℕ) → digits_of text ≡ Ok octets → AllByRecursion IsOctet octets
 digits-each [] octets e = cc
 digits-each (c ∷ cs) octets e =
-    pairs-each 0 (c ∷ cs) octets (not-odd (length (c ∷ cs) % 2 == 1) _ (decode_pairs 0 (c ∷ cs)) octets (formed (decode_of (c ∷ cs)) octets e))
+    pairs-each 0 (c ∷ cs) octets
+    (not-odd (length (c ∷ cs) % 2 == 1) _ (decode_pairs 0 (c ∷ cs)) octets (formed (decode_of (c ∷ cs)) octets e))
 
 unfaulted : {A : Type 0} (f : LineFault) (r : Result A BadValue) (x : A) → or_fault f r ≡ Ok x → r ≡ Ok x
 unfaulted f (Ok y) x e = let s : y ≡ x = cc in ap Ok s
@@ -108,11 +112,14 @@ quad-octets : (parts : List (List ℕ)) (octets : List ℕ) → quad_of parts �
 unfolding quad_of
 quad-octets parts octets is = by-form (is_quad parts) is
   where
-    by-fit : (b : Bool) → list_all fits_octet parts ≡ b → cond (not b) (Err Range) (Ok (map (digits_value 10) parts)) ≡ Ok octets → AllByRecursion IsOctet octets
+    by-fit : (b : Bool) → list_all fits_octet parts ≡ b → cond (not b) (Err Range) (Ok (map (digits_value 10) parts)) ≡ Ok octets
+        → AllByRecursion IsOctet octets
     by-fit true f t = let e : map (digits_value 10) parts ≡ octets = cc in subst (AllByRecursion IsOctet) e (quad-each parts f)
     by-fit false f t = cc
 
-    by-form : (b : Bool) → cond (not b) (Err Form) (cond (not (list_all fits_octet parts)) (Err Range) (Ok (map (digits_value 10) parts))) ≡ Ok octets → AllByRecursion IsOctet octets
+    by-form : (b : Bool)
+        → cond (not b) (Err Form) (cond (not (list_all fits_octet parts)) (Err Range) (Ok (map (digits_value 10) parts))) ≡ Ok octets
+        → AllByRecursion IsOctet octets
     by-form true t = by-fit (list_all fits_octet parts) refl t
     by-form false t = cc
 
@@ -147,7 +154,8 @@ group-small t n e =
     let same = found.1 in
     omega (arith, small, most, same)
 
-step-some : {A B : Type 0} → (P : Type 0) (o : Option A) (f : A → Option B) (y : B) → option_and_then f o ≡ Some y → ((x : A) → o ≡ Some x → f x ≡ Some y → P) → P
+step-some : {A B : Type 0} → (P : Type 0) (o : Option A) (f : A → Option B) (y : B) → option_and_then f o ≡ Some y
+    → ((x : A) → o ≡ Some x → f x ≡ Some y → P) → P
 step-some P (Some x) f y is k = k x refl is
 step-some P None f y is k = cc
 
@@ -174,11 +182,13 @@ zeros : (n : ℕ) → AllByRecursion IsGroup (replicate n 0)
 zeros zero = tt
 zeros (suc n) = (omega arith, zeros n)
 
-eight-some : (o : Option (List ℕ)) (out : List ℕ) → ((g : List ℕ) → o ≡ Some g → AllByRecursion IsGroup g) → option_and_then eight o ≡ Some out → AllByRecursion IsGroup out
+eight-some : (o : Option (List ℕ)) (out : List ℕ) → ((g : List ℕ) → o ≡ Some g → AllByRecursion IsGroup g)
+    → option_and_then eight o ≡ Some out → AllByRecursion IsGroup out
 eight-some None out h t = cc
 eight-some (Some g) out h t = kept-if (length g == 8) g out (h g refl) t
 
-between-some : (front back : Option (List ℕ)) (out : List ℕ) → ((g : List ℕ) → front ≡ Some g → AllByRecursion IsGroup g) → ((g : List ℕ) → back ≡ Some g → AllByRecursion IsGroup g)
+between-some : (front back : Option (List ℕ)) (out : List ℕ) → ((g : List ℕ) → front ≡ Some g → AllByRecursion IsGroup g)
+    → ((g : List ℕ) → back ≡ Some g → AllByRecursion IsGroup g)
     → eight_between front back ≡ Some out → AllByRecursion IsGroup out
 between-some None back out f b t = cc
 between-some (Some x) None out f b t = cc
@@ -189,7 +199,9 @@ between-some (Some x) (Some y) out f b t =
 eight-small : (t : List ℕ) (k : Option ℕ) (out : List ℕ) → eight_from t k ≡ Some out → AllByRecursion IsGroup out
 unfolding eight_from
 eight-small t None out is = eight-some (groups_in t) out (λ g q. groups-small t g q) is
-eight-small t (Some k) out is = between-some (groups_in (take k t)) (groups_in (drop (k + 2) t)) out (λ g q. groups-small (take k t) g q) (λ g q. groups-small (drop (k + 2) t) g q) is
+eight-small t (Some k) out is =
+    between-some (groups_in (take k t)) (groups_in (drop (k + 2) t)) out (λ g q. groups-small (take k t) g q)
+    (λ g q. groups-small (drop (k + 2) t) g q) is
 
 octets-each : (groups : List ℕ) → AllByRecursion IsGroup groups → AllByRecursion IsOctet (octets_of groups)
 octets-each [] h = tt
@@ -201,11 +213,13 @@ abbrev HasOctets : Addr → Type 0
 HasOctets (V4 octets) = AllByRecursion IsOctet octets
 HasOctets (V6 octets) = AllByRecursion IsOctet octets
 
-from-v4 : (r : Result (List ℕ) BadValue) (a : Addr) → ((octets : List ℕ) → r ≡ Ok octets → AllByRecursion IsOctet octets) → v4_of r ≡ Ok a → HasOctets a
+from-v4 : (r : Result (List ℕ) BadValue) (a : Addr) → ((octets : List ℕ) → r ≡ Ok octets → AllByRecursion IsOctet octets) → v4_of r ≡ Ok a
+    → HasOctets a
 from-v4 (Ok octets) a f t = let q : V4 octets ≡ a = cc in subst HasOctets q (f octets refl)
 from-v4 (Err e) a f t = cc
 
-from-v6 : (r : Option (List ℕ)) (a : Addr) → ((groups : List ℕ) → r ≡ Some groups → AllByRecursion IsGroup groups) → v6_of r ≡ Ok a → HasOctets a
+from-v6 : (r : Option (List ℕ)) (a : Addr) → ((groups : List ℕ) → r ≡ Some groups → AllByRecursion IsGroup groups) → v6_of r ≡ Ok a
+    → HasOctets a
 from-v6 (Some groups) a f t = let q : V6 (octets_of groups) ≡ a = cc in subst HasOctets q (octets-each groups (f groups refl))
 from-v6 None a f t = cc
 
@@ -233,13 +247,16 @@ made-address : (a : Addr) (n : ℕ) (fits : n ≤ bits_of a) → IsAddress a →
 unfolding prefix_made
 made-address a n fits h = cleared-address n a h
 
-where-address : (a : Addr) (n : ℕ) (c : (bits_of a < n) ⊎ (n ≤ bits_of a)) (p : Prefix) → IsAddress a → prefix_where a n c ≡ Ok p → IsAddress p.addr
+where-address : (a : Addr) (n : ℕ) (c : (bits_of a < n) ⊎ (n ≤ bits_of a)) (p : Prefix) → IsAddress a → prefix_where a n c ≡ Ok p
+    → IsAddress p.addr
 where-address a n (inl above) p h e = cc
-where-address a n (inr fits) p h e = let s : prefix_made a n fits ≡ p = cc in subst (λ (q : Prefix). IsAddress q.addr) s (made-address a n fits h)
+where-address a n (inr fits) p h e =
+    let s : prefix_made a n fits ≡ p = cc in subst (λ (q : Prefix). IsAddress q.addr) s (made-address a n fits h)
 
 length-address : (a : Addr) (t : List ℕ) (p : Prefix) → IsAddress a → with_length a t ≡ Ok p → IsAddress p.addr
 length-address a t p h e = by-number (is_number t) e where
-  by-number : (b : Bool) → (if b then prefix_where a (digits_value 10 t) (cases_lt (bits_of a) (digits_value 10 t)) else Err Form) ≡ Ok p → IsAddress p.addr
+  by-number : (b : Bool) → (if b then prefix_where a (digits_value 10 t) (cases_lt (bits_of a) (digits_value 10 t)) else Err Form) ≡ Ok p
+      → IsAddress p.addr
   by-number true q = where-address a (digits_value 10 t) (cases_lt (bits_of a) (digits_value 10 t)) p h q
   by-number false q = cc
 
@@ -247,7 +264,8 @@ refused : (b : Bool) (p : Prefix) → (if b then Err Range else Err Form) ≡ Ok
 refused true p e = cc
 refused false p e = cc
 
-from-address : (r : Result Addr BadValue) (t : List ℕ) (p : Prefix) → ((a : Addr) → r ≡ Ok a → IsAddress a) → prefix_from r t ≡ Ok p → IsAddress p.addr
+from-address : (r : Result Addr BadValue) (t : List ℕ) (p : Prefix) → ((a : Addr) → r ≡ Ok a → IsAddress a) → prefix_from r t ≡ Ok p
+    → IsAddress p.addr
 from-address (Ok a) t p h e = length-address a t p (h a refl) e
 from-address (Err Form) t p h e = cc
 from-address (Err Range) t p h e = absurd (refused (is_number t) p e)

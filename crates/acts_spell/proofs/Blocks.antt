@@ -56,7 +56,8 @@ pub record Meets (header : Header) (p : Past) (e : Event) : Type 0 where
 number-small : (ps : List Peer) (g : List ℕ) → is_named ps g ≡ true → peer_number g ps < length ps
 number-small [] g e = cc
 number-small (p ∷ ps) g e = by-name (bytes_eq p.name g) e (number-small ps g) where
-  by-name : (b : Bool) → (b || is_named ps g) ≡ true → (is_named ps g ≡ true → peer_number g ps < length ps) → (if b then 0 else peer_number g ps + 1) < length (p ∷ ps)
+  by-name : (b : Bool) → (b || is_named ps g) ≡ true → (is_named ps g ≡ true → peer_number g ps < length ps)
+      → (if b then 0 else peer_number g ps + 1) < length (p ∷ ps)
   by-name true t f = omega arith
   by-name false t f = let q = f t in omega (arith, q)
 
@@ -90,7 +91,8 @@ peers header h = record { addressed = addressed header h; family = one-family he
 world-spelled : (header : Header) (p : Past) → IsTold header p → AreSpelled header.gateways p.world
 world-spelled header p t = recursion_from_All (IsSpelled header.gateways) p.world t.spelled
 
-took-spelled : (header : Header) (p : Past) → IsTold header p → events_taken p.world < 2 ^ 32 - 1 → AreSpelled header.gateways (took p.world)
+took-spelled : (header : Header) (p : Past) → IsTold header p → events_taken p.world < 2 ^ 32 - 1
+    → AreSpelled header.gateways (took p.world)
 took-spelled header p t l = ((tt, omega (arith, l)), world-spelled header p t)
 
 -- the past after the controller's acts
@@ -99,7 +101,8 @@ record After (header : Header) (p : Past) (cs : List controller.ControllerAct) :
   pub fit : AllFit (length header.gateways) (after p.controller cs)
   pub keeps : KeepsSessions (after (took p.world) (all_told header.gateways cs))
 
-controlled : (header : Header) (p : Past) (e : Event) (ev : controller.ControllerEvent) → Meets header p e → IsGoodEvent header.gateways p.controller ev → After header p (controller_law.block header.gateways p.controller ev)
+controlled : (header : Header) (p : Past) (e : Event) (ev : controller.ControllerEvent) → Meets header p e
+    → IsGoodEvent header.gateways p.controller ev → After header p (controller_law.block header.gateways p.controller ev)
     → Controls header p (controller_law.block header.gateways p.controller ev)
 controlled header p e ev m g a =
     let cs : List controller.ControllerAct = controller_law.block header.gateways p.controller ev in
@@ -109,28 +112,35 @@ controlled header p e ev m g a =
     record {
       good = good;
       few = few;
-      spelled = tellable-spelled keeps-before header.gateways (events_taken p.world + 1) (took p.world) (all_told header.gateways cs) bound (took-spelled header p m.told m.few) a.keeps
+      spelled =
+          tellable-spelled keeps-before header.gateways (events_taken p.world + 1) (took p.world) (all_told header.gateways cs) bound
+          (took-spelled header p m.told m.few) a.keeps
           (λ f. room-from f (events_taken p.world + 1) p.world (all_told header.gateways cs) (m.told.few f) few)
           (all-tellable header.gateways p.controller cs (peers header m.spelled) a.past a.fit good);
     }
 
-heard : (header : Header) (p : Past) (e : Event) (g : List ℕ) (a : Option Answer) → Meets header p e → is_named header.gateways g ≡ true → next_answer g p.world ≡ a
-    → After header p (by_event header.gateways p.controller (answer_event (peer_number g header.gateways) a)) → Controls header p (by_event header.gateways p.controller (answer_event (peer_number g header.gateways) a))
+heard : (header : Header) (p : Past) (e : Event) (g : List ℕ) (a : Option Answer) → Meets header p e → is_named header.gateways g ≡ true
+    → next_answer g p.world ≡ a
+    → After header p (by_event header.gateways p.controller (answer_event (peer_number g header.gateways) a))
+    → Controls header p (by_event header.gateways p.controller (answer_event (peer_number g header.gateways) a))
 heard header p e g None m k n a = none-done header p m.told
 heard header p e g (Some x) m k n a =
     let f : ℕ = peer_number g header.gateways in
     let i = number-small header.gateways g k in
     let next : next_answer (peer_name header.gateways f) p.world ≡ Some x = ap (λ (z : List ℕ). next_answer z p.world) (name-number g header.gateways i) ∙ n in
     let s = m.told.lawful in
-    controlled header p e (controller.Answers f x) m (next-plain header.gateways p.world p.controller f x s.lawful m.told.replied s.meet m.spelled.sound.named i next) a
+    controlled header p e (controller.Answers f x) m
+    (next-plain header.gateways p.world p.controller f x s.lawful m.told.replied s.meet m.spelled.sound.named i next) a
 
 noticed : (header : Header) (p : Past) (e : Event) (g : List ℕ) (t : Option Notice) → Meets header p e
-    → After header p (by_event header.gateways p.controller (hears (peer_number g header.gateways) t)) → Controls header p (by_event header.gateways p.controller (hears (peer_number g header.gateways) t))
+    → After header p (by_event header.gateways p.controller (hears (peer_number g header.gateways) t))
+    → Controls header p (by_event header.gateways p.controller (hears (peer_number g header.gateways) t))
 noticed header p e g None m a = none-done header p m.told
 noticed header p e g (Some t) m a = controlled header p e (controller.Notices (peer_number g header.gateways) t) m tt a
 
 -- after an event of the controller
-after-event : (header : Header) (p : Past) (e : Event) → Meets header p e → is_forged_event header p e ≡ false → gateway_acts (under_way header) header (took p.world) e ≡ [] → After header p (controller_acts header p e)
+after-event : (header : Header) (p : Past) (e : Event) → Meets header p e → is_forged_event header p e ≡ false
+    → gateway_acts (under_way header) header (took p.world) e ≡ [] → After header p (controller_acts header p e)
 after-event header p e m f none =
     let k = event-of header e m.under in
     let s = step (under_way header) header p e m.spelled.sound k m.told.lawful f in
@@ -138,21 +148,37 @@ after-event header p e m f none =
     record {
       past = s.stands.meet.past;
       fit = s.stands.meet.fit;
-      keeps = subst (λ (z : List Act). KeepsSessions (after (took p.world) (z ++ all_told header.gateways (controller_acts header p e)))) none keeps;
+      keeps =
+          subst
+          (λ (z : List Act). KeepsSessions (after (took p.world) (z ++ all_told header.gateways (controller_acts header p e)))) none keeps;
     }
 
 controls : (header : Header) (p : Past) (e : Event) → Meets header p e → Controls header p (controller_acts header p e)
-controls header p (events.Open g) m = controlled header p (events.Open g) (controller.Opens (peer_number g header.gateways)) m tt (after-event header p (events.Open g) m refl refl)
-controls header p (events.Cut g) m = controlled header p (events.Cut g) (controller.Cuts (peer_number g header.gateways)) m tt (after-event header p (events.Cut g) m refl refl)
-controls header p (events.Up g) m = heard header p (events.Up g) g (next_answer g p.world) m m.under refl (after-event header p (events.Up g) m refl refl)
-controls header p (events.Note g) m = noticed header p (events.Note g) g (next_notice g p.world) m (after-event header p (events.Note g) m refl refl)
+controls header p (events.Open g) m =
+    controlled header p (events.Open g) (controller.Opens (peer_number g header.gateways)) m tt
+    (after-event header p (events.Open g) m refl refl)
+controls header p (events.Cut g) m =
+    controlled header p (events.Cut g) (controller.Cuts (peer_number g header.gateways)) m tt
+    (after-event header p (events.Cut g) m refl refl)
+controls header p (events.Up g) m =
+    heard header p (events.Up g) g (next_answer g p.world) m m.under refl (after-event header p (events.Up g) m refl refl)
+controls header p (events.Note g) m =
+    noticed header p (events.Note g) g (next_notice g p.world) m (after-event header p (events.Note g) m refl refl)
 controls header p (events.Policy g list) m =
-    controlled header p (events.Policy g list) (controller.Told (commands.Policy g list)) m (m.under.1.fits, (m.under.1, m.typed)) (after-event header p (events.Policy g list) m refl refl)
+    controlled header p (events.Policy g list) (controller.Told (commands.Policy g list)) m (m.under.1.fits, (m.under.1, m.typed))
+    (after-event header p (events.Policy g list) m refl refl)
 controls header p (events.Tunnel spec) m =
-    controlled header p (events.Tunnel spec) (controller.Told (commands.Tunnel spec)) m (m.under.2, m.typed) (after-event header p (events.Tunnel spec) m refl refl)
-controls header p (events.End reqid) m = controlled header p (events.End reqid) (controller.Told (commands.End reqid)) m (tt, tt) (after-event header p (events.End reqid) m refl refl)
-controls header p (events.Rekey reqid) m = controlled header p (events.Rekey reqid) (controller.Told (commands.Rekey reqid)) m (tt, tt) (after-event header p (events.Rekey reqid) m refl refl)
-controls header p (events.Keys key) m = controlled header p (events.Keys key) (controller.Told (commands.Keys key)) m (tt, m.typed) (after-event header p (events.Keys key) m refl refl)
+    controlled header p (events.Tunnel spec) (controller.Told (commands.Tunnel spec)) m (m.under.2, m.typed)
+    (after-event header p (events.Tunnel spec) m refl refl)
+controls header p (events.End reqid) m =
+    controlled header p (events.End reqid) (controller.Told (commands.End reqid)) m (tt, tt)
+    (after-event header p (events.End reqid) m refl refl)
+controls header p (events.Rekey reqid) m =
+    controlled header p (events.Rekey reqid) (controller.Told (commands.Rekey reqid)) m (tt, tt)
+    (after-event header p (events.Rekey reqid) m refl refl)
+controls header p (events.Keys key) m =
+    controlled header p (events.Keys key) (controller.Told (commands.Keys key)) m (tt, m.typed)
+    (after-event header p (events.Keys key) m refl refl)
 controls header p e m = none-done header p m.told
 
 -- ---- the block
@@ -167,7 +193,8 @@ ready header p e m = record {
   requests = λ g. let a = (m.told.few g).handled in let b = m.few in omega (arith, a, b);
 }
 
-pub block-spelled : (header : Header) (p : Past) (e : Event) → Meets header p e → AreSpelled header.gateways (block (under_way header) header p e)
+pub block-spelled : (header : Header) (p : Past) (e : Event) → Meets header p e
+    → AreSpelled header.gateways (block (under_way header) header p e)
 block-spelled header p e m =
     let xs : List Act = gateway_acts (under_way header) header (took p.world) e in (
       (took-spelled header p m.told m.few).0,
@@ -176,7 +203,8 @@ block-spelled header p e m =
     )
 
 -- one of the two does nothing
-one-acts : (header : Header) (p : Past) (e : Event) → (gateway_acts (under_way header) header (took p.world) e ≡ []) ⊎ (controller_acts header p e ≡ [])
+one-acts : (header : Header) (p : Past) (e : Event)
+    → (gateway_acts (under_way header) header (took p.world) e ≡ []) ⊎ (controller_acts header p e ≡ [])
 one-acts header p (events.Open g) = inl refl
 one-acts header p (events.Cut g) = inl refl
 one-acts header p (events.Up g) = inl refl
@@ -188,21 +216,29 @@ one-acts header p (events.Rekey reqid) = inl refl
 one-acts header p (events.Keys key) = inl refl
 one-acts header p e = inr refl
 
-few-joined : (ps : List Peer) (xs : List Act) (cs : List controller.ControllerAct) → AreFew xs → AreFew (all_told ps cs) → (xs ≡ []) ⊎ (cs ≡ []) → AreFew (xs ++ all_told ps cs)
+few-joined : (ps : List Peer) (xs : List Act) (cs : List controller.ControllerAct) → AreFew xs → AreFew (all_told ps cs)
+    → (xs ≡ []) ⊎ (cs ≡ []) → AreFew (xs ++ all_told ps cs)
 few-joined ps xs cs a b (inl e) = subst (λ (z : List Act). AreFew (z ++ all_told ps cs)) (sym e) b
-few-joined ps xs cs a b (inr e) = subst (λ (z : List controller.ControllerAct). AreFew (xs ++ all_told ps z)) (sym e) (subst AreFew (sym (append-nil xs)) a)
+few-joined ps xs cs a b (inr e) =
+    subst (λ (z : List controller.ControllerAct). AreFew (xs ++ all_told ps z)) (sym e) (subst AreFew (sym (append-nil xs)) a)
 
-block-count : (header : Header) (p : Past) (e : Event) → Meets header p e → AreFew (gateway_acts (under_way header) header (took p.world) e ++ all_told header.gateways (controller_acts header p e))
+block-count : (header : Header) (p : Past) (e : Event) → Meets header p e
+    → AreFew (gateway_acts (under_way header) header (took p.world) e ++ all_told header.gateways (controller_acts header p e))
 block-count header p e m =
-    few-joined header.gateways (gateway_acts (under_way header) header (took p.world) e) (controller_acts header p e) (gateway-few (under_way header) header (took p.world) e)
+    few-joined header.gateways (gateway_acts (under_way header) header (took p.world) e) (controller_acts header p e)
+    (gateway-few (under_way header) header (took p.world) e)
     (controls header p e m).few (one-acts header p e)
 
 -- one more event is taken
-pub block-takes : (header : Header) (p : Past) (e : Event) → Meets header p e → events_taken (past_after (under_way header) header p e).world ≡ events_taken p.world + 1
+pub block-takes : (header : Header) (p : Past) (e : Event) → Meets header p e
+    → events_taken (past_after (under_way header) header p e).world ≡ events_taken p.world + 1
 block-takes header p e m =
-    taken-same (took p.world) (gateway_acts (under_way header) header (took p.world) e ++ all_told header.gateways (controller_acts header p e)) (block-count header p e m).taken
+    taken-same (took p.world)
+    (gateway_acts (under_way header) header (took p.world) e ++ all_told header.gateways (controller_acts header p e))
+    (block-count header p e m).taken
 
-pub told-after : (header : Header) (p : Past) (e : Event) → Meets header p e → is_forged_event header p e ≡ false → IsTold header (past_after (under_way header) header p e)
+pub told-after : (header : Header) (p : Past) (e : Event) → Meets header p e → is_forged_event header p e ≡ false
+    → IsTold header (past_after (under_way header) header p e)
 told-after header p e m f =
     let k = event-of header e m.under in
     let s = step (under_way header) header p e m.spelled.sound k m.told.lawful f in

@@ -37,7 +37,9 @@ word-at (w ∷ ws) zero h = h.0
 word-at (w ∷ ws) (suc i) h = word-at ws i h.1
 
 added : (v w : List ℕ) → AreOctets v → AreOctets w → AreOctets (add_words v w)
-added v w p q = mapped (λ k. bit_xor (slice_index v k) (slice_index w k)) (range_with_len 0 4) (λ k. xor-octet (slice_index v k) (slice_index w k) (octet-at v k p) (octet-at w k q))
+added v w p q =
+    mapped (λ k. bit_xor (slice_index v k) (slice_index w k)) (range_with_len 0 4)
+    (λ k. xor-octet (slice_index v k) (slice_index w k) (octet-at v k p) (octet-at w k q))
 
 sub-word : (w : List ℕ) → AreOctets (sub_word w)
 sub-word w = mapped (λ k. s_box (slice_index w k)) (range_with_len 0 4) (λ k. box-octet (slice_index w k))
@@ -50,7 +52,8 @@ turned-octets : (n i : ℕ) (t : List ℕ) → AreOctets t → AreOctets (turned
 turned-octets n i t h =
     let c : ℕ = round_constant (i / n - 1) in
     let z : 0 < 256 = omega arith in
-    either (i % n == 0) _ _ (added (sub_word (rotate_word t)) (c ∷ 0 ∷ 0 ∷ 0 ∷ []) (sub-word (rotate_word t)) (of-each (c ∷ 0 ∷ 0 ∷ 0 ∷ []) (constant-octet (i / n - 1), (z, (z, (z, tt))))))
+    either (i % n == 0) _ _
+    (added (sub_word (rotate_word t)) (c ∷ 0 ∷ 0 ∷ 0 ∷ []) (sub-word (rotate_word t)) (of-each (c ∷ 0 ∷ 0 ∷ 0 ∷ []) (constant-octet (i / n - 1), (z, (z, (z, tt))))))
     (either (n == 8) _ _ (either (i % 8 == 4) _ _ (sub-word t) h) h)
 
 first-words : (k : List ℕ) (n : ℕ) → AreOctets k → AreWords (first_words k n)
@@ -76,10 +79,12 @@ sub-octets : (b : List ℕ) → AreOctets (sub_octets b)
 sub-octets b = mapped (λ k. s_box (octet b (k % 4) (k / 4))) (range_with_len 0 16) (λ k. box-octet (octet b (k % 4) (k / 4)))
 
 shifted : (b : List ℕ) → AreOctets b → AreOctets (shift_rows b)
-shifted b h = mapped (λ k. octet b (k % 4) ((k / 4 + k % 4) % 4)) (range_with_len 0 16) (λ k. octet-at b (k % 4 + 4 * ((k / 4 + k % 4) % 4)) h)
+shifted b h =
+    mapped (λ k. octet b (k % 4) ((k / 4 + k % 4) % 4)) (range_with_len 0 16) (λ k. octet-at b (k % 4 + 4 * ((k / 4 + k % 4) % 4)) h)
 
 keyed : (ws : List (List ℕ)) (i : ℕ) (b : List ℕ) → AreWords ws → AreOctets b → AreOctets (add_key ws i b)
-keyed ws i b h o = mapped (λ k. bit_xor (octet b (k % 4) (k / 4)) (slice_index (slice_index_or ws (4 * i + k / 4) []) (k % 4))) (range_with_len 0 16)
+keyed ws i b h o =
+    mapped (λ k. bit_xor (octet b (k % 4) (k / 4)) (slice_index (slice_index_or ws (4 * i + k / 4) []) (k % 4))) (range_with_len 0 16)
     (λ k. xor-octet (octet b (k % 4) (k / 4)) (slice_index (slice_index_or ws (4 * i + k / 4) []) (k % 4)) (octet-at b (k % 4 + 4 * (k / 4)) o)
     (octet-at (slice_index_or ws (4 * i + k / 4) []) (k % 4) (word-at ws (4 * i + k / 4) h)))
 
@@ -105,7 +110,9 @@ reversed-octet o = bits-octet (λ k. bit_at o (7 - k)) (λ k. bit_at-lt o (7 - k
 
 block-octets : (p : ℕ) → AreOctets (block_of p)
 unfolding block_of
-block-octets p = mapped (λ j. reversed (slice_index (to_le_bytes w128 p) j)) (range_with_len 0 16) (λ j. reversed-octet (slice_index (to_le_bytes w128 p) j))
+block-octets p =
+    mapped (λ j. reversed (slice_index (to_le_bytes w128 p) j)) (range_with_len 0 16)
+    (λ j. reversed-octet (slice_index (to_le_bytes w128 p) j))
 
 pub sealed-octets : (e : List ℕ → List ℕ) (nonce p : List ℕ) → IsCipher e → AreOctets p → AreOctets (sealed e nonce p)
 unfolding sealed
@@ -130,7 +137,8 @@ padded-octets : (n next : ℕ) (p : List ℕ) → next < 256 → AreOctets p →
 padded-octets n next p l h =
     let few : pad_len n < 4 = omega arith in
     let small : pad_len n < 256 = omega (arith, few) in
-    All-append IsOctet (p ++ padding (pad_len n)) (pad_len n ∷ next ∷ []) (All-append IsOctet p (padding (pad_len n)) h (ranged 1 (pad_len n) (omega (arith, few))))
+    All-append IsOctet (p ++ padding (pad_len n)) (pad_len n ∷ next ∷ [])
+    (All-append IsOctet p (padding (pad_len n)) h (ranged 1 (pad_len n) (omega (arith, few))))
     (of-each (pad_len n ∷ next ∷ []) (small, (l, tt)))
 
 pub esp-octets : (k : Keying) (s next : ℕ) (p : List ℕ) → IsCipher k.cipher → next < 256 → AreOctets p → AreOctets (esp k s next p)
@@ -142,7 +150,8 @@ esp-octets k s next p c l h =
     let tag : List ℕ = tag_of k.cipher (k.salt ++ iv) aad t in
     let front = All-append IsOctet (to_be_bytes w32 k.spi) (to_be_bytes w32 s) (word-octets k.spi) (word-octets s) in
     let text = sealed-octets k.cipher (k.salt ++ iv) (padded (pad_len (length p)) next p) c (padded-octets (length p) next p l h) in
-    All-append IsOctet ((aad ++ iv) ++ t) tag (All-append IsOctet (aad ++ iv) t (All-append IsOctet aad iv front (long-octets s)) text) (tag-octets k.cipher (k.salt ++ iv) aad t c)
+    All-append IsOctet ((aad ++ iv) ++ t) tag (All-append IsOctet (aad ++ iv) t (All-append IsOctet aad iv front (long-octets s)) text)
+    (tag-octets k.cipher (k.salt ++ iv) aad t c)
 
 -- the text that octets open to
 opened-if : (b : Bool) (x y : List ℕ) → AreOctets x → (if b then Some x else None) ≡ Some y → AreOctets y

@@ -39,7 +39,8 @@ IsGoodEvent ps h (Told c) = IsSoundCommand (placed_command ps c) × IsSpelledCom
 IsGoodEvent ps h (Answers g a) = is_plain (oldest (queue g h)) a.status ≡ true
 IsGoodEvent ps h _ = Unit {0}
 
-same-good : (h : List ControllerAct) (a : ControllerAct) → SoundCommands (a ∷ h) → AreSpelledCommands (a ∷ h) → PlainAnswers (a ∷ h) → IsGoodPast (a ∷ h)
+same-good : (h : List ControllerAct) (a : ControllerAct) → SoundCommands (a ∷ h) → AreSpelledCommands (a ∷ h) → PlainAnswers (a ∷ h)
+    → IsGoodPast (a ∷ h)
 same-good h a s t p = record { sound = s; spelled = t; plain = p }
 
 orders-good : (h xs : List ControllerAct) → are_orders xs ≡ true → IsGoodPast h → IsGoodPast (after h xs)
@@ -55,28 +56,35 @@ orders-good h (Refused w ∷ xs) e g = absurd (no e)
 going-good : (h : List ControllerAct) (a : ControllerAct) → IsGoodPast (a ∷ h) → IsGoodPast (after h (going h a))
 going-good h a g = orders-good (a ∷ h) (asked_then (a ∷ h) (asked (a ∷ h) a)) (then-orders h a) g
 
-refused-good : (h : List ControllerAct) (c : PlacedCommand) (r : Option Refusal) → IsSoundCommand c → IsSpelledCommand c → IsGoodPast h → IsGoodPast (after h (by_refusal h c r))
+refused-good : (h : List ControllerAct) (c : PlacedCommand) (r : Option Refusal) → IsSoundCommand c → IsSpelledCommand c → IsGoodPast h
+    → IsGoodPast (after h (by_refusal h c r))
 refused-good h c None s t g = going-good h (Accepted c) (same-good h (Accepted c) (s, g.sound) (t, g.spelled) g.plain)
 refused-good h c (Some w) s t g = same-good h (Refused w) g.sound g.spelled g.plain
 
-answer-good : (h : List ControllerAct) (g : ℕ) (a : Answer) (q : List ControllerOrder) → is_plain (oldest (queue g h)) a.status ≡ true → IsGoodPast h → IsGoodPast (after h (by_answer h g a q))
+answer-good : (h : List ControllerAct) (g : ℕ) (a : Answer) (q : List ControllerOrder) → is_plain (oldest (queue g h)) a.status ≡ true
+    → IsGoodPast h → IsGoodPast (after h (by_answer h g a q))
 answer-good h g a [] e p = p
 answer-good h g a (o ∷ os) e p =
     let x : ControllerAct = Answered g (openings g h) (answered g h + 1) a in going-good h x (same-good h x p.sound p.spelled (e, p.plain))
 
-either-good : (h : List ControllerAct) (b : Bool) (xs ys : List ControllerAct) → IsGoodPast (after h xs) → IsGoodPast (after h ys) → IsGoodPast (after h (if b then xs else ys))
+either-good : (h : List ControllerAct) (b : Bool) (xs ys : List ControllerAct) → IsGoodPast (after h xs) → IsGoodPast (after h ys)
+    → IsGoodPast (after h (if b then xs else ys))
 either-good h true xs ys p q = p
 either-good h false xs ys p q = q
 
-pub block-good : (ps : List Peer) (h : List ControllerAct) (e : ControllerEvent) → IsGoodEvent ps h e → IsGoodPast h → IsGoodPast (after h (block ps h e))
+pub block-good : (ps : List Peer) (h : List ControllerAct) (e : ControllerEvent) → IsGoodEvent ps h e → IsGoodPast h
+    → IsGoodPast (after h (block ps h e))
 block-good ps h (Told c) e g = refused-good h (placed_command ps c) (refusal (length ps) h (placed_command ps c)) e.0 e.1 g
 block-good ps h (Opens f) e g =
-    let x : ControllerAct = Opened f (openings f h + 1) in either-good h (is_open f h) [] (going h x) g (going-good h x (same-good h x g.sound g.spelled g.plain))
+    let x : ControllerAct = Opened f (openings f h + 1) in
+    either-good h (is_open f h) [] (going h x) g (going-good h x (same-good h x g.sound g.spelled g.plain))
 block-good ps h (Cuts f) e g =
-    let x : ControllerAct = Cut f (openings f h) in either-good h (is_open f h) (going h x) [] (going-good h x (same-good h x g.sound g.spelled g.plain)) g
+    let x : ControllerAct = Cut f (openings f h) in
+    either-good h (is_open f h) (going h x) [] (going-good h x (same-good h x g.sound g.spelled g.plain)) g
 block-good ps h (Answers f a) e g = answer-good h f a (queue f h) e g
 block-good ps h (Notices f t) e g =
-    let x : ControllerAct = Heard f (openings f h) t in either-good h (is_open f h) (going h x) [] (going-good h x (same-good h x g.sound g.spelled g.plain)) g
+    let x : ControllerAct = Heard f (openings f h) t in
+    either-good h (is_open f h) (going h x) [] (going-good h x (same-good h x g.sound g.spelled g.plain)) g
 
 -- ---- how many
 
@@ -119,13 +127,27 @@ alone ps (Refused w ∷ xs) e = absurd (no e)
 -- one act and orders
 first-few : (ps : List Peer) (a : ControllerAct) (xs : List ControllerAct) → are_orders xs ≡ true
     → (count_opened (all_told ps (a ∷ xs)) ≤ 1) × (count_handled (all_told ps (a ∷ xs)) ≤ 1) × (count_answered (all_told ps (a ∷ xs)) ≤ 1)
-first-few ps (Opened f s) xs e = let m = alone ps xs e in let a = m.opened in let b = m.handled in let c = m.answered in (omega (arith, a), omega (arith, b), omega (arith, c))
-first-few ps (Cut f s) xs e = let m = alone ps xs e in let a = m.opened in let b = m.handled in let c = m.answered in (omega (arith, a), omega (arith, b), omega (arith, c))
-first-few ps (Answered f s n x) xs e = let m = alone ps xs e in let a = m.opened in let b = m.handled in let c = m.answered in (omega (arith, a), omega (arith, b), omega (arith, c))
-first-few ps (Heard f s t) xs e = let m = alone ps xs e in let a = m.opened in let b = m.handled in let c = m.answered in (omega (arith, a), omega (arith, b), omega (arith, c))
-first-few ps (Ordered f s n o) xs e = let m = alone ps xs e in let a = m.opened in let b = m.handled in let c = m.answered in (omega (arith, a), omega (arith, b), omega (arith, c))
-first-few ps (Accepted k) xs e = let m = alone ps xs e in let a = m.opened in let b = m.handled in let c = m.answered in (omega (arith, a), omega (arith, b), omega (arith, c))
-first-few ps (Refused w) xs e = let m = alone ps xs e in let a = m.opened in let b = m.handled in let c = m.answered in (omega (arith, a), omega (arith, b), omega (arith, c))
+first-few ps (Opened f s) xs e =
+    let m = alone ps xs e in let a = m.opened in let b = m.handled in let c = m.answered in
+    (omega (arith, a), omega (arith, b), omega (arith, c))
+first-few ps (Cut f s) xs e =
+    let m = alone ps xs e in let a = m.opened in let b = m.handled in let c = m.answered in
+    (omega (arith, a), omega (arith, b), omega (arith, c))
+first-few ps (Answered f s n x) xs e =
+    let m = alone ps xs e in let a = m.opened in let b = m.handled in let c = m.answered in
+    (omega (arith, a), omega (arith, b), omega (arith, c))
+first-few ps (Heard f s t) xs e =
+    let m = alone ps xs e in let a = m.opened in let b = m.handled in let c = m.answered in
+    (omega (arith, a), omega (arith, b), omega (arith, c))
+first-few ps (Ordered f s n o) xs e =
+    let m = alone ps xs e in let a = m.opened in let b = m.handled in let c = m.answered in
+    (omega (arith, a), omega (arith, b), omega (arith, c))
+first-few ps (Accepted k) xs e =
+    let m = alone ps xs e in let a = m.opened in let b = m.handled in let c = m.answered in
+    (omega (arith, a), omega (arith, b), omega (arith, c))
+first-few ps (Refused w) xs e =
+    let m = alone ps xs e in let a = m.opened in let b = m.handled in let c = m.answered in
+    (omega (arith, a), omega (arith, b), omega (arith, c))
 
 -- what there are besides orders
 record AreFewBesides (xs : List Act) : Type 0 where
@@ -137,28 +159,37 @@ none-besides : AreFewBesides []
 none-besides = record { opened = omega arith; handled = omega arith; answered = omega arith }
 
 going-few : (ps : List Peer) (h : List ControllerAct) (a : ControllerAct) → AreFewBesides (all_told ps (going h a))
-going-few ps h a = let m = first-few ps a (asked_then (a ∷ h) (asked (a ∷ h) a)) (then-orders h a) in record { opened = m.0; handled = m.1; answered = m.2 }
+going-few ps h a =
+    let m = first-few ps a (asked_then (a ∷ h) (asked (a ∷ h) a))
+    (then-orders h a) in record { opened = m.0; handled = m.1; answered = m.2 }
 
-refused-few : (ps : List Peer) (h : List ControllerAct) (c : PlacedCommand) (r : Option Refusal) → AreFewBesides (all_told ps (by_refusal h c r))
+refused-few : (ps : List Peer) (h : List ControllerAct) (c : PlacedCommand) (r : Option Refusal)
+    → AreFewBesides (all_told ps (by_refusal h c r))
 refused-few ps h c None = going-few ps h (Accepted c)
 refused-few ps h c (Some w) = record { opened = omega arith; handled = omega arith; answered = omega arith }
 
-answer-few : (ps : List Peer) (h : List ControllerAct) (g : ℕ) (a : Answer) (q : List ControllerOrder) → AreFewBesides (all_told ps (by_answer h g a q))
+answer-few : (ps : List Peer) (h : List ControllerAct) (g : ℕ) (a : Answer) (q : List ControllerOrder)
+    → AreFewBesides (all_told ps (by_answer h g a q))
 answer-few ps h g a [] = none-besides
 answer-few ps h g a (o ∷ os) = going-few ps h (Answered g (openings g h) (answered g h + 1) a)
 
-either-few : (ps : List Peer) (b : Bool) (xs ys : List ControllerAct) → AreFewBesides (all_told ps xs) → AreFewBesides (all_told ps ys) → AreFewBesides (all_told ps (if b then xs else ys))
+either-few : (ps : List Peer) (b : Bool) (xs ys : List ControllerAct) → AreFewBesides (all_told ps xs) → AreFewBesides (all_told ps ys)
+    → AreFewBesides (all_told ps (if b then xs else ys))
 either-few ps true xs ys p q = p
 either-few ps false xs ys p q = q
 
 few-besides : (ps : List Peer) (h : List ControllerAct) (e : ControllerEvent) → AreFewBesides (all_told ps (block ps h e))
 few-besides ps h (Told c) = refused-few ps h (placed_command ps c) (refusal (length ps) h (placed_command ps c))
-few-besides ps h (Opens f) = either-few ps (is_open f h) [] (going h (Opened f (openings f h + 1))) none-besides (going-few ps h (Opened f (openings f h + 1)))
-few-besides ps h (Cuts f) = either-few ps (is_open f h) (going h (Cut f (openings f h))) [] (going-few ps h (Cut f (openings f h))) none-besides
+few-besides ps h (Opens f) =
+    either-few ps (is_open f h) [] (going h (Opened f (openings f h + 1))) none-besides (going-few ps h (Opened f (openings f h + 1)))
+few-besides ps h (Cuts f) =
+    either-few ps (is_open f h) (going h (Cut f (openings f h))) [] (going-few ps h (Cut f (openings f h))) none-besides
 few-besides ps h (Answers f a) = answer-few ps h f a (queue f h)
-few-besides ps h (Notices f t) = either-few ps (is_open f h) (going h (Heard f (openings f h) t)) [] (going-few ps h (Heard f (openings f h) t)) none-besides
+few-besides ps h (Notices f t) =
+    either-few ps (is_open f h) (going h (Heard f (openings f h) t)) [] (going-few ps h (Heard f (openings f h) t)) none-besides
 
-pub block-few : (ps : List Peer) (h : List ControllerAct) (e : ControllerEvent) → IsControllerPast (length ps) h → AreFew (all_told ps (block ps h e))
+pub block-few : (ps : List Peer) (h : List ControllerAct) (e : ControllerEvent) → IsControllerPast (length ps) h
+    → AreFew (all_told ps (block ps h e))
 block-few ps h e l =
     let m = few-besides ps h e in
     let n = orders-count ps (block ps h e) in
@@ -178,7 +209,8 @@ or-right false c e = e
 name-known : (ps : List Peer) (g : ℕ) → g < length ps → is_named ps (peer_name ps g) ≡ true
 name-known [] g i = absurd (omega (arith, i))
 name-known (p ∷ ps) g i = by-place (g == 0) refl (name-known ps (g - 1)) where
-  by-place : (b : Bool) → (g == 0) ≡ b → (g - 1 < length ps → is_named ps (peer_name ps (g - 1)) ≡ true) → is_named (p ∷ ps) (if b then p.name else peer_name ps (g - 1)) ≡ true
+  by-place : (b : Bool) → (g == 0) ≡ b → (g - 1 < length ps → is_named ps (peer_name ps (g - 1)) ≡ true)
+      → is_named (p ∷ ps) (if b then p.name else peer_name ps (g - 1)) ≡ true
   by-place true e f = or-true (bytes_eq p.name p.name) (is_named ps p.name) (name-self p.name)
   by-place false e f = or-right (bytes_eq p.name (peer_name ps (g - 1))) (is_named ps (peer_name ps (g - 1))) (f (grind (arith, e, i)))
 
@@ -205,7 +237,8 @@ good-before : (h xs : List ControllerAct) → IsGoodPast (after h xs) → IsGood
 good-before h [] g = g
 good-before h (a ∷ xs) g = one-before a h (good-before (a ∷ h) xs g)
 
-one-tellable : (ps : List Peer) (h : List ControllerAct) (a : ControllerAct) → ArePeers ps → IsControllerPast (length ps) (a ∷ h) → Fits (length ps) a → IsGoodPast h → AllByRecursion (IsTellable ps) (told ps a)
+one-tellable : (ps : List Peer) (h : List ControllerAct) (a : ControllerAct) → ArePeers ps → IsControllerPast (length ps) (a ∷ h)
+    → Fits (length ps) a → IsGoodPast h → AllByRecursion (IsTellable ps) (told ps a)
 one-tellable ps h (Opened g s) p l f k = (name-known ps g f, tt)
 one-tellable ps h (Cut g s) p l f k = (name-known ps g f, tt)
 one-tellable ps h (Answered g s n a) p l f k = (name-known ps g f, tt)
@@ -214,7 +247,8 @@ one-tellable ps h (Ordered g s n o) p l f k = ((name-known ps g f, order-good ps
 one-tellable ps h (Accepted c) p l f k = tt
 one-tellable ps h (Refused w) p l f k = (tt, tt)
 
-pub all-tellable : (ps : List Peer) (h xs : List ControllerAct) → ArePeers ps → IsControllerPast (length ps) (after h xs) → AllFit (length ps) (after h xs) → IsGoodPast (after h xs)
+pub all-tellable : (ps : List Peer) (h xs : List ControllerAct) → ArePeers ps → IsControllerPast (length ps) (after h xs)
+    → AllFit (length ps) (after h xs) → IsGoodPast (after h xs)
     → AllByRecursion (IsTellable ps) (all_told ps xs)
 all-tellable ps h [] p l f k = tt
 all-tellable ps h (a ∷ xs) p l f k =

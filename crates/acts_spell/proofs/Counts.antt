@@ -124,7 +124,8 @@ pub record HasRoom (bound : ℕ) (g : List ℕ) (h xs : List Act) : Type 0 where
   pub answered : sessions.answered g (sessions.openings g h) h + count_answered xs ≤ bound
   pub orders : sessions.orders g (sessions.openings g h) h + count_orders xs ≤ 2051 * bound
 
-opened-step : (m : ℕ) (g f : List ℕ) (t : ℕ) (h xs : List Act) → KeepsSessions h → HasRoom m g h (acts.Opened f t ∷ xs) → (b : Bool) → bytes_eq f g ≡ b → HasRoom m g (acts.Opened f t ∷ h) xs
+opened-step : (m : ℕ) (g f : List ℕ) (t : ℕ) (h xs : List Act) → KeepsSessions h → HasRoom m g h (acts.Opened f t ∷ xs) → (b : Bool)
+    → bytes_eq f g ≡ b → HasRoom m g (acts.Opened f t ∷ h) xs
 opened-step m g f t h xs k r true e =
     let a = r.openings in let b = r.handled in let c = r.answered in let d = r.orders in
     let one : openings g (acts.Opened f t ∷ h) ≡ openings g h + 1 = ap (λ (z : Bool). if z then openings g h + 1 else openings g h) e in
@@ -180,13 +181,16 @@ room-end m g h l r =
     let a = r.openings in let b = r.handled in let c = r.answered in let d = r.orders in
     record { openings = omega (arith, a, l); handled = omega (arith, b, l); answered = omega (arith, c, l); orders = omega (arith, d, l) }
 
-all-steps : (m : ℕ) (g : List ℕ) (h xs : List Act) → KeepsSessions (after h xs) → ((k xs2 : List Act) → KeepsSessions (after k xs2) → KeepsSessions k) → HasRoom m g h xs → HasRoom m g (after h xs) []
+all-steps : (m : ℕ) (g : List ℕ) (h xs : List Act) → KeepsSessions (after h xs)
+    → ((k xs2 : List Act) → KeepsSessions (after k xs2) → KeepsSessions k) → HasRoom m g h xs → HasRoom m g (after h xs) []
 all-steps m g h [] k back r = r
 all-steps m g h (a ∷ xs) k back r = all-steps m g (a ∷ h) xs k back (room-step m g a h xs (back (a ∷ h) xs k).1 r)
 
 -- one event more
-pub few-after : ((k xs : List Act) → KeepsSessions (after k xs) → KeepsSessions k) → (g : List ℕ) (n : ℕ) (h xs : List Act) → AreFewAt g h → AreFew xs
+pub few-after : ((k xs : List Act) → KeepsSessions (after k xs) → KeepsSessions k) → (g : List ℕ) (n : ℕ) (h xs : List Act) → AreFewAt g h
+    → AreFew xs
     → KeepsSessions (after (acts.Took n ∷ h) xs) → AreFewAt g (after (acts.Took n ∷ h) xs)
 few-after back g n h xs few more k =
     let t = taken-same (acts.Took n ∷ h) xs more.taken in
-    room-end (events_taken h + 1) g (after (acts.Took n ∷ h) xs) t (all-steps (events_taken h + 1) g (acts.Took n ∷ h) xs k back (room-from g n h xs few more))
+    room-end (events_taken h + 1) g (after (acts.Took n ∷ h) xs) t
+    (all-steps (events_taken h + 1) g (acts.Took n ∷ h) xs k back (room-from g n h xs few more))

@@ -20,7 +20,8 @@ pub each-added : {X : Type 0} (P : X → Type 0) (h xs : List X) → AllByRecurs
 each-added P h [] p = tt
 each-added P h (x ∷ xs) p = ((each-before P (x ∷ h) xs p).0, each-added P (x ∷ h) xs p)
 
-pub each-if : {X : Type 0} (P : X → Type 0) (b : Bool) (xs ys : List X) → AllByRecursion P xs → AllByRecursion P ys → AllByRecursion P (if b then xs else ys)
+pub each-if : {X : Type 0} (P : X → Type 0) (b : Bool) (xs ys : List X) → AllByRecursion P xs → AllByRecursion P ys
+    → AllByRecursion P (if b then xs else ys)
 each-if P true xs ys p q = p
 each-if P false xs ys p q = q
 

@@ -137,7 +137,8 @@ kept (Some fault) list good h is = cc
 
 -- ---- limits
 
-counts-read : (fault : LineFault) (time bytes packets idle : List ℕ) (l : Limits) → counts_of fault time bytes packets idle ≡ Ok l → IsTypedLimits l
+counts-read : (fault : LineFault) (time bytes packets idle : List ℕ) (l : Limits) → counts_of fault time bytes packets idle ≡ Ok l
+    → IsTypedLimits l
 unfolding counts_of
 counts-read fault time bytes packets idle l is =
     let P : Type 0 = IsTypedLimits l in
@@ -302,7 +303,8 @@ ttl-read gateways gateway sent how ttl e is =
     (λ _ more3. after P (number_in faults.Number 255 ttl) _ e more3
     (λ t few same. let q : events.ArriveTtl g k t ≡ e = cc in subst IsEvent q (sent-read sent k counted, within faults.Number 255 256 ttl t (omega arith) few)))))
 
-flip-read : (gateways : List Peer) (gateway sent how offset bit : List ℕ) (e : Event) → flip_of gateways gateway sent how offset bit ≡ Ok e → IsEvent e
+flip-read : (gateways : List Peer) (gateway sent how offset bit : List ℕ) (e : Event) → flip_of gateways gateway sent how offset bit ≡ Ok e
+    → IsEvent e
 unfolding flip_of
 flip-read gateways gateway sent how offset bit e is =
     let P : Type 0 = IsEvent e in
@@ -336,7 +338,8 @@ wire-read gateways (w ∷ l ∷ x ∷ ws) e is = cc
 keys-read : (ws : List (List ℕ)) (e : Event) → keys_in ws ≡ Ok e → IsEvent e
 unfolding keys_in
 keys-read [] e is = cc
-keys-read (w ∷ []) e is = after (IsEvent e) (octets_of w) _ e is (λ o read same. let q : events.Keys o ≡ e = cc in subst IsEvent q (octets-read w o read))
+keys-read (w ∷ []) e is =
+    after (IsEvent e) (octets_of w) _ e is (λ o read same. let q : events.Keys o ≡ e = cc in subst IsEvent q (octets-read w o read))
 keys-read (w ∷ x ∷ ws) e is = cc
 
 reqid-read : (ws : List (List ℕ)) (n : ℕ) → reqid_in ws ≡ Ok n → n < 2 ^ 64
@@ -364,8 +367,10 @@ command-read w ws e is =
     (λ is5. passed P (bytes_eq w (codes "keys")) _ faults.Word e is5 (λ _ read. keys-read ws e read)))))
 
 -- an event of a gateway alone
-alone : (gateways : List Peer) (ws : List (List ℕ)) (f : List ℕ → Event) (e : Event) → ((g : List ℕ) → IsEvent (f g)) → (gateway_in gateways ws >>= (λ g. Ok (f g))) ≡ Ok e → IsEvent e
-alone gateways ws f e typed is = after (IsEvent e) (gateway_in gateways ws) (λ g. Ok (f g)) e is (λ g named same. subst IsEvent (inside (f g) e same) (typed g))
+alone : (gateways : List Peer) (ws : List (List ℕ)) (f : List ℕ → Event) (e : Event) → ((g : List ℕ) → IsEvent (f g))
+    → (gateway_in gateways ws >>= (λ g. Ok (f g))) ≡ Ok e → IsEvent e
+alone gateways ws f e typed is =
+    after (IsEvent e) (gateway_in gateways ws) (λ g. Ok (f g)) e is (λ g named same. subst IsEvent (inside (f g) e same) (typed g))
 
 session-read : (gateways : List Peer) (w : List ℕ) (ws : List (List ℕ)) (e : Event) → session_in gateways w ws ≡ Ok e → IsEvent e
 unfolding session_in
@@ -392,4 +397,5 @@ words-read gateways (w ∷ ws) e is =
 
 pub event-typed : (gateways : List Peer) (line : List ℕ) (e : Event) → event_of gateways line ≡ Ok e → IsEvent e
 unfolding event_of
-event-typed gateways line e is = passed (IsEvent e) (list_all is_printable line) _ faults.Octet e is (λ _ read. words-read gateways (words line) e read)
+event-typed gateways line e is =
+    passed (IsEvent e) (list_all is_printable line) _ faults.Octet e is (λ _ read. words-read gateways (words line) e read)

@@ -50,15 +50,18 @@ IsGoodHalf e = IsInstallable e × IsTypedHalf e
 
 without-good : (x : List ℕ) (es : List SadEntry) → AllByRecursion IsGoodHalf es → AllByRecursion IsGoodHalf (without x es)
 without-good x [] s = tt
-without-good x (e ∷ es) s = each-if IsGoodHalf (bytes_eq e.name x) (without x es) (e ∷ without x es) (without-good x es s.1) (s.0, without-good x es s.1)
+without-good x (e ∷ es) s =
+    each-if IsGoodHalf (bytes_eq e.name x) (without x es) (e ∷ without x es) (without-good x es s.1) (s.0, without-good x es s.1)
 
 pub live-good : (gs : List Peer) (g : List ℕ) (h : List Act) → AreSpelled gs h → AllByRecursion IsGoodHalf (live g h)
 live-good gs g [] s = tt
 live-good gs g (acts.Put f e ∷ h) s =
     let more = live-good gs g h s.1 in
-    each-if IsGoodHalf (bytes_eq f g) (live g h ++ e ∷ []) (live g h) (each-append IsGoodHalf (live g h) (e ∷ []) more ((s.0.0.1, s.0.1), tt)) more
+    each-if IsGoodHalf (bytes_eq f g) (live g h ++ e ∷ []) (live g h)
+    (each-append IsGoodHalf (live g h) (e ∷ []) more ((s.0.0.1, s.0.1), tt)) more
 live-good gs g (acts.Gone f x w ∷ h) s =
-    let more = live-good gs g h s.1 in each-if IsGoodHalf (bytes_eq f g) (without x (live g h)) (live g h) (without-good x (live g h) more) more
+    let more = live-good gs g h s.1 in
+    each-if IsGoodHalf (bytes_eq f g) (without x (live g h)) (live g h) (without-good x (live g h) more) more
 live-good gs g (acts.Boot f ∷ h) s = each-if IsGoodHalf (bytes_eq f g) [] (live g h) tt (live-good gs g h s.1)
 live-good gs g (a ∷ h) s = live-good gs g h s.1
 
@@ -73,11 +76,13 @@ IsGoodAnswer a = AreHalfNames a.names × IsTypedAnswer a
 abbrev pub IsGoodNotice : Notice → Type 0
 IsGoodNotice n = IsNoticeSpelled n × IsTypedNotice n
 
-found-if : {X : Type 0} (P : X → Type 0) (b : Bool) (x y : X) (o : Option X) → P x → (o ≡ Some y → P y) → (if b then Some x else o) ≡ Some y → P y
+found-if : {X : Type 0} (P : X → Type 0) (b : Bool) (x y : X) (o : Option X) → P x → (o ≡ Some y → P y) → (if b then Some x else o) ≡ Some y
+    → P y
 found-if P true x y o p q e = subst P (some-is x y e) p
 found-if P false x y o p q e = q e
 
-pub order-good : (gs : List Peer) (g : List ℕ) (s k : ℕ) (o : Order) (h : List Act) → AreSpelled gs h → order_at g s k h ≡ Some o → IsGoodOrder o
+pub order-good : (gs : List Peer) (g : List ℕ) (s k : ℕ) (o : Order) (h : List Act) → AreSpelled gs h → order_at g s k h ≡ Some o
+    → IsGoodOrder o
 order-good gs g s k o [] l e = cc
 order-good gs g s k o (acts.Order f t j q ∷ h) l e =
     found-if IsGoodOrder (is_session f t g s && (j == k)) q o (order_at g s k h) (l.0.0.1, l.0.1.2) (order-good gs g s k o h l.1) e
@@ -96,13 +101,15 @@ request-good gs g o h l e =
     none-or IsGoodOrder (session_taken g h == 0) o (order_at g (session_taken g h) (handled g (session_taken g h) h + 1) h)
     (order-good gs g (session_taken g h) (handled g (session_taken g h) h + 1) o h l) e
 
-pub answer-good : (gs : List Peer) (g : List ℕ) (s k : ℕ) (a : Answer) (h : List Act) → AreSpelled gs h → answer_at g s k h ≡ Some a → IsGoodAnswer a
+pub answer-good : (gs : List Peer) (g : List ℕ) (s k : ℕ) (a : Answer) (h : List Act) → AreSpelled gs h → answer_at g s k h ≡ Some a
+    → IsGoodAnswer a
 answer-good gs g s k a [] l e = cc
 answer-good gs g s k a (acts.Handled f t j r ∷ h) l e =
     found-if IsGoodAnswer (is_session f t g s && (j == k)) r a (answer_at g s k h) (l.0.0.1, l.0.1.2) (answer-good gs g s k a h l.1) e
 answer-good gs g s k a (x ∷ h) l e = answer-good gs g s k a h l.1 e
 
-pub heard-answer-good : (gs : List Peer) (g : List ℕ) (a : Answer) (h : List Act) → AreSpelled gs h → next_answer g h ≡ Some a → IsGoodAnswer a
+pub heard-answer-good : (gs : List Peer) (g : List ℕ) (a : Answer) (h : List Act) → AreSpelled gs h → next_answer g h ≡ Some a
+    → IsGoodAnswer a
 heard-answer-good gs g a h l e =
     or-none IsGoodAnswer (is_open g h) a (answer_at g (openings g h) (answered g (openings g h) h + 1) h)
     (answer-good gs g (openings g h) (answered g (openings g h) h + 1) a h l) e
@@ -111,7 +118,8 @@ notices-good : (gs : List Peer) (g : List ℕ) (s : ℕ) (h : List Act) → AreS
 notices-good gs g s [] l = tt
 notices-good gs g s (acts.Notice f t n ∷ h) l =
     let more = notices-good gs g s h l.1 in
-    each-if IsGoodNotice (is_session f t g s) (notices g s h ++ n ∷ []) (notices g s h) (each-append IsGoodNotice (notices g s h) (n ∷ []) more ((l.0.0.1, l.0.1.1), tt)) more
+    each-if IsGoodNotice (is_session f t g s) (notices g s h ++ n ∷ []) (notices g s h)
+    (each-append IsGoodNotice (notices g s h) (n ∷ []) more ((l.0.0.1, l.0.1.1), tt)) more
 notices-good gs g s (a ∷ h) l = notices-good gs g s h l.1
 
 pub got : {X : Type 0} (P : X → Type 0) (xs : List X) (k : ℕ) (x : X) → AllByRecursion P xs → slice_get xs k ≡ Some x → P x
@@ -119,10 +127,12 @@ got P [] k x l e = cc
 got P (y ∷ ys) zero x l e = subst P (some-is y x e) l.0
 got P (y ∷ ys) (suc k) x l e = got P ys k x l.1 e
 
-pub heard-notice-good : (gs : List Peer) (g : List ℕ) (n : Notice) (h : List Act) → AreSpelled gs h → next_notice g h ≡ Some n → IsGoodNotice n
+pub heard-notice-good : (gs : List Peer) (g : List ℕ) (n : Notice) (h : List Act) → AreSpelled gs h → next_notice g h ≡ Some n
+    → IsGoodNotice n
 heard-notice-good gs g n h l e =
     let s : ℕ = openings g h in
-    or-none IsGoodNotice (is_open g h) n (slice_get (notices g s h) (notices_heard g s h)) (got IsGoodNotice (notices g s h) (notices_heard g s h) n (notices-good gs g s h l)) e
+    or-none IsGoodNotice (is_open g h) n (slice_get (notices g s h) (notices_heard g s h))
+    (got IsGoodNotice (notices g s h) (notices_heard g s h) n (notices-good gs g s h l)) e
 
 -- ---- numbers
 

@@ -52,7 +52,8 @@ known-as gs f g e k = subst (IsKnown gs) (sym e) k
 
 -- ---- packets and datagrams
 
-lets-spelled : (header : Header) (g o : List ℕ) (h : List Act) → IsReady header h → IsKnown header.gateways g → AreOctets o → (c : Option node.Gateway) → gateway_at header g ≡ c
+lets-spelled : (header : Header) (g o : List ℕ) (h : List Act) → IsReady header h → IsKnown header.gateways g → AreOctets o
+    → (c : Option node.Gateway) → gateway_at header g ≡ c
     → AreSpelled header.gateways (at_gateway h (node.Let o) c)
 lets-spelled header g o h r k a None e = tt
 lets-spelled header g o h r k a (Some c) e =
@@ -62,7 +63,8 @@ lets-spelled header g o h r k a (Some c) e =
     let low : c.seq_last < 2 ^ 32 = subst (λ (z : ℕ). z < 2 ^ 32) (sym is.last) r.last in
     (one, let-spelled r.sizes header.gateways c.name o c.seq_last (acts.Let c.name o ∷ h) known a low (one, r.past))
 
-arrives-spelled : (header : Header) (g o : List ℕ) (h : List Act) → IsReady header h → IsKnown header.gateways g → AreOctets o → (c : Option node.Gateway) → gateway_at header g ≡ c
+arrives-spelled : (header : Header) (g o : List ℕ) (h : List Act) → IsReady header h → IsKnown header.gateways g → AreOctets o
+    → (c : Option node.Gateway) → gateway_at header g ≡ c
     → AreSpelled header.gateways (arrives_at h o c)
 arrives-spelled header g o h r k a None e = tt
 arrives-spelled header g o h r k a (Some c) e = by-forgery (is_forged c.name c.address h o) where
@@ -108,7 +110,8 @@ raised-spelled header h false s = tt
 greater : (m n : ℕ) → m < 2 ^ 32 → n < 2 ^ 32 → max m n < 2 ^ 32
 greater m n p q = grind (arith, p, q)
 
-clock-spelled : (header : Header) (h : List Act) (t : ℕ) → t < 2 ^ 32 → AreSpelled header.gateways h → AreSpelled header.gateways (clock_block header h t)
+clock-spelled : (header : Header) (h : List Act) (t : ℕ) → t < 2 ^ 32 → AreSpelled header.gateways h
+    → AreSpelled header.gateways (clock_block header h t)
 clock-spelled header h t l s =
     let a : Act = acts.Now (max t (clock h)) in
     let one : IsSpelled header.gateways a = (tt, greater t (clock h) l (clock-small header.gateways h s)) in
@@ -116,33 +119,41 @@ clock-spelled header h t l s =
 
 -- ---- restarts and requests
 
-boots-spelled : (header : Header) (g : List ℕ) (c : Option node.Gateway) → IsKnown header.gateways g → AreSpelled header.gateways (boots g c)
+boots-spelled : (header : Header) (g : List ℕ) (c : Option node.Gateway) → IsKnown header.gateways g
+    → AreSpelled header.gateways (boots g c)
 boots-spelled header g None k = tt
 boots-spelled header g (Some c) k = ((k, tt), tt)
 
 next-wide : (n : ℕ) → n < 2 ^ 32 → n + 1 < 2 ^ 64
 next-wide n l = omega (arith, l)
 
-down-spelled : (header : Header) (g : List ℕ) (h : List Act) → IsReady header h → IsKnown header.gateways g → (c : Option node.Gateway) → gateway_at header g ≡ c → (o : Option Order) → next_request g h ≡ o
+down-spelled : (header : Header) (g : List ℕ) (h : List Act) → IsReady header h → IsKnown header.gateways g → (c : Option node.Gateway)
+    → gateway_at header g ≡ c → (o : Option Order) → next_request g h ≡ o
     → AreSpelled header.gateways (handles_at h c o)
 down-spelled header g h r k c e None n = tt
 down-spelled header g h r k None e (Some o) n = tt
 down-spelled header g h r k (Some c) e (Some o) n =
     let is = gateway-of header g c r.addresses e in
-    request-spelled header.gateways c.name h o (known-as header.gateways c.name g is.name k) r.past (request-good header.gateways g o h r.past n) (next-wide (requests c.name h) (r.requests c.name))
+    request-spelled header.gateways c.name h o (known-as header.gateways c.name g is.name k) r.past
+    (request-good header.gateways g o h r.past n) (next-wide (requests c.name h) (r.requests c.name))
 
 -- ---- each event
 
-pub gateways-spelled : (header : Header) (h : List Act) (e : Event) → IsReady header h → IsEventUnder header.gateways e → IsEvent e → AreSpelled header.gateways (gateway_acts (under_way header) header h e)
+pub gateways-spelled : (header : Header) (h : List Act) (e : Event) → IsReady header h → IsEventUnder header.gateways e → IsEvent e
+    → AreSpelled header.gateways (gateway_acts (under_way header) header h e)
 gateways-spelled header h (events.Let g o) r u t = lets-spelled header g o h r u t (gateway_at header g) refl
 gateways-spelled header h (events.Arrive g o) r u t = arrives-spelled header g o h r u t (gateway_at header g) refl
-gateways-spelled header h (events.ArriveSent g k) r u t = arrives-spelled header g (sent_at k h) h r u.0 (sent-octets header.gateways k h r.past) (gateway_at header g) refl
+gateways-spelled header h (events.ArriveSent g k) r u t =
+    arrives-spelled header g (sent_at k h) h r u.0 (sent-octets header.gateways k h r.past) (gateway_at header g) refl
 gateways-spelled header h (events.ArriveFlip g k n b) r u t =
-    arrives-spelled header g (flipped n b (sent_at k h)) h r u.0 (flipped-octets n b (sent_at k h) u.2 (sent-octets header.gateways k h r.past)) (gateway_at header g) refl
+    arrives-spelled header g (flipped n b (sent_at k h)) h r u.0
+    (flipped-octets n b (sent_at k h) u.2 (sent-octets header.gateways k h r.past)) (gateway_at header g) refl
 gateways-spelled header h (events.ArriveTtl g k ttl) r u t =
-    arrives-spelled header g (with_ttl ttl (sent_at k h)) h r u.0 (ttl-octets ttl (sent_at k h) t.1 (sent-octets header.gateways k h r.past)) (gateway_at header g) refl
+    arrives-spelled header g (with_ttl ttl (sent_at k h)) h r u.0
+    (ttl-octets ttl (sent_at k h) t.1 (sent-octets header.gateways k h r.past)) (gateway_at header g) refl
 gateways-spelled header h (events.Now t) r u l = clock-spelled header h t l r.past
 gateways-spelled header h (events.Boot g) r u t = boots-spelled header g (gateway_at header g) u
 gateways-spelled header h (events.Down g) r u t = down-spelled header g h r u (gateway_at header g) refl (next_request g h) refl
-gateways-spelled header h (events.Wire g lane) r u t = (((u, wire-few header g lane h), wire-octets header g lane h r.addresses r.lawful r.past), tt)
+gateways-spelled header h (events.Wire g lane) r u t =
+    (((u, wire-few header g lane h), wire-octets header g lane h r.addresses r.lawful r.past), tt)
 gateways-spelled header h e r u t = tt

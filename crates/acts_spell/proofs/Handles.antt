@@ -43,11 +43,13 @@ pub record IsGoodOutcome (gs : List Peer) (g : List ℕ) (r : Outcome) : Type 0 
 no-names : AreHalfNames []
 no-names = All-nil IsHalfName
 
-row-names : (g : List ℕ) (h : List Act) (es : List SadEntry) → AllByRecursion IsGoodHalf es → AllByRecursion IsHalfName (row_names (map (row_of g h) es))
+row-names : (g : List ℕ) (h : List Act) (es : List SadEntry) → AllByRecursion IsGoodHalf es
+    → AllByRecursion IsHalfName (row_names (map (row_of g h) es))
 row-names g h [] s = tt
 row-names g h (e ∷ es) s = (half-named e s.0.0, row-names g h es s.1)
 
-either-good : (gs : List Peer) (g : List ℕ) (b : Bool) (x y : Outcome) → IsGoodOutcome gs g x → IsGoodOutcome gs g y → IsGoodOutcome gs g (if b then x else y)
+either-good : (gs : List Peer) (g : List ℕ) (b : Bool) (x y : Outcome) → IsGoodOutcome gs g x → IsGoodOutcome gs g y
+    → IsGoodOutcome gs g (if b then x else y)
 either-good gs g true x y p q = p
 either-good gs g false x y p q = q
 
@@ -61,29 +63,35 @@ put-good gs g t e k h =
     either-good gs g (list_any (is_row e.name) t.sad) (exists t) _ a
     (either-good gs g (is_inbound e.name && has_spi e.spi t.sad) (spi_taken t) _ b (either-good gs g (is_sad_full t.sad) (full t) _ c d))
 
-gone-good : (gs : List Peer) (g : List ℕ) (t : Tree) (x : List ℕ) → IsKnown gs g → is_sad_name x ≡ true → IsGoodOutcome gs g (delete_sad t x)
+gone-good : (gs : List Peer) (g : List ℕ) (t : Tree) (x : List ℕ) → IsKnown gs g → is_sad_name x ≡ true
+    → IsGoodOutcome gs g (delete_sad t x)
 gone-good gs g t x k n =
     let a : IsGoodOutcome gs g (done (changes.Gone x) (with_sad t (without_row x t.sad))) = record { change = (((k, n), tt), tt); names = no-names; status = omega arith } in
     let b : IsGoodOutcome gs g (absent t) = record { change = tt; names = no-names; status = omega arith } in
     either-good gs g (list_any (is_row x) t.sad) _ (absent t) a b
 
-pub outcome-good : (gs : List Peer) (g : List ℕ) (h : List Act) (o : Order) → IsKnown gs g → AreSpelled gs h → IsGoodOrder o → IsGoodOutcome gs g (reply (tree_of g h) (ask_of o))
+pub outcome-good : (gs : List Peer) (g : List ℕ) (h : List Act) (o : Order) → IsKnown gs g → AreSpelled gs h → IsGoodOrder o
+    → IsGoodOutcome gs g (reply (tree_of g h) (ask_of o))
 unfolding reply
-outcome-good gs g h orders.Read k s o = record { change = tt; names = All-from_recursion IsHalfName _ (row-names g h (live g h) (live-good gs g h s)); status = omega arith }
+outcome-good gs g h orders.Read k s o =
+    record { change = tt; names = All-from_recursion IsHalfName _ (row-names g h (live g h) (live-good gs g h s)); status = omega arith }
 outcome-good gs g h (orders.Policy list) k s o = record { change = (((k, o.0), o.1), tt); names = no-names; status = omega arith }
 outcome-good gs g h (orders.Put e) k s o = put-good gs g (tree_of g h) e k o
 outcome-good gs g h (orders.Remove x) k s o = gone-good gs g (tree_of g h) x k o.0
 
-answered : (gs : List Peer) (g : List ℕ) (s k : ℕ) (r : Outcome) → Asked gs g s k → IsGoodOutcome gs g r → (c : Change) → IsGoodChange gs g r c
+answered : (gs : List Peer) (g : List ℕ) (s k : ℕ) (r : Outcome) → Asked gs g s k → IsGoodOutcome gs g r → (c : Change)
+    → IsGoodChange gs g r c
     → AreSpelled gs (change_acts g r c ++ acts.Handled g s k (answer_of r) ∷ [])
 answered gs g s k r a o changes.Nothing c = (((a.known, o.names), (a.session, a.number, o.status)), tt)
 answered gs g s k r a o changes.Spd c = (c.0, (((a.known, o.names), (a.session, a.number, o.status)), tt))
 answered gs g s k r a o (changes.Put e) c = (c.0, (((a.known, o.names), (a.session, a.number, o.status)), tt))
 answered gs g s k r a o (changes.Gone x) c = (c.0, (((a.known, o.names), (a.session, a.number, o.status)), tt))
 
-pub request-spelled : (gs : List Peer) (g : List ℕ) (h : List Act) (o : Order) → IsKnown gs g → AreSpelled gs h → IsGoodOrder o → requests g h + 1 < 2 ^ 64
+pub request-spelled : (gs : List Peer) (g : List ℕ) (h : List Act) (o : Order) → IsKnown gs g → AreSpelled gs h → IsGoodOrder o
+    → requests g h + 1 < 2 ^ 64
     → AreSpelled gs (reply_acts g (session_taken g h) (requests g h + 1) (reply (tree_of g h) (ask_of o)))
 request-spelled gs g h o k s good few =
     let r : Outcome = reply (tree_of g h) (ask_of o) in
     let fits = outcome-good gs g h o k s good in
-    answered gs g (session_taken g h) (requests g h + 1) r (record { known = k; session = session-small gs g h s; number = few }) fits r.change fits.change
+    answered gs g (session_taken g h) (requests g h + 1) r
+    (record { known = k; session = session-small gs g h s; number = few }) fits r.change fits.change

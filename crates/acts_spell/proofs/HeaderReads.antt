@@ -99,11 +99,13 @@ header-typed line h is =
 pub event-spelled : (gateways : List Peer) (line : List ℕ) (e : Event) → event_of gateways line ≡ Ok e → IsSpelledEvent gateways e
 event-spelled gateways line e is = (event_under gateways line e is, event-typed gateways line e is)
 
-lines-each : (header : Header) (lines : List (List ℕ)) (es : List Event) → AreLinesOf header lines es → AllByRecursion (IsSpelledEvent header.gateways) es
+lines-each : (header : Header) (lines : List (List ℕ)) (es : List Event) → AreLinesOf header lines es
+    → AllByRecursion (IsSpelledEvent header.gateways) es
 lines-each header [] [] i = tt
 lines-each header [] (e ∷ es) i = absurd i
 lines-each header (line ∷ lines) [] i = absurd i
 lines-each header (line ∷ lines) (e ∷ es) i = (event-spelled header.gateways line e i.0, lines-each header lines es i.1)
 
-pub lines-spelled : (header : Header) (lines : List (List ℕ)) (es : List Event) → AreLinesOf header lines es → All (IsSpelledEvent header.gateways) es
+pub lines-spelled : (header : Header) (lines : List (List ℕ)) (es : List Event) → AreLinesOf header lines es
+    → All (IsSpelledEvent header.gateways) es
 lines-spelled header lines es i = All-from_recursion (IsSpelledEvent header.gateways) es (lines-each header lines es i)

@@ -14,13 +14,15 @@ use Rattle.acts_spell.proofs.Blocks.{Meets, block-spelled, block-takes, told-aft
 use Rattle.acts_spell.proofs.Each.{each-append}
 use Rattle.acts_spell.proofs.Found.{AreSpelled}
 
-meets : SealedLength → (header : Header) (p : Past) (e : Event) (n : ℕ) → IsSpelledHeader header → IsSpelledEvent header.gateways e → IsTold header p → events_taken p.world + (n + 1) < 2 ^ 32 → Meets header p e
+meets : SealedLength → (header : Header) (p : Past) (e : Event) (n : ℕ) → IsSpelledHeader header → IsSpelledEvent header.gateways e
+    → IsTold header p → events_taken p.world + (n + 1) < 2 ^ 32 → Meets header p e
 meets sizes header p e n h s t l = record { spelled = h; under = s.0; typed = s.1; told = t; few = omega (arith, l); sizes = sizes }
 
 one-less : (n m k : ℕ) → m ≡ n + 1 → n + (k + 1) < 2 ^ 32 → m + k < 2 ^ 32
 one-less n m k e l = omega (arith, e, l)
 
-history-from : SealedLength → (header : Header) (p : Past) (es : List Event) → IsSpelledHeader header → AllByRecursion (IsSpelledEvent header.gateways) es → IsTold header p
+history-from : SealedLength → (header : Header) (p : Past) (es : List Event) → IsSpelledHeader header
+    → AllByRecursion (IsSpelledEvent header.gateways) es → IsTold header p
     → events_taken p.world + length es < 2 ^ 32 → AreSpelled header.gateways (history (under_way header) header p es)
 history-from sizes header p [] h s t l = tt
 history-from sizes header p (e ∷ es) h s t l =
@@ -31,13 +33,17 @@ history-from sizes header p (e ∷ es) h s t l =
   where
     by-forgery : Meets header p e → (b : Bool) → is_forged_event header p e ≡ b
         → (IsTold header (past_after (under_way header) header p e) → AreSpelled header.gateways (history (under_way header) header (past_after (under_way header) header p e) es))
-        → AreSpelled header.gateways (block (under_way header) header p e ++ unless_forged b (history (under_way header) header (past_after (under_way header) header p e) es))
-    by-forgery m true f more = subst (AreSpelled header.gateways) (sym (append-nil (block (under_way header) header p e))) (block-spelled header p e m)
+        → AreSpelled header.gateways
+        (block (under_way header) header p e ++ unless_forged b (history (under_way header) header (past_after (under_way header) header p e) es))
+    by-forgery m true f more =
+        subst (AreSpelled header.gateways) (sym (append-nil (block (under_way header) header p e))) (block-spelled header p e m)
     by-forgery m false f more =
-        each-append (IsSpelled header.gateways) (block (under_way header) header p e) (history (under_way header) header (past_after (under_way header) header p e) es)
+        each-append (IsSpelled header.gateways) (block (under_way header) header p e)
+        (history (under_way header) header (past_after (under_way header) header p e) es)
         (block-spelled header p e m) (more (told-after header p e m f))
 
-pub history-spelled : SealedLength → (header : Header) (es : List Event) → IsSpelledHeader header → All (IsSpelledEvent header.gateways) es → length es < 2 ^ 32
+pub history-spelled : SealedLength → (header : Header) (es : List Event) → IsSpelledHeader header → All (IsSpelledEvent header.gateways) es
+    → length es < 2 ^ 32
     → All (IsSpelled header.gateways) (history (under_way header) header nothing es)
 history-spelled sizes header es h s l =
     All-from_recursion (IsSpelled header.gateways) (history (under_way header) header nothing es)
@@ -45,12 +51,15 @@ history-spelled sizes header es h s l =
 
 -- ---- one event
 
-pub act-spelled : SealedLength → (header : Header) (p : Past) (e : Event) → IsSpelledHeader header → IsEventUnder header.gateways e → IsEvent e → IsTold header p
+pub act-spelled : SealedLength → (header : Header) (p : Past) (e : Event) → IsSpelledHeader header → IsEventUnder header.gateways e
+    → IsEvent e → IsTold header p
     → events_taken p.world < 2 ^ 32 - 1 → All (IsSpelled header.gateways) (block (under_way header) header p e)
 act-spelled sizes header p e h u t told few =
     All-from_recursion (IsSpelled header.gateways) (block (under_way header) header p e)
     (block-spelled header p e (record { spelled = h; under = u; typed = t; told = told; few = few; sizes = sizes }))
 
-pub act-told : SealedLength → (header : Header) (p : Past) (e : Event) → IsSpelledHeader header → IsEventUnder header.gateways e → IsEvent e → IsTold header p
+pub act-told : SealedLength → (header : Header) (p : Past) (e : Event) → IsSpelledHeader header → IsEventUnder header.gateways e → IsEvent e
+    → IsTold header p
     → events_taken p.world < 2 ^ 32 - 1 → is_forged_event header p e ≡ false → IsTold header (past_after (under_way header) header p e)
-act-told sizes header p e h u t told few f = told-after header p e (record { spelled = h; under = u; typed = t; told = told; few = few; sizes = sizes }) f
+act-told sizes header p e h u t told few f =
+    told-after header p e (record { spelled = h; under = u; typed = t; told = told; few = few; sizes = sizes }) f

@@ -59,7 +59,8 @@ entry-named e h =
     let two = unfaulted false faults.DuplicateName _ (first-none (entry_fault [] e) None one) in
     named-if (is_spd_name e.name) faults.BadName _ two
 
-pub policy-named : (p : SpdEntry → Bool) (list : List SpdEntry) (e : SpdEntry) → spd_fault list ≡ None → find p list ≡ Some e → is_spd_name e.name ≡ true
+pub policy-named : (p : SpdEntry → Bool) (list : List SpdEntry) (e : SpdEntry) → spd_fault list ≡ None → find p list ≡ Some e
+    → is_spd_name e.name ≡ true
 policy-named p list e h f = entry-named e (policy_found p list e h f)
 
 -- ---- the newest half
@@ -68,11 +69,13 @@ newer-good : (r : ℕ) (v : Packet) (d e : SadEntry) (b : Bool) → IsGoodHalf d
 newer-good r v d e true g h = subst IsGoodHalf (some-is d e h) g
 newer-good r v d e false g h = cc
 
-found-good : (r : ℕ) (v : Packet) (d e : SadEntry) (found : Option SadEntry) → IsGoodHalf d → (found ≡ Some e → IsGoodHalf e) → newer r v d found ≡ Some e → IsGoodHalf e
+found-good : (r : ℕ) (v : Packet) (d e : SadEntry) (found : Option SadEntry) → IsGoodHalf d → (found ≡ Some e → IsGoodHalf e)
+    → newer r v d found ≡ Some e → IsGoodHalf e
 found-good r v d e (Some x) g ih h = ih h
 found-good r v d e None g ih h = newer-good r v d e (may_seal r v d) g h
 
-newest-good : (r : ℕ) (v : Packet) (es : List SadEntry) (e : SadEntry) → AllByRecursion IsGoodHalf es → newest r v es ≡ Some e → IsGoodHalf e
+newest-good : (r : ℕ) (v : Packet) (es : List SadEntry) (e : SadEntry) → AllByRecursion IsGoodHalf es → newest r v es ≡ Some e
+    → IsGoodHalf e
 newest-good r v [] e g h = cc
 newest-good r v (d ∷ es) e g h = found-good r v d e (newest r v es) g.0 (newest-good r v es e g.1) h
 
@@ -85,7 +88,8 @@ next-octet : (b : Bool) → (if b then 4 else 41) < 256
 next-octet true = omega arith
 next-octet false = omega arith
 
-sealed-octets : SealedLength → (e : SadEntry) (n : ℕ) (v : Packet) (o : List ℕ) → IsGoodHalf e → AreOctets o → length o ≤ 65000 → AreOctets (datagram e n v o)
+sealed-octets : SealedLength → (e : SadEntry) (n : ℕ) (v : Packet) (o : List ℕ) → IsGoodHalf e → AreOctets o → length o ≤ 65000
+    → AreOctets (datagram e n v o)
 sealed-octets sizes e n v o g h l =
     let size = sizes (keying e.spi e.key) n (next_header o) o in
     let short = padded-short (length o) l in
@@ -107,9 +111,11 @@ dropped gs g xs w k s = ((k, tt), s)
 below : (n q : ℕ) → nat_le q n ≡ false → q < 2 ^ 32 → n + 1 < 2 ^ 64
 below n q e l = grind (arith, e, l)
 
-sent-spelled : (gs : List Peer) (g o : List ℕ) (q : ℕ) (h : List Act) (v : Packet) (e : SadEntry) → Comes gs g o q h → length o ≤ 65000 → IsGoodHalf e
+sent-spelled : (gs : List Peer) (g o : List ℕ) (q : ℕ) (h : List Act) (v : Packet) (e : SadEntry) → Comes gs g o q h → length o ≤ 65000
+    → IsGoodHalf e
     → (b : Bool) → nat_le q (sent g e.name h) ≡ b
-    → AreSpelled gs (if b then acts.Drop g why.SeqLimit ∷ unless (was_overflow_given g e.name h) (tells g h (notices.SeqOverflow e.name)) else send_acts g h e (sent g e.name h + 1) (datagram e (sent g e.name h + 1) v o))
+    → AreSpelled gs
+    (if b then acts.Drop g why.SeqLimit ∷ unless (was_overflow_given g e.name h) (tells g h (notices.SeqOverflow e.name)) else send_acts g h e (sent g e.name h + 1) (datagram e (sent g e.name h + 1) v o))
 sent-spelled gs g o q h v e c l good true t =
     dropped gs g _ why.SeqLimit c.known
     (unless-spelled gs (was_overflow_given g e.name h) (tells g h (notices.SeqOverflow e.name)) (told-spelled gs g h (notices.SeqOverflow e.name) c.known c.past (half-named e good.0, tt)))
@@ -119,7 +125,8 @@ sent-spelled gs g o q h v e c l good false t =
     let s : IsSpelled gs a = ((c.known, half-named e good.0), (below (sent g e.name h) q t c.last, sealed-octets c.sizes e n v o good c.octets l)) in
     (s, look-spelled gs g (a ∷ h) (e ∷ []) c.known (s, c.past) (good, tt))
 
-half-spelled : (gs : List Peer) (g o : List ℕ) (q : ℕ) (h : List Act) (v : Packet) (p : SpdEntry) → Comes gs g o q h → length o ≤ 65000 → IsTypedView v → is_spd_name p.name ≡ true
+half-spelled : (gs : List Peer) (g o : List ℕ) (q : ℕ) (h : List Act) (v : Packet) (p : SpdEntry) → Comes gs g o q h → length o ≤ 65000
+    → IsTypedView v → is_spd_name p.name ≡ true
     → (found : Option SadEntry) → newest p.reqid v (live g h) ≡ found → AreSpelled gs (let_by_half g q h o v p found)
 half-spelled gs g o q h v p c l t n None e =
     dropped gs g _ why.NoSa c.known
@@ -128,7 +135,8 @@ half-spelled gs g o q h v p c l t n None e =
 half-spelled gs g o q h v p c l t n (Some d) e =
     sent-spelled gs g o q h v d c l (newest-good p.reqid v (live g h) d (live-good gs g h c.past) e) (nat_le q (sent g d.name h)) refl
 
-action-spelled : (gs : List Peer) (g o : List ℕ) (q : ℕ) (h : List Act) (v : Packet) (p : SpdEntry) → Comes gs g o q h → length o ≤ 65000 → IsTypedView v → is_spd_name p.name ≡ true
+action-spelled : (gs : List Peer) (g o : List ℕ) (q : ℕ) (h : List Act) (v : Packet) (p : SpdEntry) → Comes gs g o q h → length o ≤ 65000
+    → IsTypedView v → is_spd_name p.name ≡ true
     → (a : Action) → AreSpelled gs (let_by_action g q h o v p a)
 action-spelled gs g o q h v p c l t n actions.Protect = half-spelled gs g o q h v p c l t n (newest p.reqid v (live g h)) refl
 action-spelled gs g o q h v p c l t n actions.Bypass = ((c.known, c.octets), tt)
@@ -143,15 +151,19 @@ entry-spelled gs g o q h v c l t (Some p) e =
 short : (n : ℕ) → nat_lt 65000 n ≡ false → n ≤ 65000
 short n e = grind (arith, e)
 
-long-if : (gs : List Peer) (g o : List ℕ) (q : ℕ) (h : List Act) (v : Packet) → Comes gs g o q h → IsTypedView v → (b : Bool) → nat_lt 65000 (length o) ≡ b
+long-if : (gs : List Peer) (g o : List ℕ) (q : ℕ) (h : List Act) (v : Packet) → Comes gs g o q h → IsTypedView v → (b : Bool)
+    → nat_lt 65000 (length o) ≡ b
     → AreSpelled gs (if b then acts.Drop g why.TooLong ∷ [] else let_by_entry g q h o v (first_entry (force g h) Out v))
 long-if gs g o q h v c t true e = dropped gs g [] why.TooLong c.known tt
 long-if gs g o q h v c t false e = entry-spelled gs g o q h v c (short (length o) e) t (first_entry (force g h) Out v) refl
 
-view-spelled : (gs : List Peer) (g o : List ℕ) (q : ℕ) (h : List Act) → Comes gs g o q h → (r : Result Packet NotPacket) → view_of o ≡ r → AreSpelled gs (let_by_view g q h o r)
+view-spelled : (gs : List Peer) (g o : List ℕ) (q : ℕ) (h : List Act) → Comes gs g o q h → (r : Result Packet NotPacket) → view_of o ≡ r
+    → AreSpelled gs (let_by_view g q h o r)
 view-spelled gs g o q h c (Err fault) e = dropped gs g [] (fault_why fault) c.known tt
 view-spelled gs g o q h c (Ok v) e = long-if gs g o q h v c (view-typed o v c.octets e) (nat_lt 65000 (length o)) refl
 
-pub let-spelled : SealedLength → (gs : List Peer) (g o : List ℕ) (q : ℕ) (h : List Act) → IsKnown gs g → AreOctets o → q < 2 ^ 32 → AreSpelled gs h → AreSpelled gs (let_acts g q h o)
+pub let-spelled : SealedLength → (gs : List Peer) (g o : List ℕ) (q : ℕ) (h : List Act) → IsKnown gs g → AreOctets o → q < 2 ^ 32
+    → AreSpelled gs h → AreSpelled gs (let_acts g q h o)
 unfolding let_acts
-let-spelled sizes gs g o q h k a l s = view-spelled gs g o q h (record { known = k; octets = a; last = l; past = s; sizes = sizes }) (view_of o) refl
+let-spelled sizes gs g o q h k a l s =
+    view-spelled gs g o q h (record { known = k; octets = a; last = l; past = s; sizes = sizes }) (view_of o) refl

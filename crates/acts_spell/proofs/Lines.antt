@@ -27,7 +27,8 @@ digit-ascii n = let small : n % 10 < 10 = omega arith in grind (arith, nat_tests
 
 date-ascii : (year month day hour minute second : ℕ) → are_ascii (stamp_text year month day hour minute second) ≡ true
 date-ascii year month day hour minute second =
-    and_from _ _ (digit-ascii (year / 1000)) (and_from _ _ (digit-ascii (year / 100)) (and_from _ _ (digit-ascii (year / 10)) (and_from _ _ (digit-ascii year)
+    and_from _ _ (digit-ascii (year / 1000))
+    (and_from _ _ (digit-ascii (year / 100)) (and_from _ _ (digit-ascii (year / 10)) (and_from _ _ (digit-ascii year)
     (and_from _ _ refl (and_from _ _ (digit-ascii (month / 10)) (and_from _ _ (digit-ascii month)
     (and_from _ _ refl (and_from _ _ (digit-ascii (day / 10)) (and_from _ _ (digit-ascii day)
     (and_from _ _ refl (and_from _ _ (digit-ascii (hour / 10)) (and_from _ _ (digit-ascii hour)
@@ -36,7 +37,8 @@ date-ascii year month day hour minute second =
 
 date-text : (seconds : ℕ) → IsUtf8 (stamp seconds)
 date-text seconds =
-    IsUtf8-are_ascii (stamp seconds) (date-ascii (civil (seconds / 86400)).year (civil (seconds / 86400)).month (civil (seconds / 86400)).day
+    IsUtf8-are_ascii (stamp seconds)
+    (date-ascii (civil (seconds / 86400)).year (civil (seconds / 86400)).month (civil (seconds / 86400)).day
     (seconds % 86400 / 3600) (seconds % 86400 / 60 % 60) (seconds % 86400 % 60))
 
 -- ---- what is told
@@ -49,7 +51,8 @@ event-text (notices.Acquire policy s) h =
 event-text (notices.Expire name soft c) h =
     write_object _ (write_member (codes "ipsec-sa-name") _ _ refl (write_text name (utf8_name name (half_octets name h.0)))
     (write_member (codes "lifetime-current") _ _ refl (write_counts c h.1) (write_member (codes "soft-lifetime-expire") _ _ refl (write_boolean soft) write_none)))
-event-text (notices.SeqOverflow name) h = write_only (codes "ipsec-sa-name") _ refl (write_text name (utf8_name name (half_octets name h.0)))
+event-text (notices.SeqOverflow name) h =
+    write_only (codes "ipsec-sa-name") _ refl (write_text name (utf8_name name (half_octets name h.0)))
 event-text (notices.BadSpi spi) h = let l = h.1 in write_only (codes "spi") _ refl (write_number spi (omega (arith, l)))
 
 name-ascii : (n : Notice) → are_ascii (event_name n) ≡ true
@@ -67,4 +70,5 @@ notice-text n time t h =
 pub line-octets : (n : Notice) (seconds : ℕ) → IsGoodNotice n → AreOctets (line_text n seconds)
 line-octets n seconds h =
     let d : Data = notice_data n (stamp seconds) in
-    All-append IsOctet (compact_text d) (10 ∷ []) (utf8-octets (compact_text d) (utf8_again d (notice-text n (stamp seconds) (date-text seconds) h))) (word (10 ∷ []) refl)
+    All-append IsOctet (compact_text d) (10 ∷ [])
+    (utf8-octets (compact_text d) (utf8_again d (notice-text n (stamp seconds) (date-text seconds) h))) (word (10 ∷ []) refl)

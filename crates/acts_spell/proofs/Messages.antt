@@ -47,12 +47,15 @@ path-octet b e = grind (arith, nat_tests, e)
 half-path-octets : (name : List ℕ) → is_sad_name name ≡ true → AreOctets (half_path name)
 half-path-octets name h =
     All-append IsOctet (codes "/restconf/data/ietf-i2nsf-ikeless:ipsec-ikeless/sad/sad-entry=") (escaped name)
-    (word (codes "/restconf/data/ietf-i2nsf-ikeless:ipsec-ikeless/sad/sad-entry=") refl) (escaped-octets name (narrow is_path_octet path-octet name (half_octets name h)))
+    (word (codes "/restconf/data/ietf-i2nsf-ikeless:ipsec-ikeless/sad/sad-entry=") refl)
+    (escaped-octets name (narrow is_path_octet path-octet name (half_octets name h)))
 
 host-octets : (a : Addr) → IsAddress a → AreOctets (host_text a)
 host-octets (V4 octets) h = address-octets (V4 octets) h
 host-octets (V6 octets) h =
-    All-append IsOctet (91 ∷ address_text (V6 octets)) (93 ∷ []) (of-each (91 ∷ address_text (V6 octets)) (omega arith, each-of (address_text (V6 octets)) (address-octets (V6 octets) h))) (word (93 ∷ []) refl)
+    All-append IsOctet (91 ∷ address_text (V6 octets)) (93 ∷ [])
+    (of-each (91 ∷ address_text (V6 octets)) (omega arith, each-of (address_text (V6 octets)) (address-octets (V6 octets) h)))
+    (word (93 ∷ []) refl)
 
 method-octets : (o : Order) → AreOctets (order_method o)
 method-octets orders.Read = word (codes "GET") refl
@@ -114,7 +117,8 @@ record IsCarried (r : Outcome) : Type 0 where
   pub body : AreOctets (body_by r.tag r.app r.shown)
 
 refused-body : (tag : Tag) (app : App) → AreOctets (compact_text (error_data app None tag))
-refused-body tag app = utf8-octets (compact_text (error_data app None tag)) (utf8_again (error_data app None tag) (write_error app None tag tt))
+refused-body tag app =
+    utf8-octets (compact_text (error_data app None tag)) (utf8_again (error_data app None tag) (write_error app None tag tt))
 
 either-carried : (b : Bool) (x y : Outcome) → IsCarried x → IsCarried y → IsCarried (if b then x else y)
 either-carried true x y p q = p
@@ -135,7 +139,8 @@ gone-carried t x =
     let b : IsCarried (absent t) = record { location = none; body = refused-body tags.InvalidValue apps.Absent } in
     either-carried (list_any (is_row x) t.sad) _ (absent t) a b
 
-carried : (t : Tree) (o : Order) → AllByRecursion IsGoodRow t.sad → ((e : SadEntry) → o ≡ orders.Put e → is_sad_name e.name ≡ true) → IsCarried (reply t (ask_of o))
+carried : (t : Tree) (o : Order) → AllByRecursion IsGoodRow t.sad → ((e : SadEntry) → o ≡ orders.Put e → is_sad_name e.name ≡ true)
+    → IsCarried (reply t (ask_of o))
 unfolding reply
 carried t orders.Read h n =
     record { location = none; body = utf8-octets (compact_text (all_rows t.sad)) (utf8_again (all_rows t.sad) (write_rows t.sad (All-from_recursion IsTypedRow t.sad (rows-typed t.sad h)) (rows-passed t.sad h))) }
@@ -187,14 +192,16 @@ own-name n =
 
 replied-names : (n : ℕ) (body : List ℕ) → AllByRecursion AreOctets (response_names n body)
 replied-names n body =
-    each-append AreOctets (length_names n ++ type_names body) (own_names n) (each-append AreOctets (length_names n) (type_names body) (length-name n) (type-name body)) (own-name n)
+    each-append AreOctets (length_names n ++ type_names body) (own_names n)
+    (each-append AreOctets (length_names n) (type_names body) (length-name n) (type-name body)) (own-name n)
 
 abbrev HasOctets : List ℕ × List ℕ → Type 0
 HasOctets f = AreOctets f.1
 
 own-fields : (r : Outcome) → IsCarried r → HaveOctets (own_field (reply_of r))
 own-fields r c =
-    each-if HasOctets (r.status == 201) (field (codes "Location") (location_text r.location) ∷ []) (if r.status == 405 then field (codes "Allow") [] ∷ [] else []) (c.location, tt)
+    each-if HasOctets (r.status == 201) (field (codes "Location") (location_text r.location) ∷ [])
+    (if r.status == 405 then field (codes "Allow") [] ∷ [] else []) (c.location, tt)
     (each-if HasOctets (r.status == 405) (field (codes "Allow") [] ∷ []) [] (none, tt) tt)
 
 body-type : (body : List ℕ) → HaveOctets (if_type body)
@@ -213,5 +220,7 @@ carried-octets r c =
     (head-octets (status_line r.status) (messages.response_fields (reply_of r)) (response_names r.status body) (status-octets r.status) (reply-fields r c) (replied-names r.status body))
     c.body
 
-pub response-octets : (t : Tree) (o : Order) → AllByRecursion IsGoodRow t.sad → ((e : SadEntry) → o ≡ orders.Put e → is_sad_name e.name ≡ true) → AreOctets (response_text (reply_message (reply_of (reply t (ask_of o)))))
+pub response-octets : (t : Tree) (o : Order) → AllByRecursion IsGoodRow t.sad
+    → ((e : SadEntry) → o ≡ orders.Put e → is_sad_name e.name ≡ true)
+    → AreOctets (response_text (reply_message (reply_of (reply t (ask_of o)))))
 response-octets t o h n = carried-octets (reply t (ask_of o)) (carried t o h n)

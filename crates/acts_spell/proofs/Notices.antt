@@ -55,29 +55,35 @@ counts-typed g x h = counted (clock h) (installed_at g x h) (last_used g x h) (o
 
 -- ---- what a gateway tells
 
-pub told-spelled : (gs : List Peer) (g : List ℕ) (h : List Act) (n : Notice) → IsKnown gs g → AreSpelled gs h → IsGoodNotice n → AreSpelled gs (tells g h n)
+pub told-spelled : (gs : List Peer) (g : List ℕ) (h : List Act) (n : Notice) → IsKnown gs g → AreSpelled gs h → IsGoodNotice n
+    → AreSpelled gs (tells g h n)
 told-spelled gs g h n k s t = (((k, t.0), (session-small gs g h s, t.1)), tt)
 
 pub unless-spelled : (gs : List Peer) (b : Bool) (xs : List Act) → AreSpelled gs xs → AreSpelled gs (unless b xs)
 unless-spelled gs true xs s = tt
 unless-spelled gs false xs s = s
 
-given-spelled : (gs : List Peer) (g : List ℕ) (t : ℕ) (ns : List Notice) → IsKnown gs g → t < 2 ^ 32 → AllByRecursion IsGoodNotice ns → AreSpelled gs (given_by g t ns)
+given-spelled : (gs : List Peer) (g : List ℕ) (t : ℕ) (ns : List Notice) → IsKnown gs g → t < 2 ^ 32 → AllByRecursion IsGoodNotice ns
+    → AreSpelled gs (given_by g t ns)
 given-spelled gs g t [] k l s = tt
 given-spelled gs g t (n ∷ ns) k l s = (((k, s.0.0), (l, s.0.1)), given-spelled gs g t ns k l s.1)
 
-expiry-good : (name : List ℕ) (c : Limits) (e : LifeEvent) → is_sad_name name ≡ true → IsTypedLimits c → AllByRecursion IsGoodNotice (expiry name c e)
+expiry-good : (name : List ℕ) (c : Limits) (e : LifeEvent) → is_sad_name name ≡ true → IsTypedLimits c
+    → AllByRecursion IsGoodNotice (expiry name c e)
 expiry-good name c told.Nothing n t = tt
 expiry-good name c told.Soft n t = ((n, t), tt)
 expiry-good name c told.Hard n t = ((n, t), tt)
 
-goings-spelled : (gs : List Peer) (g : List ℕ) (h : List Act) (es : List SadEntry) → IsKnown gs g → AllByRecursion IsGoodHalf es → AreSpelled gs (goings g h es)
+goings-spelled : (gs : List Peer) (g : List ℕ) (h : List Act) (es : List SadEntry) → IsKnown gs g → AllByRecursion IsGoodHalf es
+    → AreSpelled gs (goings g h es)
 goings-spelled gs g h [] k s = tt
 goings-spelled gs g h (e ∷ es) k s =
     let more = goings-spelled gs g h es k s.1 in
-    each-if (IsSpelled gs) (is_reached e.hard (counts g e.name h)) (acts.Gone g e.name gone.Hard ∷ goings g h es) (goings g h es) (((k, half-named e s.0.0), tt), more) more
+    each-if (IsSpelled gs) (is_reached e.hard (counts g e.name h)) (acts.Gone g e.name gone.Hard ∷ goings g h es) (goings g h es)
+    (((k, half-named e s.0.0), tt), more) more
 
-expiries-spelled : (gs : List Peer) (g : List ℕ) (h : List Act) (es : List SadEntry) → IsKnown gs g → AreSpelled gs h → AllByRecursion IsGoodHalf es → AreSpelled gs (expiries g h es)
+expiries-spelled : (gs : List Peer) (g : List ℕ) (h : List Act) (es : List SadEntry) → IsKnown gs g → AreSpelled gs h
+    → AllByRecursion IsGoodHalf es → AreSpelled gs (expiries g h es)
 expiries-spelled gs g h [] k p s = tt
 expiries-spelled gs g h (e ∷ es) k p s =
     let ns : List Notice = expiry e.name (counts g e.name h) (event_of g h e) in
@@ -85,5 +91,7 @@ expiries-spelled gs g h (e ∷ es) k p s =
     (given-spelled gs g (session_taken g h) ns k (session-small gs g h p) (expiry-good e.name (counts g e.name h) (event_of g h e) (half-named e s.0.0) (counts-typed g e.name h)))
     (expiries-spelled gs g h es k p s.1)
 
-pub look-spelled : (gs : List Peer) (g : List ℕ) (h : List Act) (es : List SadEntry) → IsKnown gs g → AreSpelled gs h → AllByRecursion IsGoodHalf es → AreSpelled gs (look g h es)
-look-spelled gs g h es k p s = each-append (IsSpelled gs) (goings g h es) (expiries g h es) (goings-spelled gs g h es k s) (expiries-spelled gs g h es k p s)
+pub look-spelled : (gs : List Peer) (g : List ℕ) (h : List Act) (es : List SadEntry) → IsKnown gs g → AreSpelled gs h
+    → AllByRecursion IsGoodHalf es → AreSpelled gs (look g h es)
+look-spelled gs g h es k p s =
+    each-append (IsSpelled gs) (goings g h es) (expiries g h es) (goings-spelled gs g h es k s) (expiries-spelled gs g h es k p s)

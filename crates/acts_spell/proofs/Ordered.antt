@@ -33,7 +33,8 @@ each-filtered P p (x ∷ xs) h = by-test (p x) (each-filtered P p xs h.1) where
 
 -- ---- lists
 
-list-new : (g : ℕ) (c : PlacedCommand) (o : Option (List SpdEntry)) (l : List SpdEntry) → IsSpelledCommand c → (o ≡ Some l → IsGoodList l) → list_if g c o ≡ Some l → IsGoodList l
+list-new : (g : ℕ) (c : PlacedCommand) (o : Option (List SpdEntry)) (l : List SpdEntry) → IsSpelledCommand c → (o ≡ Some l → IsGoodList l)
+    → list_if g c o ≡ Some l → IsGoodList l
 list-new g (SetPolicy f q) o l k r e = at (g == f) e
   where
     at : (b : Bool) → (if b then Some q else o) ≡ Some l → IsGoodList l
@@ -62,7 +63,8 @@ pub record IsGoodWay (d : Way) : Type 0 where
   pub far : IsAddress d.far.addr
 
 new-good : (n : ℕ) (c : PlacedCommand) → IsSpelledCommand c → AllByRecursion IsGoodWay (new_ways n c)
-new-good n (Tunnel t) k = (record { tunnel = k; near = k.first_prefix; far = k.second_prefix }, (record { tunnel = k; near = k.second_prefix; far = k.first_prefix }, tt))
+new-good n (Tunnel t) k =
+    (record { tunnel = k; near = k.first_prefix; far = k.second_prefix }, (record { tunnel = k; near = k.second_prefix; far = k.first_prefix }, tt))
 new-good n (SetPolicy g l) k = tt
 new-good n (End r) k = tt
 new-good n (Rekey r) k = tt
@@ -70,7 +72,8 @@ new-good n (Keys q) k = tt
 
 ways-good : (h : List ControllerAct) → AreSpelledCommands h → AllByRecursion IsGoodWay (directions h)
 ways-good [] k = tt
-ways-good (Accepted c ∷ h) k = each-append IsGoodWay (directions h) (new_ways (length (directions h)) c) (ways-good h k.1) (new-good (length (directions h)) c k.0)
+ways-good (Accepted c ∷ h) k =
+    each-append IsGoodWay (directions h) (new_ways (length (directions h)) c) (ways-good h k.1) (new-good (length (directions h)) c k.0)
 ways-good (Opened f s ∷ h) k = ways-good h k
 ways-good (Cut f s ∷ h) k = ways-good h k
 ways-good (Answered f s n a ∷ h) k = ways-good h k
@@ -115,9 +118,11 @@ pub record IsGoodAssociation (x : Association) : Type 0 where
   pub key : AreOctets x.key
 
 put-good : (h : List ControllerAct) (g : ℕ) (x : Association) → AreSpelledCommands h → MayOrder h g (PutIn x) → IsGoodAssociation x
-put-good h g x k m = record { way = each-has IsGoodWay x.way (directions h) (ways-good h k) m.of; key = next-good (spare h) x.key (spare-good h k) m.key }
+put-good h g x k m =
+    record { way = each-has IsGoodWay x.way (directions h) (ways-good h k) m.of; key = next-good (spare h) x.key (spare-good h k) m.key }
 
-inbound-good : (h : List ControllerAct) (g : ℕ) (d : Way) (o : ControllerOrder) → AreSpelledCommands h → MayOrder h g o → AllByRecursion IsGoodAssociation (inbound_put d o)
+inbound-good : (h : List ControllerAct) (g : ℕ) (d : Way) (o : ControllerOrder) → AreSpelledCommands h → MayOrder h g o
+    → AllByRecursion IsGoodAssociation (inbound_put d o)
 inbound-good h g d (PutIn x) k m = each-if IsGoodAssociation (d.id == x.way.id) (x ∷ []) [] (put-good h g x k m, tt) tt
 inbound-good h g d Read k m = tt
 inbound-good h g d (Policy l) k m = tt
@@ -125,15 +130,18 @@ inbound-good h g d (PutOut x) k m = tt
 inbound-good h g d (RemoveIn n) k m = tt
 inbound-good h g d (RemoveOut n) k m = tt
 
-pub left-good : (p : ℕ) (h : List ControllerAct) → IsControllerPast p h → AreSpelledCommands h → (d : Way) → AllByRecursion IsGoodAssociation (left d h)
+pub left-good : (p : ℕ) (h : List ControllerAct) → IsControllerPast p h → AreSpelledCommands h → (d : Way)
+    → AllByRecursion IsGoodAssociation (left d h)
 left-good p [] l k d = tt
-left-good p (Accepted c ∷ h) l k d = each-if IsGoodAssociation (is_made_by c (length (directions h)) d) [] (left d h) tt (left-good p h l.1 k.1 d)
+left-good p (Accepted c ∷ h) l k d =
+    each-if IsGoodAssociation (is_made_by c (length (directions h)) d) [] (left d h) tt (left-good p h l.1 k.1 d)
 left-good p (Opened f s ∷ h) l k d = left-good p h l.1 k d
 left-good p (Cut f s ∷ h) l k d = left-good p h l.1 k d
 left-good p (Answered f s n a ∷ h) l k d =
     each-filtered IsGoodAssociation (λ x. not (is_answer_to RemovingIn x.serial (oldest (queue f h)))) (left d h) (left-good p h l.1 k d)
 left-good p (Heard f s t ∷ h) l k d = left-good p h l.1 k d
-left-good p (Ordered f s n o ∷ h) l k d = each-append IsGoodAssociation (left d h) (inbound_put d o) (left-good p h l.1 k d) (inbound-good h f d o k l.0.3)
+left-good p (Ordered f s n o ∷ h) l k d =
+    each-append IsGoodAssociation (left d h) (inbound_put d o) (left-good p h l.1 k d) (inbound-good h f d o k l.0.3)
 left-good p (Refused w ∷ h) l k d = left-good p h l.1 k d
 
 -- ---- entries
@@ -155,12 +163,14 @@ address-good (p ∷ ps) g h = address-if (g == 0) p.address (peer_address ps (g 
 fits-32 : (n : ℕ) → n ≤ 1048832 → n < 2 ^ 32
 fits-32 n l = omega (arith, l)
 
-in-typed : (ps : List Peer) (x : Association) → AreAddressed ps → IsGoodAssociation x → (in_entry ps x).spi ≤ 1048832 → IsTypedHalf (in_entry ps x)
+in-typed : (ps : List Peer) (x : Association) → AreAddressed ps → IsGoodAssociation x → (in_entry ps x).spi ≤ 1048832
+    → IsTypedHalf (in_entry ps x)
 in-typed ps x a g l = record {
   reqid = g.way.tunnel.reqid;
   spi = fits-32 (in_entry ps x).spi l;
   window = g.way.tunnel.window;
-  selector = record { local = g.way.far; remote = g.way.near; proto = tt; local_ports = All-nil IsTypedRange; remote_ports = All-nil IsTypedRange };
+  selector =
+      record { local = g.way.far; remote = g.way.near; proto = tt; local_ports = All-nil IsTypedRange; remote_ports = All-nil IsTypedRange };
   key = g.key;
   local = address-good ps x.way.receiver a;
   remote = address-good ps x.way.sender a;
@@ -168,12 +178,14 @@ in-typed ps x a g l = record {
   soft = g.way.tunnel.soft;
 }
 
-out-typed : (ps : List Peer) (x : Association) → AreAddressed ps → IsGoodAssociation x → (out_entry ps x).spi ≤ 1048832 → IsTypedHalf (out_entry ps x)
+out-typed : (ps : List Peer) (x : Association) → AreAddressed ps → IsGoodAssociation x → (out_entry ps x).spi ≤ 1048832
+    → IsTypedHalf (out_entry ps x)
 out-typed ps x a g l = record {
   reqid = g.way.tunnel.reqid;
   spi = fits-32 (out_entry ps x).spi l;
   window = g.way.tunnel.window;
-  selector = record { local = g.way.near; remote = g.way.far; proto = tt; local_ports = All-nil IsTypedRange; remote_ports = All-nil IsTypedRange };
+  selector =
+      record { local = g.way.near; remote = g.way.far; proto = tt; local_ports = All-nil IsTypedRange; remote_ports = All-nil IsTypedRange };
   key = g.key;
   local = address-good ps x.way.sender a;
   remote = address-good ps x.way.receiver a;
@@ -188,7 +200,8 @@ pub record ArePeers (ps : List Peer) : Type 0 where
   pub addressed : AreAddressed ps
   pub family : OneFamily ps
 
-pub order-good : (ps : List Peer) (g s n : ℕ) (o : ControllerOrder) (h : List ControllerAct) → ArePeers ps → IsControllerPast (length ps) (Ordered g s n o ∷ h) → SoundCommands h → AreSpelledCommands h
+pub order-good : (ps : List Peer) (g s n : ℕ) (o : ControllerOrder) (h : List ControllerAct) → ArePeers ps
+    → IsControllerPast (length ps) (Ordered g s n o ∷ h) → SoundCommands h → AreSpelledCommands h
     → IsGoodOrder (order_told ps o)
 order-good ps g s n Read h a l c k = (tt, tt)
 order-good ps g s n (Policy list) h a l c k = list-good g list h k l.0.3.0
@@ -203,7 +216,8 @@ order-good ps g s n (RemoveIn m) h a l c k = (in-removed-name (length ps) (Order
 order-good ps g s n (RemoveOut m) h a l c k = (out-removed-name (length ps) (Ordered g s n (RemoveOut m) ∷ h) l g m (inl (refl, refl)), tt)
 
 -- the addresses of a header's gateways are of one family
-pub one-family : (ps : List Peer) → ((f g : ℕ) → f < length ps → g < length ps → AreOneFamily (peer_address ps f) (peer_address ps g)) → OneFamily ps
+pub one-family : (ps : List Peer) → ((f g : ℕ) → f < length ps → g < length ps → AreOneFamily (peer_address ps f) (peer_address ps g))
+    → OneFamily ps
 one-family ps h = λ f g i j. same (peer_address ps f) (peer_address ps g) (h f g i j) where
   same : (a b : Addr) → AreOneFamily a b → is_one_family a b ≡ true
   same (V4 a) (V4 b) p = refl

@@ -47,7 +47,8 @@ ports-if true p h = h
 ports-if false p h = tt
 
 ports-typed : (proto : ℕ) (o : List ℕ) → AreOctets o → ArePorts (ports_of proto o)
-ports-typed proto o h = ports-if (has_ports proto && not (nat_lt (length o) 4)) (number_at o 0, number_at o 2) (number-small o 0 h, number-small o 2 h)
+ports-typed proto o h =
+    ports-if (has_ports proto && not (nat_lt (length o) 4)) (number_at o 0, number_at o 2) (number-small o 0 h, number-small o 2 h)
 
 piece : (n i : ℕ) (o : List ℕ) → n + i ≤ length o → length (take n (drop i o)) ≡ n
 piece n i o h = let d = length-drop i o in length-take-le n (drop i o) (omega (arith, d, h))
@@ -68,7 +69,8 @@ typed-4 o h l = record {
   payload = All-drop IsOctet (header_length o) o h;
 }
 
-typed-6 : (o : List ℕ) (proto : ℕ) (payload : List ℕ) → AreOctets o → 40 ≤ length o → proto < 256 → AreOctets payload → IsTypedView (packet_6 o proto payload)
+typed-6 : (o : List ℕ) (proto : ℕ) (payload : List ℕ) → AreOctets o → 40 ≤ length o → proto < 256 → AreOctets payload
+    → IsTypedView (packet_6 o proto payload)
 typed-6 o proto payload h l p q = record {
   src = address-6 8 o h (omega (arith, l));
   dst = address-6 24 o h (omega (arith, l));
@@ -79,7 +81,8 @@ typed-6 o proto payload h l p q = record {
 }
 
 -- past a fault that isn't there
-no-fault : {A : Type 0} (b : Bool) (e : NotPacket) (r : Result A NotPacket) (v : A) → (if b then Err e else r) ≡ Ok v → (b ≡ false) × (r ≡ Ok v)
+no-fault : {A : Type 0} (b : Bool) (e : NotPacket) (r : Result A NotPacket) (v : A) → (if b then Err e else r) ≡ Ok v
+    → (b ≡ false) × (r ≡ Ok v)
 no-fault true e r v is = cc
 no-fault false e r v is = (refl, is)
 
@@ -97,14 +100,17 @@ by-4 o v h l is =
 abbrev IsUpper : ℕ × List ℕ → Type 0
 IsUpper u = (u.0 < 256) × AreOctets u.1
 
-upper-if : (b : Bool) (u : ℕ × List ℕ) (r : Result (ℕ × List ℕ) NotPacket) (x : ℕ × List ℕ) → IsUpper x → (r ≡ Ok u → IsUpper u) → (if b then r else Ok x) ≡ Ok u → IsUpper u
+upper-if : (b : Bool) (u : ℕ × List ℕ) (r : Result (ℕ × List ℕ) NotPacket) (x : ℕ × List ℕ) → IsUpper x → (r ≡ Ok u → IsUpper u)
+    → (if b then r else Ok x) ≡ Ok u → IsUpper u
 upper-if true u r x p q e = q e
 upper-if false u r x p q e = subst IsUpper (ok-is x u e) p
 
-step-upper : (next : ℕ) (o : List ℕ) (r : Result (ℕ × List ℕ) NotPacket) (u : ℕ × List ℕ) → next < 256 → AreOctets o → (r ≡ Ok u → IsUpper u) → upper_step next o r ≡ Ok u → IsUpper u
+step-upper : (next : ℕ) (o : List ℕ) (r : Result (ℕ × List ℕ) NotPacket) (u : ℕ × List ℕ) → next < 256 → AreOctets o
+    → (r ≡ Ok u → IsUpper u) → upper_step next o r ≡ Ok u → IsUpper u
 step-upper next o r u l h f e =
     let a = no-fault (next == 44) faults.Fragment _ u e in
-    upper-if (is_extension next) u (if passes_end o then Err faults.Length else r) (next, o) (l, h) (λ q. f (no-fault (passes_end o) faults.Length r u q).1) a.1
+    upper-if (is_extension next) u (if passes_end o then Err faults.Length else r) (next, o) (l, h)
+    (λ q. f (no-fault (passes_end o) faults.Length r u q).1) a.1
 
 within-upper : (n next : ℕ) (o : List ℕ) (u : ℕ × List ℕ) → next < 256 → AreOctets o → upper_within n next o ≡ Ok u → IsUpper u
 within-upper zero next o u l h e = step-upper next o (Err faults.Length) u l h (λ q. cc) e
@@ -116,14 +122,16 @@ upper-typed : (next : ℕ) (o : List ℕ) (u : ℕ × List ℕ) → next < 256 �
 unfolding upper_of
 upper-typed next o u l h e = within-upper (length o) next o u l h e
 
-by-upper : (o : List ℕ) (v : Packet) (r : Result (ℕ × List ℕ) NotPacket) → AreOctets o → 40 ≤ length o → ((u : ℕ × List ℕ) → r ≡ Ok u → IsUpper u) → by_upper o r ≡ Ok v → IsTypedView v
+by-upper : (o : List ℕ) (v : Packet) (r : Result (ℕ × List ℕ) NotPacket) → AreOctets o → 40 ≤ length o
+    → ((u : ℕ × List ℕ) → r ≡ Ok u → IsUpper u) → by_upper o r ≡ Ok v → IsTypedView v
 by-upper o v (Ok u) h l f e = let t = f u refl in subst IsTypedView (ok-is (packet_6 o u.0 u.1) v e) (typed-6 o u.0 u.1 h l t.0 t.1)
 by-upper o v (Err fault) h l f e = cc
 
 by-6 : (o : List ℕ) (v : Packet) → AreOctets o → 40 ≤ length o → view_of_6 o ≡ Ok v → IsTypedView v
 by-6 o v h l is =
     let a = no-fault (is_payload_wrong o) faults.Length _ v is in
-    by-upper o v (upper_of (slice_index o 6) (drop 40 o)) h l (λ u e. upper-typed (slice_index o 6) (drop 40 o) u (octet-at o 6 h) (All-drop IsOctet 40 o h) e) a.1
+    by-upper o v (upper_of (slice_index o 6) (drop 40 o)) h l
+    (λ u e. upper-typed (slice_index o 6) (drop 40 o) u (octet-at o 6 h) (All-drop IsOctet 40 o h) e) a.1
 
 long-4 : (n : ℕ) (a c : Bool) → ((n == 0) || (true && nat_lt n 20) || (a && c)) ≡ false → 20 ≤ n
 long-4 n a c e = grind (arith, nat_tests, e)
@@ -134,9 +142,11 @@ long-6 n a b e = grind (arith, nat_tests, e)
 by-version : (o : List ℕ) (v : Packet) (four six : Bool) → version o == 4 ≡ four → version o == 6 ≡ six → AreOctets o → is_short o ≡ false
     → (if four then view_of_4 o else if six then view_of_6 o else Err faults.Version) ≡ Ok v → IsTypedView v
 by-version o v true six p q h s e =
-    by-4 o v h (long-4 (length o) (version o == 6) (nat_lt (length o) 40) (subst (λ (z : Bool). ((length o == 0) || (z && nat_lt (length o) 20) || ((version o == 6) && nat_lt (length o) 40)) ≡ false) p s)) e
+    by-4 o v h
+    (long-4 (length o) (version o == 6) (nat_lt (length o) 40) (subst (λ (z : Bool). ((length o == 0) || (z && nat_lt (length o) 20) || ((version o == 6) && nat_lt (length o) 40)) ≡ false) p s)) e
 by-version o v false true p q h s e =
-    by-6 o v h (long-6 (length o) (version o == 4) (nat_lt (length o) 20) (subst (λ (z : Bool). ((length o == 0) || ((version o == 4) && nat_lt (length o) 20) || (z && nat_lt (length o) 40)) ≡ false) q s)) e
+    by-6 o v h
+    (long-6 (length o) (version o == 4) (nat_lt (length o) 20) (subst (λ (z : Bool). ((length o == 0) || ((version o == 4) && nat_lt (length o) 20) || (z && nat_lt (length o) 40)) ≡ false) q s)) e
 by-version o v false false p q h s e = cc
 
 pub view-typed : (o : List ℕ) (v : Packet) → AreOctets o → view_of o ≡ Ok v → IsTypedView v
@@ -158,7 +168,8 @@ ttl-4 ttl o l h =
     let bare = numbered (slice_set o 8 ttl) 10 0 (omega arith) (set-octets o 8 ttl l h) in
     numbered (without_sum ttl o) 10 (sum_for (take (header_length o) (without_sum ttl o))) (omega arith) bare
 
-ttl-if : (b c : Bool) (ttl : ℕ) (o : List ℕ) → ttl < 256 → AreOctets o → AreOctets (if b then (if c then with_ttl_4 ttl o else slice_set o 7 ttl) else o)
+ttl-if : (b c : Bool) (ttl : ℕ) (o : List ℕ) → ttl < 256 → AreOctets o
+    → AreOctets (if b then (if c then with_ttl_4 ttl o else slice_set o 7 ttl) else o)
 ttl-if true true ttl o l h = ttl-4 ttl o l h
 ttl-if true false ttl o l h = set-octets o 7 ttl l h
 ttl-if false c ttl o l h = h
@@ -257,7 +268,8 @@ header-octets-6 : (o : Outer) (a : List ℕ) → IsNearby o → AreOctets a → 
 header-octets-6 o a n h =
     let front : List ℕ = 96 ∷ 0 ∷ 0 ∷ 0 ∷ (o.payload / 256) ∷ (o.payload % 256) ∷ 50 ∷ 64 ∷ [] in
     let p = n.0 in
-    All-append IsOctet front a (of-each front (omega arith, (omega arith, (omega arith, (omega arith, (omega (arith, p), (omega arith, (omega arith, (omega arith, tt))))))))) h
+    All-append IsOctet front a
+    (of-each front (omega arith, (omega arith, (omega arith, (omega arith, (omega (arith, p), (omega arith, (omega arith, (omega arith, tt))))))))) h
 
 between-octets : (o : Outer) (a b : Addr) → IsNearby o → IsAddress a → IsAddress b → AreOctets (header_between o a b)
 between-octets o (V4 a) (V4 b) n p q = header-octets-4 o (a ++ b) n (All-append IsOctet a b p.1 q.1)
@@ -270,8 +282,10 @@ unfolding outer_header
 header-octets o n p q = between-octets o o.src o.dst n p q
 
 pub datagram-octets : (e : SadEntry) (n : ℕ) (v : Packet) (o : List ℕ) → IsAddress e.local → IsAddress e.remote
-    → length (esp (keying e.spi e.key) n (next_header o) o) < 65500 → AreOctets (esp (keying e.spi e.key) n (next_header o) o) → AreOctets (datagram e n v o)
+    → length (esp (keying e.spi e.key) n (next_header o) o) < 65500 → AreOctets (esp (keying e.spi e.key) n (next_header o) o)
+    → AreOctets (datagram e n v o)
 unfolding datagram
 datagram-octets e n v o p q l h =
     let b : List ℕ = esp (keying e.spi e.key) n (next_header o) o in
-    All-append IsOctet (outer_header (outer_of e n v (length b))) b (header-octets (outer_of e n v (length b)) (omega (arith, l), omega arith) p q) h
+    All-append IsOctet (outer_header (outer_of e n v (length b))) b
+    (header-octets (outer_of e n v (length b)) (omega (arith, l), omega arith) p q) h

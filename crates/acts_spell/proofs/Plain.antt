@@ -38,7 +38,8 @@ is_fine n = (n == 201) || nat_le 400 n
 
 -- ---- the reply to a put
 
-either-fine : (b : Bool) (x y : Outcome) → is_fine x.status ≡ true → is_fine y.status ≡ true → (let z : Outcome = if b then x else y in is_fine z.status ≡ true)
+either-fine : (b : Bool) (x y : Outcome) → is_fine x.status ≡ true → is_fine y.status ≡ true
+    → (let z : Outcome = if b then x else y in is_fine z.status ≡ true)
 either-fine true x y p q = p
 either-fine false x y p q = q
 
@@ -59,7 +60,8 @@ AllFine [] = Unit {0}
 AllFine (acts.Handled g s k a ∷ h) = IsFineAt g s k a h × AllFine h
 AllFine (_ ∷ h) = AllFine h
 
-one-fine : (g : List ℕ) (s k : ℕ) (a : Answer) (h : List happened.Act.Act) (o : tree.Order.Order) → s ≡ session_taken g h → k ≡ handled g s h + 1 → next_request g h ≡ Some o → a ≡ answer_of (outcome_at g h o) → IsFineAt g s k a h
+one-fine : (g : List ℕ) (s k : ℕ) (a : Answer) (h : List happened.Act.Act) (o : tree.Order.Order) → s ≡ session_taken g h
+    → k ≡ handled g s h + 1 → next_request g h ≡ Some o → a ≡ answer_of (outcome_at g h o) → IsFineAt g s k a h
 one-fine g s k a h o is count next says = λ e q.
     let same : o ≡ asks.Put e = some-is o (asks.Put e) (sym (next-at g s k o h is count next) ∙ q) in
     let status : a.status ≡ (outcome_at g h (asks.Put e)).status = ap (λ (z : Answer). z.status) says ∙ ap (λ (z : tree.Order.Order). (outcome_at g h z).status) same in
@@ -70,23 +72,27 @@ all-fine gs [] l r = tt
 all-fine gs (acts.Handled g s k a ∷ h) l r = (one-fine g s k a h r.0.0 l.0.0 l.0.1 r.0.1 r.0.2, all-fine gs h l.1 r.1)
 all-fine gs (a ∷ h) l r = all-fine gs h l.1 r.1
 
-fine-at : (g f : List ℕ) (s k t j : ℕ) (r a : Answer) (h : List happened.Act.Act) → (f ≡ g) × (t ≡ s) × (j ≡ k) → a ≡ r → IsFineAt f t j a h → IsFineAt g s k r h
+fine-at : (g f : List ℕ) (s k t j : ℕ) (r a : Answer) (h : List happened.Act.Act) → (f ≡ g) × (t ≡ s) × (j ≡ k) → a ≡ r → IsFineAt f t j a h
+    → IsFineAt g s k r h
 fine-at g f s k t j r a h p q m = λ e o. ap (λ (z : Answer). is_fine z.status) (sym q) ∙ m e (rw (p.0, p.1, p.2) o)
 
 -- the answer that is told of a put was given with it
-told-fine : (gs : List Peer) (g : List ℕ) (s k : ℕ) (r : Answer) (h : List happened.Act.Act) → IsLawful gs h → AllFine h → answer_at g s k h ≡ Some r → IsFineAt g s k r h
+told-fine : (gs : List Peer) (g : List ℕ) (s k : ℕ) (r : Answer) (h : List happened.Act.Act) → IsLawful gs h → AllFine h
+    → answer_at g s k h ≡ Some r → IsFineAt g s k r h
 told-fine gs g s k r [] l m p = cc
 told-fine gs g s k r (acts.Handled f t j a ∷ h) l m p =
     elim (if-cases (is_session f t g s && (j == k)) a r (answer_at g s k h) p) as (λ z. IsFineAt g s k r h) [
       | inl w ↦ fine-at g f s k t j r a h (spot-is f t j g s k w.0) w.1 m.0
       | inr w ↦ told-fine gs g s k r h l.1 m.1 w
     ]
-told-fine gs g s k r (acts.Order f t j o ∷ h) l m p = λ e q. told-fine gs g s k r h l.1 m p e (told-order gs g s k f t j o (asks.Put e) r h l.1 l.0.3 p q)
+told-fine gs g s k r (acts.Order f t j o ∷ h) l m p =
+    λ e q. told-fine gs g s k r h l.1 m p e (told-order gs g s k f t j o (asks.Put e) r h l.1 l.0.3 p q)
 told-fine gs g s k r (a ∷ h) l m p = told-fine gs g s k r h l.1 m p
 
 -- ---- what the controller hears
 
-plain-one : (ps : List Peer) (o : Option ControllerOrder) (n : ℕ) → ((e : SadEntry) → option_map (order_told ps) o ≡ Some (asks.Put e) → is_fine n ≡ true) → is_plain o n ≡ true
+plain-one : (ps : List Peer) (o : Option ControllerOrder) (n : ℕ)
+    → ((e : SadEntry) → option_map (order_told ps) o ≡ Some (asks.Put e) → is_fine n ≡ true) → is_plain o n ≡ true
 plain-one ps None n m = refl
 plain-one ps (Some Read) n m = refl
 plain-one ps (Some (Policy list)) n m = refl
@@ -99,7 +105,8 @@ given-at : (b : Bool) (o : Option Answer) (a : Answer) → (if b then o else Non
 given-at true o a e = e
 given-at false o a e = cc
 
-pub next-plain : (ps : List Peer) (w : List happened.Act.Act) (c : List ControllerAct) (g : ℕ) (a : Answer) → IsLawful ps w → AllReplied w → Meet ps w c → Named ps → g < length ps
+pub next-plain : (ps : List Peer) (w : List happened.Act.Act) (c : List ControllerAct) (g : ℕ) (a : Answer) → IsLawful ps w → AllReplied w
+    → Meet ps w c → Named ps → g < length ps
     → next_answer (peer_name ps g) w ≡ Some a → is_plain (oldest (queue g c)) a.status ≡ true
 next-plain ps w c g a l r m names i next = by-queue (queue g c) refl where
   by-queue : (q : List ControllerOrder) → queue g c ≡ q → is_plain (oldest (queue g c)) a.status ≡ true

@@ -39,7 +39,8 @@ sent-if : (b : Bool) (n : ℕ) → n < 2 ^ 64 → (b ≡ true → n + 1 < 2 ^ 64
 sent-if true n l f = f refl
 sent-if false n l f = l
 
-sent-here : (f y g x : List ℕ) (n : ℕ) (h : List Act) → (n ≡ sent f y h + 1) × (n < 2 ^ 32) → is_half f y g x ≡ true → sent g x h + 1 < 2 ^ 64
+sent-here : (f y g x : List ℕ) (n : ℕ) (h : List Act) → (n ≡ sent f y h + 1) × (n < 2 ^ 32) → is_half f y g x ≡ true
+    → sent g x h + 1 < 2 ^ 64
 sent-here f y g x n h s e =
     let p = half-is f y g x e in
     let same : sent f y h ≡ sent g x h = ap (λ (z : List ℕ). sent z y h) p.0 ∙ ap (λ (z : List ℕ). sent g z h) p.1 in
@@ -49,7 +50,8 @@ sent-here f y g x n h s e =
 sent-wide : (gs : List Peer) (g x : List ℕ) (h : List Act) → IsLawful gs h → sent g x h < 2 ^ 64
 sent-wide gs g x [] l = omega arith
 sent-wide gs g x (acts.Put f e ∷ h) l = either-has IsWide (is_half f e.name g x) 0 (sent g x h) (omega arith) (sent-wide gs g x h l.1)
-sent-wide gs g x (acts.Sent f y n o ∷ h) l = sent-if (is_half f y g x) (sent g x h) (sent-wide gs g x h l.1) (sent-here f y g x n h (next-sent f y n o h l.0))
+sent-wide gs g x (acts.Sent f y n o ∷ h) l =
+    sent-if (is_half f y g x) (sent g x h) (sent-wide gs g x h l.1) (sent-here f y g x n h (next-sent f y n o h l.0))
 sent-wide gs g x (a ∷ h) l = sent-wide gs g x h l.1
 
 -- ---- what was taken
@@ -76,7 +78,8 @@ number-wide x b top (Some e) h = wide-if (bytes_eq e.name x) (Some (number_from 
 arrival-wide : (gs : List Peer) (g x numbers : List ℕ) (h : List Act) → AreSpelled gs h → IsWideIf (arrival_number g x numbers h)
 arrival-wide gs g x numbers [] s = tt
 arrival-wide gs g x numbers (acts.Arrived f o ∷ h) s =
-    wide-if (bytes_eq f g) (number_for x (greatest numbers) (live g h) (esp_of o)) (number-wide x (esp_of o) (greatest numbers) (by_spi (spi_of (esp_of o)) (live g h)) (esp-part o s.0.1))
+    wide-if (bytes_eq f g) (number_for x (greatest numbers) (live g h) (esp_of o))
+    (number-wide x (esp_of o) (greatest numbers) (by_spi (spi_of (esp_of o)) (live g h)) (esp-part o s.0.1))
 arrival-wide gs g x numbers (a ∷ h) s = tt
 
 with-wide : (numbers : List ℕ) (o : Option ℕ) → AllByRecursion IsWide numbers → IsWideIf o → AllByRecursion IsWide (with_number numbers o)
@@ -87,10 +90,12 @@ taken-wide : (gs : List Peer) (g x : List ℕ) (h : List Act) → AreSpelled gs 
 taken-wide gs g x [] s = tt
 taken-wide gs g x (acts.Put f e ∷ h) s = each-if IsWide (is_half f e.name g x) [] (numbers_taken g x h) tt (taken-wide gs g x h s.1)
 taken-wide gs g x (acts.Gave f y n o ∷ h) s =
-    let more = taken-wide gs g x h s.1 in each-if IsWide (is_half f y g x) (numbers_taken g x h ++ n ∷ []) (numbers_taken g x h) (each-append IsWide (numbers_taken g x h) (n ∷ []) more (s.0.1.0, tt)) more
+    let more = taken-wide gs g x h s.1 in
+    each-if IsWide (is_half f y g x) (numbers_taken g x h ++ n ∷ []) (numbers_taken g x h) (each-append IsWide (numbers_taken g x h) (n ∷ []) more (s.0.1.0, tt)) more
 taken-wide gs g x (acts.Drop f w ∷ h) s =
     let more = taken-wide gs g x h s.1 in
-    each-if IsWide (bytes_eq f g && is_opened w) (with_number (numbers_taken g x h) (arrival_number g x (numbers_taken g x h) h)) (numbers_taken g x h)
+    each-if IsWide (bytes_eq f g && is_opened w) (with_number (numbers_taken g x h) (arrival_number g x (numbers_taken g x h) h))
+    (numbers_taken g x h)
     (with-wide (numbers_taken g x h) (arrival_number g x (numbers_taken g x h) h) more (arrival-wide gs g x (numbers_taken g x h) h s.1)) more
 taken-wide gs g x (a ∷ h) s = taken-wide gs g x h s.1
 
@@ -103,12 +108,14 @@ greatest-wide (n ∷ ns) h = greater (greatest ns) n (greatest-wide ns h.1) h.0
 
 -- ---- rows
 
-row-good : (gs : List Peer) (g : List ℕ) (h : List Act) (e : SadEntry) → IsLawful gs h → AreSpelled gs h → IsGoodHalf e → IsGoodRow (row_of g h e)
+row-good : (gs : List Peer) (g : List ℕ) (h : List Act) (e : SadEntry) → IsLawful gs h → AreSpelled gs h → IsGoodHalf e
+    → IsGoodRow (row_of g h e)
 row-good gs g h e l s good =
     let top = either-has IsWide (is_inbound e.name) (greatest (numbers_taken g e.name h)) (sent g e.name h) (greatest-wide (numbers_taken g e.name h) (taken-wide gs g e.name h s)) (sent-wide gs g e.name h l) in
     (good.0, record { entry = good.1; state = record { current = counts-typed g e.name h; top = top } })
 
-rows-good : (gs : List Peer) (g : List ℕ) (h : List Act) (es : List SadEntry) → IsLawful gs h → AreSpelled gs h → AllByRecursion IsGoodHalf es → AllByRecursion IsGoodRow (map (row_of g h) es)
+rows-good : (gs : List Peer) (g : List ℕ) (h : List Act) (es : List SadEntry) → IsLawful gs h → AreSpelled gs h
+    → AllByRecursion IsGoodHalf es → AllByRecursion IsGoodRow (map (row_of g h) es)
 rows-good gs g h [] l s good = tt
 rows-good gs g h (e ∷ es) l s good = (row-good gs g h e l s good.0, rows-good gs g h es l s good.1)
 

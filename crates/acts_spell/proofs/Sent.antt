@@ -34,7 +34,8 @@ bit-octet (suc (suc (suc (suc (suc (suc (suc (suc n)))))))) x b l = absurd (omeg
 flipped-each : (offset bit : ℕ) (o : List ℕ) → bit ≤ 7 → AllByRecursion IsOctet o → AllByRecursion IsOctet (flipped offset bit o)
 flipped-each offset bit [] b h = tt
 flipped-each offset bit (x ∷ xs) b h =
-    each-if IsOctet (offset == 0) (with_bit bit x ∷ xs) (x ∷ flipped (offset - 1) bit xs) (bit-octet bit x b h.0, h.1) (h.0, flipped-each (offset - 1) bit xs b h.1)
+    each-if IsOctet (offset == 0) (with_bit bit x ∷ xs) (x ∷ flipped (offset - 1) bit xs) (bit-octet bit x b h.0, h.1)
+    (h.0, flipped-each (offset - 1) bit xs b h.1)
 
 pub flipped-octets : (offset bit : ℕ) (o : List ℕ) → bit ≤ 7 → AreOctets o → AreOctets (flipped offset bit o)
 flipped-octets offset bit o b h = of-each (flipped offset bit o) (flipped-each offset bit o b (each-of o h))

@@ -52,11 +52,13 @@ two c l = (omega (arith, l), (omega arith, tt))
 three : (c : ℕ) → c < 65536 → AllByRecursion IsOctet ((224 + c / 4096) ∷ (128 + c / 64 % 64) ∷ (128 + c % 64) ∷ [])
 three c l = (omega (arith, l), (omega arith, (omega arith, tt)))
 
-four : (c : ℕ) → c < 1114112 → AllByRecursion IsOctet ((240 + c / 262144) ∷ (128 + c / 4096 % 64) ∷ (128 + c / 64 % 64) ∷ (128 + c % 64) ∷ [])
+four : (c : ℕ) → c < 1114112
+    → AllByRecursion IsOctet ((240 + c / 262144) ∷ (128 + c / 4096 % 64) ∷ (128 + c / 64 % 64) ∷ (128 + c % 64) ∷ [])
 four c l = (omega (arith, l), (omega arith, (omega arith, (omega arith, tt))))
 
 by-size : (c : ℕ) → c < 1114112 → (x y z : Bool) → nat_lt c 128 ≡ x → nat_lt c 2048 ≡ y → nat_lt c 65536 ≡ z
-    → AllByRecursion IsOctet (cond x (c ∷ []) (cond y ((192 + c / 64) ∷ (128 + c % 64) ∷ []) (cond z ((224 + c / 4096) ∷ (128 + c / 64 % 64) ∷ (128 + c % 64) ∷ [])
+    → AllByRecursion IsOctet
+    (cond x (c ∷ []) (cond y ((192 + c / 64) ∷ (128 + c % 64) ∷ []) (cond z ((224 + c / 4096) ∷ (128 + c / 64 % 64) ∷ (128 + c % 64) ∷ [])
     ((240 + c / 262144) ∷ (128 + c / 4096 % 64) ∷ (128 + c / 64 % 64) ∷ (128 + c % 64) ∷ []))))
 by-size c l true y z p q r = (grind (arith, nat_tests, p), tt)
 by-size c l false true z p q r = two c (grind (arith, nat_tests, q))
@@ -72,7 +74,8 @@ encoded c e = by-size c (in-range c e) (nat_lt c 128) (nat_lt c 2048) (nat_lt c 
 
 all-encoded : (cs : List ℕ) → scalars cs ≡ true → AllByRecursion IsOctet (encodes cs)
 all-encoded [] e = tt
-all-encoded (c ∷ cs) e = let p = and_parts (scalar c) (scalars cs) e in each-append IsOctet (encode c) (encodes cs) (encoded c p.0) (all-encoded cs p.1)
+all-encoded (c ∷ cs) e =
+    let p = and_parts (scalar c) (scalars cs) e in each-append IsOctet (encode c) (encodes cs) (encoded c p.0) (all-encoded cs p.1)
 
 pub utf8-octets : (text : List ℕ) → IsUtf8 text → AreOctets text
 utf8-octets text h = subst AreOctets h.1.1 (of-each (encodes h.0) (all-encoded h.0 h.1.0))
@@ -86,7 +89,8 @@ digits-each : (fuel n : ℕ) (acc : List ℕ) → AllByRecursion IsOctet acc →
 digits-each zero n acc h = h
 digits-each (suc fuel) n acc h =
     let all : AllByRecursion IsOctet (digit_glyph false (n % 10) ∷ acc) = (glyph-octet (n % 10) (omega arith), h) in
-    each-if IsOctet (n / 10 == 0) (digit_glyph false (n % 10) ∷ acc) (digits_onto fuel 10 false (n / 10) (digit_glyph false (n % 10) ∷ acc)) all
+    each-if IsOctet (n / 10 == 0) (digit_glyph false (n % 10) ∷ acc)
+    (digits_onto fuel 10 false (n / 10) (digit_glyph false (n % 10) ∷ acc)) all
     (digits-each fuel (n / 10) (digit_glyph false (n % 10) ∷ acc) all)
 
 pub decimal-octets : (n : ℕ) → AreOctets (decimal n)
@@ -135,9 +139,11 @@ appended (e ∷ m) name v o h = by-name (bytes_eq e.0 name) (appended m name v o
   by-name true more = (each-append (λ x. AreOctets x.bytes) e.1 (v ∷ []) h.0 (o, tt), h.1)
   by-name false more = (h.0, more)
 
-mapped-from : (m : Entries FieldValue) (fields : List (List ℕ × List ℕ)) → HaveOctets fields → AreEntries m → AreEntries (append_all m (map lowered fields))
+mapped-from : (m : Entries FieldValue) (fields : List (List ℕ × List ℕ)) → HaveOctets fields → AreEntries m
+    → AreEntries (append_all m (map lowered fields))
 mapped-from m [] f h = h
-mapped-from m (x ∷ fields) f h = mapped-from (append m (lowercase x.0) (plain_value x.1)) fields f.1 (appended m (lowercase x.0) (plain_value x.1) f.0 h)
+mapped-from m (x ∷ fields) f h =
+    mapped-from (append m (lowercase x.0) (plain_value x.1)) fields f.1 (appended m (lowercase x.0) (plain_value x.1) f.0 h)
 
 values-at : (m : Entries FieldValue) (name : List ℕ) → AreEntries m → AreValues (get_all m name)
 values-at [] name h = tt
@@ -148,22 +154,28 @@ first-octets [] h = none
 first-octets (v ∷ vs) h = h.0
 
 value-octets : (fields : List (List ℕ × List ℕ)) (name : List ℕ) → HaveOctets fields → AreOctets (value_in (fields_map fields) name)
-value-octets fields name h = first-octets (get_all (fields_map fields) (lowercase name)) (values-at (fields_map fields) (lowercase name) (mapped-from [] fields h tt))
+value-octets fields name h =
+    first-octets (get_all (fields_map fields) (lowercase name))
+    (values-at (fields_map fields) (lowercase name) (mapped-from [] fields h tt))
 
 line-octets : (field : List ℕ × List ℕ) → AreOctets field.0 → AreOctets field.1 → AreOctets (field_line field)
 line-octets field n v =
     All-append IsOctet (field.0 ++ (58 ∷ 32 ∷ field.1)) crlf
-    (All-append IsOctet field.0 (58 ∷ 32 ∷ field.1) n (of-each (58 ∷ 32 ∷ field.1) (omega arith, (omega arith, each-of field.1 v)))) (word crlf refl)
+    (All-append IsOctet field.0 (58 ∷ 32 ∷ field.1) n (of-each (58 ∷ 32 ∷ field.1) (omega arith, (omega arith, each-of field.1 v))))
+    (word crlf refl)
 
-lines-octets : (fields : List (List ℕ × List ℕ)) (names : List (List ℕ)) → HaveOctets fields → AllByRecursion AreOctets names → AreOctets (lines (named (fields_map fields) names))
+lines-octets : (fields : List (List ℕ × List ℕ)) (names : List (List ℕ)) → HaveOctets fields → AllByRecursion AreOctets names
+    → AreOctets (lines (named (fields_map fields) names))
 lines-octets fields [] h n = none
 lines-octets fields (name ∷ names) h n =
     All-append IsOctet (field_line (name, value_in (fields_map fields) name)) (lines (named (fields_map fields) names))
     (line-octets (name, value_in (fields_map fields) name) n.0 (value-octets fields name h)) (lines-octets fields names h n.1)
 
-pub head-octets : (start : List ℕ) (fields : List (List ℕ × List ℕ)) (names : List (List ℕ)) → AreOctets start → HaveOctets fields → AllByRecursion AreOctets names
+pub head-octets : (start : List ℕ) (fields : List (List ℕ × List ℕ)) (names : List (List ℕ)) → AreOctets start → HaveOctets fields
+    → AllByRecursion AreOctets names
     → AreOctets (head_text start (named (fields_map fields) names))
 head-octets start fields names s h n =
     let all : List ℕ = lines (named (fields_map fields) names) in
     let end = word crlf refl in
-    All-append IsOctet ((start ++ crlf) ++ all) crlf (All-append IsOctet (start ++ crlf) all (All-append IsOctet start crlf s end) (lines-octets fields names h n)) end
+    All-append IsOctet ((start ++ crlf) ++ all) crlf
+    (All-append IsOctet (start ++ crlf) all (All-append IsOctet start crlf s end) (lines-octets fields names h n)) end

@@ -34,7 +34,8 @@ answer-small k n c bound e r l = omega (arith, e, r, l)
 order-small : (k n c bound : ℕ) → k ≡ n + 1 → n + (c + 1) ≤ 2051 * bound → bound < 2 ^ 32 → k < 2 ^ 64
 order-small k n c bound e r l = omega (arith, e, r, l)
 
-one-spelled : (gs : List Peer) (bound : ℕ) (a : Act) (h xs : List Act) → bound < 2 ^ 32 → AreSpelled gs h → MayStand a h → ((g : List ℕ) → HasRoom bound g h (a ∷ xs)) → IsTellable gs a → IsSpelled gs a
+one-spelled : (gs : List Peer) (bound : ℕ) (a : Act) (h xs : List Act) → bound < 2 ^ 32 → AreSpelled gs h → MayStand a h
+    → ((g : List ℕ) → HasRoom bound g h (a ∷ xs)) → IsTellable gs a → IsSpelled gs a
 one-spelled gs bound (acts.Opened g s) h xs l p m r t = (t, next-small s (openings g h) (count_opened xs) bound m.1 (r g).openings l)
 one-spelled gs bound (acts.Cut g s) h xs l p m r t = (t, this-small s (openings g h) (count_opened xs) bound m.1 (r g).openings l)
 one-spelled gs bound (acts.Order g s k o) h xs l p m r t =
@@ -50,7 +51,8 @@ one-spelled gs bound (acts.Heard g s n) h xs l p m r t =
 one-spelled gs bound (acts.Refused w) h xs l p m r t = (tt, tt)
 one-spelled gs bound a h xs l p m r t = absurd t
 
-pub tellable-spelled : ((k xs : List Act) → KeepsSessions (after k xs) → KeepsSessions k) → (gs : List Peer) (bound : ℕ) (h xs : List Act) → bound < 2 ^ 32 → AreSpelled gs h
+pub tellable-spelled : ((k xs : List Act) → KeepsSessions (after k xs) → KeepsSessions k) → (gs : List Peer) (bound : ℕ) (h xs : List Act)
+    → bound < 2 ^ 32 → AreSpelled gs h
     → KeepsSessions (after h xs) → ((g : List ℕ) → HasRoom bound g h xs) → AllByRecursion (IsTellable gs) xs → AreSpelled gs xs
 tellable-spelled back gs bound h [] l p k r t = tt
 tellable-spelled back gs bound h (a ∷ xs) l p k r t =

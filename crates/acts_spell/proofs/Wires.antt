@@ -38,7 +38,8 @@ use Rattle.acts_spell.proofs.Rows.{tree-good}
 
 -- ---- the messages of acts
 
-requests-octets : (gs : List Peer) (host : Addr) (g : List ℕ) (s : ℕ) (h : List Act) → IsAddress host → AreSpelled gs h → AllByRecursion AreOctets (requests (request_at host) g s h)
+requests-octets : (gs : List Peer) (host : Addr) (g : List ℕ) (s : ℕ) (h : List Act) → IsAddress host → AreSpelled gs h
+    → AllByRecursion AreOctets (requests (request_at host) g s h)
 requests-octets gs host g s [] a l = tt
 requests-octets gs host g s (acts.Order f t k o ∷ h) a l =
     let more = requests-octets gs host g s h a l.1 in
@@ -63,13 +64,16 @@ before-lawful gs (a ∷ h) s = s
 put-named : (o : Order) (e : SadEntry) → IsGoodOrder o → o ≡ asks.Put e → is_sad_name e.name ≡ true
 put-named o e g q = let p : IsGoodOrder (asks.Put e) = subst IsGoodOrder q g in half-named e p.0
 
-to-octets : (gs : List Peer) (g : List ℕ) (h : List Act) (o : Option Order) → IsLawful gs h → AreSpelled gs h → next_request g h ≡ o → AreOctets (response_to g h o)
+to-octets : (gs : List Peer) (g : List ℕ) (h : List Act) (o : Option Order) → IsLawful gs h → AreSpelled gs h → next_request g h ≡ o
+    → AreOctets (response_to g h o)
 to-octets gs g h None l s e = none
 to-octets gs g h (Some o) l s e =
     let good = request-good gs g o h s e in
-    response-octets (tree_of g (before_change h)) o (tree-good gs g (before_change h) (before-lawful gs h l) (before-spelled gs h s)) (λ d q. put-named o d good q)
+    response-octets (tree_of g (before_change h)) o (tree-good gs g (before_change h) (before-lawful gs h l) (before-spelled gs h s))
+    (λ d q. put-named o d good q)
 
-responses-octets : (gs : List Peer) (g : List ℕ) (s : ℕ) (h : List Act) → IsLawful gs h → AreSpelled gs h → AllByRecursion AreOctets (responses (response_at g) g s h)
+responses-octets : (gs : List Peer) (g : List ℕ) (s : ℕ) (h : List Act) → IsLawful gs h → AreSpelled gs h
+    → AllByRecursion AreOctets (responses (response_at g) g s h)
 responses-octets gs g s [] l p = tt
 responses-octets gs g s (acts.Handled f t k a ∷ h) l p =
     let more = responses-octets gs g s h l.1 p.1 in
@@ -94,13 +98,16 @@ unread-octets : (gs : List Peer) (g : List ℕ) (host : Addr) (lane : Lane) (h :
     → AllByRecursion AreOctets (unread lane (pipe_at g host h))
 unread-octets gs g host lanes.Down h a l s =
     let t : ℕ = session_taken g h in
-    each-if AreOctets (t == 0) [] (drop (handled g t h) (requests (request_at host) g t h)) tt (dropped (handled g t h) (requests (request_at host) g t h) (requests-octets gs host g t h a s))
+    each-if AreOctets (t == 0) [] (drop (handled g t h) (requests (request_at host) g t h)) tt
+    (dropped (handled g t h) (requests (request_at host) g t h) (requests-octets gs host g t h a s))
 unread-octets gs g host lanes.Up h a l s =
     let t : ℕ = openings g h in
-    each-if AreOctets (is_open g h) (drop (answered g t h) (responses (response_at g) g t h)) [] (dropped (answered g t h) (responses (response_at g) g t h) (responses-octets gs g t h l s)) tt
+    each-if AreOctets (is_open g h) (drop (answered g t h) (responses (response_at g) g t h)) []
+    (dropped (answered g t h) (responses (response_at g) g t h) (responses-octets gs g t h l s)) tt
 unread-octets gs g host lanes.Note h a l s =
     let t : ℕ = openings g h in
-    each-if AreOctets (is_open g h) (drop (notices_heard g t h) (lines line_at g t h)) [] (dropped (notices_heard g t h) (lines line_at g t h) (lines-octets gs g t h s)) tt
+    each-if AreOctets (is_open g h) (drop (notices_heard g t h) (lines line_at g t h)) []
+    (dropped (notices_heard g t h) (lines line_at g t h) (lines-octets gs g t h s)) tt
 
 joined : (xs : List (List ℕ)) → AllByRecursion AreOctets xs → AreOctets (flat_map (λ message. message) xs)
 joined [] h = none
@@ -112,31 +119,39 @@ pub record IsGatewayOf (header : Header) (g : List ℕ) (c : node.Gateway) : Typ
   pub address : IsAddress c.address
   pub last : c.seq_last ≡ header.seq_last
 
-of-peer : (header : Header) (g : List ℕ) (p : Option Peer) (c : node.Gateway) → ((q : Peer) → p ≡ Some q → IsAddress q.address) → with_peer header g p ≡ Some c → IsGatewayOf header g c
+of-peer : (header : Header) (g : List ℕ) (p : Option Peer) (c : node.Gateway) → ((q : Peer) → p ≡ Some q → IsAddress q.address)
+    → with_peer header g p ≡ Some c → IsGatewayOf header g c
 of-peer header g None c a e = cc
 of-peer header g (Some p) c a e =
     let d : node.Gateway = record { name = g; address = p.address; seq_last = header.seq_last } in
     subst (IsGatewayOf header g) (some-is d c e) (record { name = refl; address = a p refl; last = refl })
 
-peer-if : (b : Bool) (p q : Peer) (o : Option Peer) → IsAddress p.address → (o ≡ Some q → IsAddress q.address) → (if b then Some p else o) ≡ Some q → IsAddress q.address
+peer-if : (b : Bool) (p q : Peer) (o : Option Peer) → IsAddress p.address → (o ≡ Some q → IsAddress q.address)
+    → (if b then Some p else o) ≡ Some q → IsAddress q.address
 peer-if true p q o a f e = subst (λ (z : Peer). IsAddress z.address) (some-is p q e) a
 peer-if false p q o a f e = f e
 
-found-peer : (t : Peer → Bool) (ps : List Peer) (q : Peer) → AllByRecursion (λ p. IsAddress p.address) ps → find t ps ≡ Some q → IsAddress q.address
+found-peer : (t : Peer → Bool) (ps : List Peer) (q : Peer) → AllByRecursion (λ p. IsAddress p.address) ps → find t ps ≡ Some q
+    → IsAddress q.address
 found-peer t [] q a e = cc
 found-peer t (p ∷ ps) q a e = peer-if (t p) p q (find t ps) a.0 (found-peer t ps q a.1) e
 
-pub gateway-of : (header : Header) (g : List ℕ) (c : node.Gateway) → AllByRecursion (λ p. IsAddress p.address) header.gateways → gateway_at header g ≡ Some c → IsGatewayOf header g c
-gateway-of header g c a e = of-peer header g (find (λ p. bytes_eq p.name g) header.gateways) c (λ q f. found-peer (λ p. bytes_eq p.name g) header.gateways q a f) e
+pub gateway-of : (header : Header) (g : List ℕ) (c : node.Gateway) → AllByRecursion (λ p. IsAddress p.address) header.gateways
+    → gateway_at header g ≡ Some c → IsGatewayOf header g c
+gateway-of header g c a e =
+    of-peer header g (find (λ p. bytes_eq p.name g) header.gateways) c (λ q f. found-peer (λ p. bytes_eq p.name g) header.gateways q a f) e
 
-shown-octets : (header : Header) (g : List ℕ) (lane : Lane) (h : List Act) → AllByRecursion (λ p. IsAddress p.address) header.gateways → IsLawful header.gateways h → AreSpelled header.gateways h
+shown-octets : (header : Header) (g : List ℕ) (lane : Lane) (h : List Act) → AllByRecursion (λ p. IsAddress p.address) header.gateways
+    → IsLawful header.gateways h → AreSpelled header.gateways h
     → (c : Option node.Gateway) → gateway_at header g ≡ c → AreOctets (shown_at g lane h c)
 shown-octets header g lane h a l s None e = none
 shown-octets header g lane h a l s (Some c) e =
     let is = gateway-of header g c a e in
-    All-take IsOctet 4096 (unread_octets lane (pipe_at g c.address h)) (joined (unread lane (pipe_at g c.address h)) (unread-octets header.gateways g c.address lane h is.address l s))
+    All-take IsOctet 4096 (unread_octets lane (pipe_at g c.address h))
+    (joined (unread lane (pipe_at g c.address h)) (unread-octets header.gateways g c.address lane h is.address l s))
 
-pub wire-octets : (header : Header) (g : List ℕ) (lane : Lane) (h : List Act) → AllByRecursion (λ p. IsAddress p.address) header.gateways → IsLawful header.gateways h → AreSpelled header.gateways h
+pub wire-octets : (header : Header) (g : List ℕ) (lane : Lane) (h : List Act) → AllByRecursion (λ p. IsAddress p.address) header.gateways
+    → IsLawful header.gateways h → AreSpelled header.gateways h
     → AreOctets (under_way header g lane h)
 wire-octets header g lane h a l s = shown-octets header g lane h a l s (gateway_at header g) refl
 

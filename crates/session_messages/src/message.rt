@@ -6,7 +6,7 @@ ghost use Rattle.rc_http.specs.Looks.{Looked, Looks};
 ghost use Rattle.session_messages.specs.Whole.{whole_in};
 
 use ikl_base::OrMemory;
-use rc_http::{Fed, Feeder, HttpFault, HttpMessage, octets_amount_to_one_thing};
+use rc_http::{Fed, Feeder, HttpFault, HttpMessage};
 
 /// The message that all these octets are, fed to a new reader.
 pub(crate) fn read_whole(
@@ -16,15 +16,15 @@ pub(crate) fn read_whole(
     requires { feeder ≡ fresh feeder.kind }
     ensures { (looked : Looked) → Looks feeder.kind octets.now looked → Gives result (whole_in (length octets.now) looked) }
 {
-    octets_amount_to_one_thing();
-    match feeder.feed(octets)? {
-        Fed::NoneYet => Err(OrMemory::Refused(HttpFault::Head)),
-        Fed::Whole { message, taken } => {
+    match feeder.feed(octets) {
+        Ok(Fed::NoneYet) => Err(OrMemory::Refused(HttpFault::Head)),
+        Ok(Fed::Whole { message, taken }) => {
             if taken == octets.len() {
                 Ok(message)
             } else {
                 Err(OrMemory::Refused(HttpFault::Head))
             }
         }
+        Err(refused) => Err(refused),
     }
 }

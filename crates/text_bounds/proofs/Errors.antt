@@ -1,6 +1,6 @@
 -- Every refusal can be written.
-use Rattle.std.proofs.Common.{◌≡◌, ◌==◌, ◌+◌, ◌*◌, ◌≤◌, ◌++◌, ℕ, Bool, true, false, List, [], ◌∷◌, codes, length, Option, Some, None, if◌then◌else◌, refl, sym, subst, arith, length-append}
-use Rattle.serde_json.specs.Data.{array, item, no_items, no_members, Members, object, put, string}
+use Rattle.std.proofs.Common.{◌≡◌, ◌≤◌, ◌++◌, ℕ, Bool, true, false, List, codes, length, Option, Some, None, if◌then◌else◌, refl, sym, subst, arith, length-append}
+use Rattle.serde_json.specs.Data.{array, item, no_items, no_members, Members, string}
 use Rattle.serde_json.specs.Written.{compact_text}
 use Rattle.ikeless_tree.specs.declared.command.Refusal.{Refusal}
 use Rattle.ikeless_tree.specs.declared.command.Refusal.TheVariants as refusals
@@ -16,7 +16,7 @@ use Rattle.rc_resource.specs.Errors.{error_data, error_item, is_of_protocol, typ
 use Rattle.rc_resource.specs.Messages.{reply_message}
 use Rattle.rc_resource.specs.Replies.{refusal}
 use Rattle.notice_lines.proofs.Text.{IsSized, AreSized, sized_array, sized_item, sized_no_items, sized_none, sized_object, sized_string}
-use Rattle.text_bounds.proofs.Fields.{IsKnown, IsPlainStatus, answering, refused_writable, reply_writable}
+use Rattle.text_bounds.proofs.Fields.{IsPlainStatus, refused_writable, reply_writable}
 use Rattle.text_bounds.proofs.Pointers.{IsText}
 use Rattle.text_bounds.proofs.Texts.{more_members, sized_text, tight_put}
 use Rattle.text_bounds.proofs.Values.{same, sized_only}
@@ -82,7 +82,8 @@ sized_message None ms short f = more_members 66 1483 ms (omega arith) f
 sized_message (Some pointer) ms short f =
     let size = short.size in
     let both = length-append (codes "at ") pointer in
-    tight_put 66 1400 13 (codes "error-message") (string (codes "at " ++ pointer)) ms refl (same 13) (sized_string 233 (codes "at " ++ pointer) (omega (arith, both, size))) f
+    tight_put 66 1400 13 (codes "error-message") (string (codes "at " ++ pointer)) ms refl (same 13) (sized_string 233
+    (codes "at " ++ pointer) (omega (arith, both, size))) f
 
 sized_item_of : (app : App) (path : Option (List ℕ)) (tag : Tag) → IsShort path → IsSized 1518 (error_item app path tag)
 sized_item_of app path tag short =
@@ -94,7 +95,8 @@ sized_item_of app path tag short =
 
 pub error_size : (app : App) (path : Option (List ℕ)) (tag : Tag) → IsShort path → length (compact_text (error_data app path tag)) ≤ 1558
 error_size app path tag short =
-    (sized_only 1532 20 (codes "ietf-restconf:errors") (only (codes "error") (array (item (error_item app path tag) no_items))) refl (same 20)
+    (sized_only 1532 20 (codes "ietf-restconf:errors") (only (codes "error") (array (item (error_item app path tag) no_items))) refl
+    (same 20)
     (sized_only 1521 5 (codes "error") (array (item (error_item app path tag) no_items)) refl (same 5)
     (sized_array 1520 _ (sized_item 1 1518 (error_item app path tag) no_items (sized_item_of app path tag short) sized_no_items)))).size
 
@@ -144,4 +146,5 @@ refusal_writable e (Plain path status) =
 refusal_writable e (Allowed path allowed) =
     let size = error_size e.app e.path e.tag path in
     let P : ℕ → Type 0 = λ status. IsWritableResponse (reply_message (refusal (at_status e status))) in
-    subst P (sym allowed.status) (refused_writable e.allow (compact_text (error_data e.app e.path e.tag)) allowed.value allowed.size (omega (arith, size)))
+    subst P (sym allowed.status) (refused_writable e.allow (compact_text (error_data e.app e.path e.tag)) allowed.value allowed.size
+    (omega (arith, size)))

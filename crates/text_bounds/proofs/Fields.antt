@@ -1,5 +1,5 @@
 -- Messages that can be written, by the lengths of their parts.
-use Rattle.std.proofs.Common.{◌≡◌, ◌≢◌, ◌==◌, ◌+◌, ◌^◌, ◌<◌, ◌≤◌, ◌&&◌, not, nat_le, nat_lt, IsTrue, ℕ, Bool, true, false, List, [], ◌∷◌, ◌++◌, codes, length, reverse, refl, sym, ap, subst, ◌∙◌, arith, length-append, append-nil}
+use Rattle.std.proofs.Common.{◌≡◌, ◌≢◌, ◌==◌, ◌+◌, ◌^◌, ◌<◌, ◌≤◌, ◌&&◌, not, nat_le, IsTrue, ℕ, Bool, true, false, List, [], ◌∷◌, ◌++◌, codes, length, reverse, refl, sym, ap, subst, arith, length-append, append-nil}
 use Rattle.std.specs.Prelude.{IsSome}
 use Rattle.std.specs.List.{list_all}
 use Rattle.std.specs.Fmt.{decimal}
@@ -14,8 +14,7 @@ use Rattle.yang_values.specs.Prefixes.{is_value_octet}
 use Rattle.yang_values.proofs.PrefixText.{decimal_octets}
 use Rattle.rc_http.specs.declared.message.HttpMessage.{HttpMessage}
 use Rattle.rc_http.specs.Heads.{fields_map}
-use Rattle.rc_http.specs.Written as written
-use Rattle.rc_http.specs.Written.{SameFields, TellsBody, crlf, field_line, head_text, is_method, is_target, is_unspaced, is_value, lines, named, own_names, length_names, type_names, request_fields, response_names, status_line, status_text, value_in, IsWritableRequest, IsWritableResponse}
+use Rattle.rc_http.specs.Written.{SameFields, TellsBody, crlf, field_line, head_text, is_method, is_target, is_unspaced, is_value, lines, named, type_names, request_fields, response_names, status_line, status_text, value_in, IsWritableRequest, IsWritableResponse}
 use Rattle.rc_resource.specs.declared.reply.Reply.{Reply}
 use Rattle.rc_resource.specs.Messages as messages
 use Rattle.rc_resource.specs.Messages.{field, if_type, length_field, own_field, reply_message, type_field}
@@ -67,7 +66,8 @@ no_lines : AreLines 0 []
 no_lines = record { size = omega arith }
 
 -- a field more, whose name and value have k octets at most
-one_line : (k n : ℕ) (f : List ℕ × List ℕ) (fs : List (List ℕ × List ℕ)) → length f.0 + length f.1 ≤ k → AreLines n fs → AreLines (k + 4 + n) (f ∷ fs)
+one_line : (k n : ℕ) (f : List ℕ × List ℕ) (fs : List (List ℕ × List ℕ)) → length f.0 + length f.1 ≤ k → AreLines n fs
+    → AreLines (k + 4 + n) (f ∷ fs)
 one_line k n f fs short rest =
     let line : length (field_line f) ≡ length (f.0 ++ 58 ∷ 32 ∷ f.1) + 2 = length-append (f.0 ++ 58 ∷ 32 ∷ f.1) crlf in
     let value : length (f.0 ++ 58 ∷ 32 ∷ f.1) ≡ length f.0 + length (58 ∷ 32 ∷ f.1) = length-append f.0 (58 ∷ 32 ∷ f.1) in
@@ -75,10 +75,13 @@ one_line k n f fs short rest =
     let p : length (lines fs) ≤ n = rest.size in
     record { size = omega (arith, line, value, all, p, short) }
 
-head_size : (a n : ℕ) (start : List ℕ) (fields : List (List ℕ × List ℕ)) → length start ≤ a → AreLines n fields → length (head_text start fields) ≤ a + n + 4
+head_size : (a n : ℕ) (start : List ℕ) (fields : List (List ℕ × List ℕ)) → length start ≤ a → AreLines n fields
+    → length (head_text start fields) ≤ a + n + 4
 head_size a n start fields short are =
-    let all : length (head_text start fields) ≡ length (start ++ crlf ++ lines fields) + 2 = length-append (start ++ crlf ++ lines fields) crlf in
-    let front : length (start ++ crlf ++ lines fields) ≡ length (start ++ crlf) + length (lines fields) = length-append (start ++ crlf) (lines fields) in
+    let all : length (head_text start fields) ≡ length (start ++ crlf ++ lines fields) + 2 = length-append
+    (start ++ crlf ++ lines fields) crlf in
+    let front : length (start ++ crlf ++ lines fields) ≡ length (start ++ crlf) + length (lines fields) = length-append (start ++ crlf)
+    (lines fields) in
     let first : length (start ++ crlf) ≡ length start + 2 = length-append start crlf in
     let p : length (lines fields) ≤ n = are.size in
     omega (arith, all, front, first, p, short)
@@ -101,9 +104,11 @@ pub record IsAsking (method target host body : List ℕ) : Type 0 where
   pub host_size : length host ≤ 100
   pub body_size : length body ≤ 1048576
 
-start_size : (method target : List ℕ) → length method ≤ 16 → length target ≤ 1000 → length (method ++ 32 ∷ target ++ codes " HTTP/1.1") ≤ 1026
+start_size : (method target : List ℕ) → length method ≤ 16 → length target ≤ 1000
+    → length (method ++ 32 ∷ target ++ codes " HTTP/1.1") ≤ 1026
 start_size method target p q =
-    let all : length (method ++ 32 ∷ target ++ codes " HTTP/1.1") ≡ length (method ++ 32 ∷ target) + 9 = length-append (method ++ 32 ∷ target) (codes " HTTP/1.1") in
+    let all : length (method ++ 32 ∷ target ++ codes " HTTP/1.1") ≡ length (method ++ 32 ∷ target) + 9 = length-append
+    (method ++ 32 ∷ target) (codes " HTTP/1.1") in
     let front : length (method ++ 32 ∷ target) ≡ length method + length (32 ∷ target) = length-append method (32 ∷ target) in
     omega (arith, all, front, p, q)
 
@@ -120,16 +125,21 @@ with_body host body = field (codes "Host") host ∷ type_field ∷ length_field 
 fields_some : (host : List ℕ) (b : ℕ) (bs : List ℕ) → messages.request_fields host (b ∷ bs) ≡ with_body host (b ∷ bs)
 fields_some host b bs = rw (some_size b bs) refl
 
-host_line : (host : List ℕ) (n : ℕ) (fs : List (List ℕ × List ℕ)) → length host ≤ 100 → AreLines n fs → AreLines (108 + n) ((codes "Host", host) ∷ fs)
+host_line : (host : List ℕ) (n : ℕ) (fs : List (List ℕ × List ℕ)) → length host ≤ 100 → AreLines n fs
+    → AreLines (108 + n) ((codes "Host", host) ∷ fs)
 host_line host n fs short are = one_line 104 n (codes "Host", host) fs (omega (arith, short)) are
 
-type_line : (n : ℕ) (fs : List (List ℕ × List ℕ)) → AreLines n fs → AreLines (42 + n) ((codes "Content-Type", codes "application/yang-data+json") ∷ fs)
+type_line : (n : ℕ) (fs : List (List ℕ × List ℕ)) → AreLines n fs
+    → AreLines (42 + n) ((codes "Content-Type", codes "application/yang-data+json") ∷ fs)
 type_line n fs are = one_line 38 n (codes "Content-Type", codes "application/yang-data+json") fs (omega arith) are
 
-length_line : (size n : ℕ) (fs : List (List ℕ × List ℕ)) → size < 10 ^ 9 → AreLines n fs → AreLines (27 + n) ((codes "Content-Length", decimal size) ∷ fs)
-length_line size n fs small are = let digits = count_size size small in one_line 23 n (codes "Content-Length", decimal size) fs (omega (arith, digits)) are
+length_line : (size n : ℕ) (fs : List (List ℕ × List ℕ)) → size < 10 ^ 9 → AreLines n fs
+    → AreLines (27 + n) ((codes "Content-Length", decimal size) ∷ fs)
+length_line size n fs small are = let digits = count_size size small in one_line 23 n (codes "Content-Length", decimal size) fs (omega
+    (arith, digits)) are
 
-body_writable : (method target host : List ℕ) (b : ℕ) (bs : List ℕ) → IsAsking method target host (b ∷ bs) → IsWritableRequest (asked_with method target (with_body host (b ∷ bs)) (b ∷ bs))
+body_writable : (method target host : List ℕ) (b : ℕ) (bs : List ℕ) → IsAsking method target host (b ∷ bs)
+    → IsWritableRequest (asked_with method target (with_body host (b ∷ bs)) (b ∷ bs))
 body_writable method target host b bs is =
     let short = is.body_size in
     record {
@@ -137,14 +147,18 @@ body_writable method target host b bs is =
       target = is.target_is;
       status = refl;
       fields = λ name. refl;
-      values = and_from _ _ (seen_value host is.host_is) (and_from _ _ refl (and_from _ _ (count_value (length (b ∷ bs)) (omega (arith, short))) refl));
+      values = and_from _ _ (seen_value host is.host_is) (and_from _ _ refl (and_from _ _ (count_value (length (b ∷ bs)) (omega
+          (arith, short))) refl));
       tells = λ some. record { len = refl; type = λ there. refl };
-      head = within 1207 _ 8192 (head_size 1026 177 _ (request_fields (asked_with method target (with_body host (b ∷ bs)) (b ∷ bs))) (start_size method target is.method_size is.target_size)
-          (host_line host 69 _ is.host_size (type_line 27 _ (length_line (length (b ∷ bs)) 0 [] (omega (arith, short)) no_lines)))) (omega arith);
+      head = within 1207 _ 8192 (head_size 1026 177 _ (request_fields (asked_with method target (with_body host (b ∷ bs)) (b ∷ bs)))
+          (start_size method target is.method_size is.target_size)
+          (host_line host 69 _ is.host_size (type_line 27 _ (length_line (length (b ∷ bs)) 0 [] (omega (arith, short)) no_lines))))
+          (omega arith);
       body = short;
     }
 
-pub asking_writable : (method target host body : List ℕ) → IsAsking method target host body → IsWritableRequest (asking method target host body)
+pub asking_writable : (method target host body : List ℕ) → IsAsking method target host body
+    → IsWritableRequest (asking method target host body)
 asking_writable method target host [] is = record {
   method = is.method_is;
   target = is.target_is;
@@ -152,12 +166,14 @@ asking_writable method target host [] is = record {
   fields = λ name. refl;
   values = and_from _ _ (seen_value host is.host_is) refl;
   tells = λ some. absurd (omega (arith, some));
-  head = within 1138 _ 8192 (head_size 1026 108 _ (request_fields (asking method target host [])) (start_size method target is.method_size is.target_size)
+  head = within 1138 _ 8192 (head_size 1026 108 _ (request_fields (asking method target host []))
+      (start_size method target is.method_size is.target_size)
       (host_line host 0 [] is.host_size no_lines)) (omega arith);
   body = omega arith;
 }
 asking_writable method target host (b ∷ bs) is =
-    subst (λ fs. IsWritableRequest (asked_with method target fs (b ∷ bs))) (sym (fields_some host b bs)) (body_writable method target host b bs is)
+    subst (λ fs. IsWritableRequest (asked_with method target fs (b ∷ bs))) (sym (fields_some host b bs))
+    (body_writable method target host b bs is)
 
 -- ---- responses
 
@@ -175,8 +191,10 @@ pub record IsKnown (status : ℕ) : Type 0 where
   pub some : IsSome (status_text status)
   pub line : length (status_line status) ≤ 40
 
-carried_writable : (status : ℕ) (fs : List (List ℕ × List ℕ)) (body : List ℕ) (names : List (List ℕ)) → IsKnown status → response_names status body ≡ names
-    → IsCarried (answering status fs body) names → (status ≢ 204 → TellsBody (fields_map fs) body) → (status ≡ 204 → body ≡ []) → length body ≤ 16777216
+carried_writable : (status : ℕ) (fs : List (List ℕ × List ℕ)) (body : List ℕ) (names : List (List ℕ)) → IsKnown status
+    → response_names status body ≡ names
+    → IsCarried (answering status fs body) names → (status ≢ 204 → TellsBody (fields_map fs) body) →
+    (status ≡ 204 → body ≡ []) → length body ≤ 16777216
     → IsWritableResponse (answering status fs body)
 carried_writable status fs body names known e carried tells none short =
     let m : HttpMessage = answering status fs body in
@@ -189,7 +207,8 @@ carried_writable status fs body names known e carried tells none short =
       values = c.values;
       tells = tells;
       none = none;
-      head = within 4044 _ 8192 (head_size 40 4000 (status_line status) (named m.fields (response_names status body)) known.line c.lines) (omega arith);
+      head = within 4044 _ 8192 (head_size 40 4000 (status_line status) (named m.fields
+          (response_names status body)) known.line c.lines) (omega arith);
       body = short;
     }
 
@@ -223,7 +242,8 @@ short_size : (body : List ℕ) → length body ≤ 16777216 → length body < 10
 short_size body short = omega arith
 
 -- a response with a body alone
-plain_writable : (status : ℕ) (body : List ℕ) → IsPlainStatus status → length body ≤ 16777216 → IsWritableResponse (answering status (length_field body ∷ if_type body) body)
+plain_writable : (status : ℕ) (body : List ℕ) → IsPlainStatus status → length body ≤ 16777216
+    → IsWritableResponse (answering status (length_field body ∷ if_type body) body)
 plain_writable status [] s short =
     carried_writable status (length_field [] ∷ if_type []) [] (codes "Content-Length" ∷ []) s.known (plain_names status [] s)
     (record {
@@ -234,7 +254,8 @@ plain_writable status [] s short =
     (λ other. tells_none _ refl) (not_empty status [] s.full) short
 plain_writable status (b ∷ bs) s short =
     subst (λ fs. IsWritableResponse (answering status (length_field (b ∷ bs) ∷ fs) (b ∷ bs))) (sym (type_some b bs))
-    (carried_writable status (length_field (b ∷ bs) ∷ type_field ∷ []) (b ∷ bs) (codes "Content-Length" ∷ codes "Content-Type" ∷ []) s.known (plain_names status (b ∷ bs) s)
+    (carried_writable status (length_field (b ∷ bs) ∷ type_field ∷ []) (b ∷ bs)
+    (codes "Content-Length" ∷ codes "Content-Type" ∷ []) s.known (plain_names status (b ∷ bs) s)
     (record {
       fields = λ name. refl;
       values = and_from _ _ (count_value (length (b ∷ bs)) (omega (arith, short))) refl;
@@ -250,16 +271,20 @@ pub reply_writable : (r : Reply) → IsPlainStatus r.status → length r.body �
 reply_writable r s short =
     subst (λ fs. IsWritableResponse (answering r.status fs r.body)) (sym (plain_fields r s)) (plain_writable r.status r.body s short)
 
-location_line : (location : List ℕ) (n : ℕ) (fs : List (List ℕ × List ℕ)) → length location ≤ 1000 → AreLines n fs → AreLines (1012 + n) ((codes "Location", location) ∷ fs)
+location_line : (location : List ℕ) (n : ℕ) (fs : List (List ℕ × List ℕ)) → length location ≤ 1000 → AreLines n fs
+    → AreLines (1012 + n) ((codes "Location", location) ∷ fs)
 location_line location n fs short are = one_line 1008 n (codes "Location", location) fs (omega (arith, short)) are
 
-allow_line : (allow : List ℕ) (n : ℕ) (fs : List (List ℕ × List ℕ)) → length allow ≤ 100 → AreLines n fs → AreLines (109 + n) ((codes "Allow", allow) ∷ fs)
+allow_line : (allow : List ℕ) (n : ℕ) (fs : List (List ℕ × List ℕ)) → length allow ≤ 100 → AreLines n fs
+    → AreLines (109 + n) ((codes "Allow", allow) ∷ fs)
 allow_line allow n fs short are = one_line 105 n (codes "Allow", allow) fs (omega (arith, short)) are
 
 -- 201 with the path of what was made
-pub made_writable : (location : List ℕ) → list_all is_seen location ≡ true → length location ≤ 1000 → IsWritableResponse (answering 201 (length_field [] ∷ field (codes "Location") location ∷ []) [])
+pub made_writable : (location : List ℕ) → list_all is_seen location ≡ true → length location ≤ 1000
+    → IsWritableResponse (answering 201 (length_field [] ∷ field (codes "Location") location ∷ []) [])
 made_writable location seen short =
-    carried_writable 201 (length_field [] ∷ field (codes "Location") location ∷ []) [] (codes "Content-Length" ∷ codes "Location" ∷ []) (record { some = refl; line = omega arith }) refl
+    carried_writable 201 (length_field [] ∷ field (codes "Location") location ∷ []) [] (codes "Content-Length" ∷ codes "Location" ∷ [])
+    (record { some = refl; line = omega arith }) refl
     (record {
       fields = λ name. refl;
       values = and_from _ _ (count_value 0 (omega arith)) (and_from _ _ (seen_value location seen) refl);
@@ -278,7 +303,8 @@ done_writable =
 pub refused_writable : (allow body : List ℕ) → is_value allow ≡ true → length allow ≤ 100 → length body ≤ 16777216
     → IsWritableResponse (answering 405 (length_field body ∷ if_type body ++ field (codes "Allow") allow ∷ []) body)
 refused_writable allow [] is few short =
-    carried_writable 405 (length_field [] ∷ if_type [] ++ field (codes "Allow") allow ∷ []) [] (codes "Content-Length" ∷ codes "Allow" ∷ []) (record { some = refl; line = omega arith }) refl
+    carried_writable 405 (length_field [] ∷ if_type [] ++ field (codes "Allow") allow ∷ []) []
+    (codes "Content-Length" ∷ codes "Allow" ∷ []) (record { some = refl; line = omega arith }) refl
     (record {
       fields = λ name. refl;
       values = and_from _ _ (count_value 0 (omega arith)) (and_from _ _ is refl);
@@ -286,11 +312,14 @@ refused_writable allow [] is few short =
     })
     (λ other. tells_none _ refl) (λ e. refl) short
 refused_writable allow (b ∷ bs) is few short =
-    subst (λ fs. IsWritableResponse (answering 405 (length_field (b ∷ bs) ∷ fs ++ field (codes "Allow") allow ∷ []) (b ∷ bs))) (sym (type_some b bs))
-    (carried_writable 405 (length_field (b ∷ bs) ∷ (type_field ∷ []) ++ field (codes "Allow") allow ∷ []) (b ∷ bs) (codes "Content-Length" ∷ codes "Content-Type" ∷ codes "Allow" ∷ []) (record { some = refl; line = omega arith }) refl
+    subst (λ fs. IsWritableResponse (answering 405 (length_field (b ∷ bs) ∷ fs ++ field (codes "Allow") allow ∷ []) (b ∷ bs))) (sym
+    (type_some b bs))
+    (carried_writable 405 (length_field (b ∷ bs) ∷ (type_field ∷ []) ++ field (codes "Allow") allow ∷ []) (b ∷ bs)
+    (codes "Content-Length" ∷ codes "Content-Type" ∷ codes "Allow" ∷ []) (record { some = refl; line = omega arith }) refl
     (record {
       fields = λ name. refl;
       values = and_from _ _ (count_value (length (b ∷ bs)) (omega (arith, short))) (and_from _ _ refl (and_from _ _ is refl));
-      lines = more_lines 178 4000 _ (omega arith) (length_line (length (b ∷ bs)) 151 _ (short_size (b ∷ bs) short) (type_line 109 _ (allow_line allow 0 [] few no_lines)));
+      lines = more_lines 178 4000 _ (omega arith) (length_line (length (b ∷ bs)) 151 _ (short_size (b ∷ bs) short) (type_line 109 _
+          (allow_line allow 0 [] few no_lines)));
     })
     (λ other. record { len = refl; type = λ some. refl }) (λ e. absurd (omega (arith, e))) short)

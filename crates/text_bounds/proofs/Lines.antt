@@ -1,5 +1,5 @@
 -- Every notice has a line that is heard.
-use Rattle.std.proofs.Common.{◌≡◌, ◌+◌, ◌/◌, ◌%◌, ◌^◌, ◌<◌, ◌≤◌, nat_lt, ℕ, Bool, true, List, [], ◌∷◌, codes, IsUtf8, refl, arith}
+use Rattle.std.proofs.Common.{◌≡◌, ◌/◌, ◌%◌, ◌^◌, ◌<◌, ◌≤◌, nat_lt, ℕ, Bool, true, List, codes, IsUtf8, refl, arith}
 use Rattle.std.proofs.lemmas.Bool.{and_from}
 use Rattle.std.proofs.lemmas.Bool.Decides.{nat_tests}
 use Rattle.json.proofs.Printed.Utf8.{IsUtf8-are_ascii, are_ascii}
@@ -16,7 +16,7 @@ use Rattle.json_tree.proofs.Passed.{half_octets, path_octets}
 use Rattle.json_tree.proofs.Writable.{write_counts, write_only, write_selector}
 use Rattle.notice_lines.specs.Envelope.{acquire_data, envelope_data, event_data, event_name, expire_data, notice_data, IsNotice}
 use Rattle.notice_lines.specs.Moments.{digit, stamp_text}
-use Rattle.notice_lines.specs.Reading.{IsHeard, IsLine}
+use Rattle.notice_lines.specs.Reading.{IsLine}
 use Rattle.notice_lines.proofs.FlatNotice.{flat_notice}
 use Rattle.hist_wire.specs.Dates.{civil, line_text, stamp}
 use Rattle.hist_wire.proofs.Dates.{stamp-is}
@@ -28,7 +28,8 @@ digit_ascii n = let small : n % 10 < 10 = omega arith in grind (arith, nat_tests
 
 stamp_ascii : (year month day hour minute second : ℕ) → are_ascii (stamp_text year month day hour minute second) ≡ true
 stamp_ascii year month day hour minute second =
-    and_from _ _ (digit_ascii (year / 1000)) (and_from _ _ (digit_ascii (year / 100)) (and_from _ _ (digit_ascii (year / 10)) (and_from _ _ (digit_ascii year)
+    and_from _ _ (digit_ascii (year / 1000)) (and_from _ _ (digit_ascii (year / 100)) (and_from _ _ (digit_ascii (year / 10))
+    (and_from _ _ (digit_ascii year)
     (and_from _ _ refl (and_from _ _ (digit_ascii (month / 10)) (and_from _ _ (digit_ascii month)
     (and_from _ _ refl (and_from _ _ (digit_ascii (day / 10)) (and_from _ _ (digit_ascii day)
     (and_from _ _ refl (and_from _ _ (digit_ascii (hour / 10)) (and_from _ _ (digit_ascii hour)
@@ -37,7 +38,8 @@ stamp_ascii year month day hour minute second =
 
 stamp_utf8 : (seconds : ℕ) → IsUtf8 (stamp seconds)
 stamp_utf8 seconds =
-    IsUtf8-are_ascii (stamp seconds) (stamp_ascii (civil (seconds / 86400)).year (civil (seconds / 86400)).month (civil (seconds / 86400)).day
+    IsUtf8-are_ascii (stamp seconds) (stamp_ascii (civil (seconds / 86400)).year (civil (seconds / 86400)).month (civil
+    (seconds / 86400)).day
     (seconds % 86400 / 3600) (seconds % 86400 / 60 % 60) (seconds % 86400 % 60))
 
 -- ---- what is written can be read again
@@ -73,14 +75,16 @@ name_ascii (notices.Expire name soft l) = refl
 name_ascii (notices.SeqOverflow name) = refl
 name_ascii (notices.BadSpi spi) = refl
 
-write_envelope : (time name : List ℕ) (event : Data) → IsUtf8 time → are_ascii name ≡ true → IsWritable event → IsWritable (envelope_data time name event)
+write_envelope : (time name : List ℕ) (event : Data) → IsUtf8 time → are_ascii name ≡ true → IsWritable event
+    → IsWritable (envelope_data time name event)
 unfolding envelope_data
 write_envelope time name event utf8 ascii h =
     write_object _ (write_member (codes "eventTime") _ _ refl (write_text time utf8) (write_member name _ _ ascii h write_none))
 
 write_notice : (n : Notice) (time : List ℕ) → IsUtf8 time → IsNotice n → IsTypedNotice n → IsWritable (notice_data n time)
 write_notice n time utf8 is h =
-    write_only (codes "ietf-restconf:notification") _ refl (write_envelope time (event_name n) (event_data n) utf8 (name_ascii n) (write_event n is h))
+    write_only (codes "ietf-restconf:notification") _ refl (write_envelope time (event_name n) (event_data n) utf8 (name_ascii n)
+    (write_event n is h))
 
 -- ---- lines
 

@@ -1,10 +1,9 @@
 -- How long addresses and names are.
-use Rattle.std.proofs.Common.{◌≡◌, ◌==◌, ◌+◌, ◌-◌, ◌*◌, ◌%◌, ◌^◌, ◌≤◌, ◌++◌, ◌&&◌, ◌||◌, nat_le, IsTrue, ℕ, Bool, true, false, List, [], ◌∷◌, codes, length, take, drop, inl, inr, refl, arith, length-append}
+use Rattle.std.proofs.Common.{◌≡◌, ◌==◌, ◌-◌, ◌*◌, ◌%◌, ◌^◌, ◌≤◌, ◌&&◌, nat_le, IsTrue, ℕ, Bool, true, false, List, [], ◌∷◌, codes, length, take, drop, inl, inr, refl, arith, length-append}
 use Rattle.std.specs.List.{list_all}
 use Rattle.std.specs.Fmt.{decimal}
 use Rattle.std.specs.Str.{bytes_eq}
 use Rattle.std.proofs.lemmas.Bool.{and_parts, and_from, or_cases}
-use Rattle.std.proofs.lemmas.Bool.Decides.{nat_tests}
 use Rattle.std.proofs.lemmas.List.{length-drop}
 use Rattle.ikl_base.specs.Address.{are_zero_from, bits_of, is_clear_from}
 use Rattle.ikl_base.specs.declared.address.Addr.{Addr}
@@ -56,7 +55,8 @@ serial_size text h = middle (nat_le 1 (length text)) (list_all is_word_octet tex
 
 front_size : (front name : List ℕ) → length front ≤ 4 → has_front front name ≡ true → length name ≤ 64
 front_size front name short h =
-    let long = and_parts (nat_le (length front) (length name)) (bytes_eq (take (length front) name) front && is_serial (drop (length front) name)) h in
+    let long = and_parts (nat_le (length front) (length name)) (bytes_eq (take (length front) name) front && is_serial (drop
+    (length front) name)) h in
     let parts = and_parts (bytes_eq (take (length front) name) front) (is_serial (drop (length front) name)) long.1 in
     let rest = serial_size (drop (length front) name) parts.1 in
     let size = length-drop (length front) name in

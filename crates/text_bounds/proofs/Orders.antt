@@ -1,5 +1,5 @@
 -- Every order can be written.
-use Rattle.std.proofs.Common.{◌≡◌, ◌+◌, ◌*◌, ◌<◌, ◌≤◌, ◌&&◌, not, nat_lt, IsTrue, ℕ, Bool, true, false, List, [], ◌∷◌, ◌++◌, codes, length, All, None, if◌then◌else◌, refl, ap, ◌∙◌, arith, length-append}
+use Rattle.std.proofs.Common.{◌≡◌, ◌+◌, ◌*◌, ◌<◌, ◌≤◌, not, nat_lt, IsTrue, ℕ, Bool, true, false, List, [], ◌∷◌, ◌++◌, codes, length, None, if◌then◌else◌, refl, ◌∙◌, arith, length-append}
 use Rattle.std.specs.List.{AllByRecursion, flat_map, list_all, list_any}
 use Rattle.std.proofs.lemmas.Bool.{agree_below, agree_below_at, and_parts, and_from, not-false}
 use Rattle.std.proofs.lemmas.Bool.Decides.{nat_tests}
@@ -21,11 +21,11 @@ use Rattle.yang_values.specs.Addresses.{IsAddress, address_text}
 use Rattle.yang_values.proofs.PrefixText.{address_plain}
 use Rattle.json_values.specs.Written.{all_policies, one_policy, only, spd_entries_data, spd_entry_items}
 use Rattle.json_tree.specs.SadEntryWritten.{one_sad_entry, sad_entry_data}
-use Rattle.json_tree.proofs.Passed.{first_none, half_octets, no_fault, passed_half, path_octets}
+use Rattle.json_tree.proofs.Passed.{first_none, half_octets, no_fault, path_octets}
 use Rattle.rc_http.specs.Written.{is_target, is_target_octet, IsWritableRequest}
 use Rattle.rc_request.specs.Paths.{escape_octet, escaped, half_path, is_unreserved, policy_path}
 use Rattle.rc_resource.specs.Messages.{host_text, order_message, IsOrder}
-use Rattle.notice_lines.proofs.Text.{IsSized, AreSizedItems, sized_array, sized_item, sized_no_items}
+use Rattle.notice_lines.proofs.Text.{AreSizedItems, sized_array, sized_item, sized_no_items}
 use Rattle.text_bounds.proofs.Fields.{asking_writable, is_seen, seen_octets}
 use Rattle.text_bounds.proofs.Names.{address_size, half_size, policy_size}
 use Rattle.text_bounds.proofs.Values.{IsSizedHalf, IsSizedPolicy, same, sized_entries, sized_half, sized_only}
@@ -41,12 +41,14 @@ seen_escaped = refl
 octet_small : (c : ℕ) → is_path_octet c ≡ true → c < 256
 octet_small c h = grind (arith, nat_tests, h)
 
-all_escaped : (p : ℕ → Bool) → agree_below (λ b. list_all p (escape_octet b)) (λ b. true) 256 ≡ true → (name : List ℕ) → list_all is_path_octet name ≡ true → list_all p (escaped name) ≡ true
+all_escaped : (p : ℕ → Bool) → agree_below (λ b. list_all p (escape_octet b)) (λ b. true) 256 ≡ true → (name : List ℕ)
+    → list_all is_path_octet name ≡ true → list_all p (escaped name) ≡ true
 unfolding escaped
 all_escaped p each [] h = refl
 all_escaped p each (b ∷ bs) h =
     let parts = and_parts (is_path_octet b) (list_all is_path_octet bs) h in
-    let one : list_all p (escape_octet b) ≡ true = agree_below_at (λ c. list_all p (escape_octet c)) (λ c. true) 256 b each (octet_small b parts.0) in
+    let one : list_all p (escape_octet b) ≡ true = agree_below_at (λ c. list_all p (escape_octet c)) (λ c. true) 256 b each
+    (octet_small b parts.0) in
     list_all-append p (escape_octet b) (flat_map escape_octet bs) ∙ and_from _ _ one (all_escaped p each bs parts.1)
 
 one_size : (t : Bool) (a b c d : ℕ) → length (if t then a ∷ [] else b ∷ c ∷ d ∷ []) ≤ 3
@@ -68,7 +70,8 @@ pub record IsPath (p : List ℕ) : Type 0 where
   pub seen : list_all is_seen p ≡ true
   pub size : length p ≤ 300
 
-behind_front : (p : ℕ → Bool) (front name : List ℕ) → list_all p front ≡ true → list_all p (escaped name) ≡ true → list_all p (front ++ escaped name) ≡ true
+behind_front : (p : ℕ → Bool) (front name : List ℕ) → list_all p front ≡ true → list_all p (escaped name) ≡ true
+    → list_all p (front ++ escaped name) ≡ true
 behind_front p front name f e = list_all-append p front (escaped name) ∙ and_from _ _ f e
 
 path_size : (front name : List ℕ) → length front ≤ 100 → length name ≤ 64 → length (front ++ escaped name) ≤ 300
@@ -83,9 +86,11 @@ positive n h = grind (arith, nat_tests, h)
 pub half_is_path : (name : List ℕ) → list_all is_path_octet name ≡ true → length name ≤ 64 → IsPath (half_path name)
 half_is_path name octets short =
     let front : List ℕ = codes "/restconf/data/ietf-i2nsf-ikeless:ipsec-ikeless/sad/sad-entry=" in
-    let both : length (half_path name) ≡ length (codes "/restconf/data/ietf-i2nsf-ikeless:ipsec-ikeless/sad/sad-entry=") + length (escaped name) = length-append front (escaped name) in
+    let both : length (half_path name) ≡ length (codes "/restconf/data/ietf-i2nsf-ikeless:ipsec-ikeless/sad/sad-entry=") + length
+    (escaped name) = length-append front (escaped name) in
     record {
-      target = and_from _ _ (positive (length (half_path name)) (omega (arith, both))) (behind_front is_target_octet front name refl (all_escaped is_target_octet targets_escaped name octets));
+      target = and_from _ _ (positive (length (half_path name)) (omega (arith, both))) (behind_front is_target_octet front name refl
+          (all_escaped is_target_octet targets_escaped name octets));
       seen = behind_front is_seen front name refl (all_escaped is_seen seen_escaped name octets);
       size = path_size front name (omega arith) short;
     }
@@ -93,9 +98,11 @@ half_is_path name octets short =
 pub policy_is_path : (name : List ℕ) → list_all is_path_octet name ≡ true → length name ≤ 64 → IsPath (policy_path name)
 policy_is_path name octets short =
     let front : List ℕ = codes "/restconf/data/ietf-i2nsf-ikeless:ipsec-ikeless/spd/spd-entry=" in
-    let both : length (policy_path name) ≡ length (codes "/restconf/data/ietf-i2nsf-ikeless:ipsec-ikeless/spd/spd-entry=") + length (escaped name) = length-append front (escaped name) in
+    let both : length (policy_path name) ≡ length (codes "/restconf/data/ietf-i2nsf-ikeless:ipsec-ikeless/spd/spd-entry=") + length
+    (escaped name) = length-append front (escaped name) in
     record {
-      target = and_from _ _ (positive (length (policy_path name)) (omega (arith, both))) (behind_front is_target_octet front name refl (all_escaped is_target_octet targets_escaped name octets));
+      target = and_from _ _ (positive (length (policy_path name)) (omega (arith, both))) (behind_front is_target_octet front name refl
+          (all_escaped is_target_octet targets_escaped name octets));
       seen = behind_front is_seen front name refl (all_escaped is_seen seen_escaped name octets);
       size = path_size front name (omega arith) short;
     }
@@ -105,7 +112,8 @@ policy_is_path name octets short =
 host_seen : (a : Addr) → IsAddress a → list_all is_seen (host_text a) ≡ true
 host_seen (V4 octets) h = seen_octets (address_text (V4 octets)) (address_plain (V4 octets) h)
 host_seen (V6 octets) h =
-    and_from _ _ refl (list_all-append is_seen (address_text (V6 octets)) (93 ∷ []) ∙ and_from _ _ (seen_octets (address_text (V6 octets)) (address_plain (V6 octets) h)) refl)
+    and_from _ _ refl (list_all-append is_seen (address_text (V6 octets)) (93 ∷ []) ∙ and_from _ _ (seen_octets (address_text
+    (V6 octets)) (address_plain (V6 octets) h)) refl)
 
 host_size : (a : Addr) → IsAddress a → length (host_text a) ≤ 100
 host_size (V4 octets) h = let short = address_size (V4 octets) h in omega (arith, short)
@@ -157,7 +165,13 @@ passed_entry e h =
     let fifth = no_fault (has_empty_range e.selector) faults.EmptyRange _ fourth.1 in
     let sixth = no_fault (has_many_ranges e.selector) (faults.Unsupported features.Ports) _ fifth.1 in
     let name = not-false _ first.0 in
-    record { octets = half_octets e.name name; short = half_size e.name name; key = key_by (length e.key) (not-false _ third.0); few = sixth.0 }
+    record {
+      octets = half_octets e.name name;
+      short = half_size e.name name;
+      key = key_by (length e.key)
+          (not-false _ third.0);
+      few = sixth.0;
+    }
 
 -- ---- bodies
 

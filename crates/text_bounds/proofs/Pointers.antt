@@ -17,7 +17,7 @@ use Rattle.json_values.specs.Leaves.{action_leaf, address_leaf, count_or, df_lea
 use Rattle.json_values.specs.Members.{config_shape, encryption_shape, limits_shape, policy_shape, processing_shape, range_shape, sad_entry_shape, selector_shape, soft_shape, spd_entry_shape, suite_shape, tunnel_shape}
 use Rattle.json_values.specs.Shapes.{each_item, has_unknown, items_read, lacks, needed_data, one_read, only_in, shape, shape_of}
 use Rattle.json_tree.specs.SelectorRead.{limits_from, ports_in, range_in, selector_in, selector_of, side_in}
-use Rattle.json_tree.specs.PolicyRead.{all_entries, database_in, entries_in, one_entry, one_spd_entry_in, policy_in, policy_of, processing_in, processing_of, spd_entry_in, spd_in, suite_back, suite_front, suite_in, suite_of, unset_in, window_in, word_in}
+use Rattle.json_tree.specs.PolicyRead.{all_entries, database_in, one_entry, one_spd_entry_in, policy_in, policy_of, processing_in, processing_of, spd_entry_in, spd_in, suite_back, suite_front, suite_in, suite_of, unset_in, word_in}
 use Rattle.json_tree.specs.SadEntryRead.{config_in, config_of, encryption_in, lifetimes_in, limits_in, limits_of, one_half, one_sad_entry_in, sad_entry_in, sealing_in, soft_in, soft_of, suite_key, suite_key_of, traffic_in, tunnel_in, tunnel_of}
 
 -- ---- texts
@@ -75,7 +75,8 @@ good_ok n x = record { is = tt }
 good_here : {A : Type 0} (n : ℕ) (kind : Kind) → IsGood {A = A} n (Err (here kind))
 good_here n kind = record { is = record { octets = refl; size = omega arith } }
 
-good_then : {A B : Type 0} (n : ℕ) (r : Result A Fault) (f : A → Result B Fault) → IsGood n r → ((x : A) → IsGood n (f x)) → IsGood n (r >>= f)
+good_then : {A B : Type 0} (n : ℕ) (r : Result A Fault) (f : A → Result B Fault) → IsGood n r → ((x : A) → IsGood n (f x))
+    → IsGood n (r >>= f)
 good_then n (Ok x) f g h = h x
 good_then n (Err e) f g h = record { is = g.is }
 
@@ -83,7 +84,8 @@ good_choice : {A : Type 0} (n : ℕ) (b : Bool) (x y : Result A Fault) → IsGoo
 good_choice n true x y p q = p
 good_choice n false x y p q = q
 
-good_within : {A : Type 0} (m n : ℕ) (name : List ℕ) (r : Result A Fault) → are_ascii name ≡ true → length name + 1 + m ≤ n → IsGood m r → IsGood n (within name r)
+good_within : {A : Type 0} (m n : ℕ) (name : List ℕ) (r : Result A Fault) → are_ascii name ≡ true → length name + 1 + m ≤ n
+    → IsGood m r → IsGood n (within name r)
 good_within m n name (Ok x) ascii fits g = record { is = tt }
 good_within m n name (Err f) ascii fits g = record { is = deeper_text m n name f.path ascii fits g.is }
 
@@ -99,14 +101,16 @@ member_fault n name kinds.Unsupported ascii fits = member_text n name ascii fits
 member_fault n name kinds.Name ascii fits = member_text n name ascii fits
 member_fault n name kinds.Full ascii fits = member_text n name ascii fits
 
-good_member : {A : Type 0} (n : ℕ) (name : List ℕ) (r : Result A Kind) → are_ascii name ≡ true → length name + 1 ≤ n → IsGood n (at_member name r)
+good_member : {A : Type 0} (n : ℕ) (name : List ℕ) (r : Result A Kind) → are_ascii name ≡ true → length name + 1 ≤ n
+    → IsGood n (at_member name r)
 good_member n name (Ok x) ascii fits = record { is = tt }
 good_member n name (Err kind) ascii fits = record { is = member_fault n name kind ascii fits }
 
 good_shape_of : (n : ℕ) (names needed : List (List ℕ)) (d : Data) (o : Option Members) → IsGood n (shape_of names needed d o)
 good_shape_of n names needed d None = good_here n kinds.Form
 good_shape_of n names needed d (Some ms) =
-    good_choice n (has_unknown names ms) _ _ (good_here n kinds.Unknown) (good_choice n (list_any (lacks d) needed) _ _ (good_here n kinds.Missing) (good_ok n tt))
+    good_choice n (has_unknown names ms) _ _ (good_here n kinds.Unknown) (good_choice n (list_any (lacks d) needed) _ _
+    (good_here n kinds.Missing) (good_ok n tt))
 
 good_shape : (n : ℕ) (names needed : List (List ℕ)) (d : Data) → IsGood n (shape names needed d)
 unfolding shape
@@ -127,17 +131,21 @@ good_checked n x (Some fault) = record { is = record { octets = refl; size = ome
 good_item : {A : Type 0} (m : ℕ) (i : ℕ) (r : Result A Fault) → IsGood m r → IsGood (65 + m) (within (decimal i) r)
 good_item m i r g = let text = decimal_text i in let p = text.size in good_within m (65 + m) (decimal i) r text.octets (omega (arith, p)) g
 
-good_each : {A : Type 0} (m : ℕ) (f : Data → Result A Fault) → ((d : Data) → IsGood m (f d)) → (i : ℕ) (ds : Items) → IsGood (65 + m) (each_item f i ds)
+good_each : {A : Type 0} (m : ℕ) (f : Data → Result A Fault) → ((d : Data) → IsGood m (f d)) → (i : ℕ) (ds : Items)
+    → IsGood (65 + m) (each_item f i ds)
 unfolding each_item
 good_each m f g i no_items = good_ok (65 + m) []
 good_each m f g i (item d ds) =
-    good_then (65 + m) _ _ (good_item m i (f d) (g d)) (λ x. good_then (65 + m) _ _ (good_each m f g (i + 1) ds) (λ xs. good_ok (65 + m) (x ∷ xs)))
+    good_then (65 + m) _ _ (good_item m i (f d) (g d)) (λ x. good_then (65 + m) _ _ (good_each m f g (i + 1) ds) (λ xs. good_ok (65 + m)
+    (x ∷ xs)))
 
-good_items : {A : Type 0} (m : ℕ) (f : Data → Result A Fault) → ((d : Data) → IsGood m (f d)) → (o : Option Items) → IsGood (65 + m) (items_read f o)
+good_items : {A : Type 0} (m : ℕ) (f : Data → Result A Fault) → ((d : Data) → IsGood m (f d)) → (o : Option Items)
+    → IsGood (65 + m) (items_read f o)
 good_items m f g None = good_here (65 + m) kinds.Form
 good_items m f g (Some ds) = good_each m f g 0 ds
 
-good_one : {A : Type 0} (m : ℕ) (f : Data → Result A Fault) → ((d : Data) → IsGood m (f d)) → (o : Option Items) → IsGood (65 + m) (one_read f o)
+good_one : {A : Type 0} (m : ℕ) (f : Data → Result A Fault) → ((d : Data) → IsGood m (f d)) → (o : Option Items)
+    → IsGood (65 + m) (one_read f o)
 good_one m f g None = good_here (65 + m) kinds.Form
 good_one m f g (Some no_items) = good_here (65 + m) kinds.Missing
 good_one m f g (Some (item d no_items)) = good_item m 0 (f d) (g d)
@@ -150,13 +158,16 @@ unfolding range_in range_shape
 good_range d =
     good_then 10 _ _ (good_shape 10 _ _ d) (λ done.
     good_then 10 _ _ (good_member 10 (codes "end") (needed_number 0 65535 (get (codes "end") d)) refl (omega arith)) (λ end.
-    good_then 10 _ _ (good_member 10 (codes "start") (needed_number 0 65535 (get (codes "start") d)) refl (omega arith)) (λ start. good_ok 10 _)))
+    good_then 10 _ _ (good_member 10 (codes "start") (needed_number 0 65535 (get (codes "start") d)) refl (omega arith))
+    (λ start. good_ok 10 _)))
 
 good_ports : (name : List ℕ) → are_ascii name ≡ true → length name ≤ 12 → (o : Option Data) → IsGood 90 (ports_in name o)
 good_ports name ascii short None = good_ok 90 []
-good_ports name ascii short (Some d) = good_within 75 90 name _ ascii (omega (arith, short)) (good_items 10 range_in good_range (as_array d))
+good_ports name ascii short (Some d) = good_within 75 90 name _ ascii (omega (arith, short)) (good_items 10 range_in good_range
+    (as_array d))
 
-good_side : (ports prefix : List ℕ) (d : Data) → are_ascii ports ≡ true → length ports ≤ 12 → are_ascii prefix ≡ true → length prefix ≤ 13 → IsGood 90 (side_in ports prefix d)
+good_side : (ports prefix : List ℕ) (d : Data) → are_ascii ports ≡ true → length ports ≤ 12 → are_ascii prefix ≡ true
+    → length prefix ≤ 13 → IsGood 90 (side_in ports prefix d)
 unfolding side_in
 good_side ports prefix d a p b q =
     good_then 90 _ _ (good_ports ports a p (get ports d)) (λ ranges.
@@ -168,7 +179,8 @@ good_selector d =
     good_then 90 _ _ (good_shape 90 _ _ d) (λ done.
     good_then 90 _ _ (good_member 90 (codes "inner-protocol") (protocol_leaf (get (codes "inner-protocol") d)) refl (omega arith)) (λ proto.
     good_then 90 _ _ (good_side (codes "local-ports") (codes "local-prefix") d refl (omega arith) refl (omega arith)) (λ local.
-    good_then 90 _ _ (good_side (codes "remote-ports") (codes "remote-prefix") d refl (omega arith) refl (omega arith)) (λ remote. good_ok 90 _))))
+    good_then 90 _ _ (good_side (codes "remote-ports") (codes "remote-prefix") d refl (omega arith) refl (omega arith))
+    (λ remote. good_ok 90 _))))
 
 good_selector_of : (o : Option Data) → IsGood 110 (selector_of o)
 good_selector_of None = good_here 110 kinds.Missing
@@ -195,9 +207,11 @@ unfolding suite_in suite_front suite_back suite_shape
 good_suite d =
     good_then 30 _ _ (good_shape 30 _ _ d) (λ a. good_then 30 _ _
     (good_then 30 _ _ (good_unset 30 (codes "ext-seq-num") d refl (omega arith)) (λ b.
-    good_then 30 _ _ (good_word 30 (codes "mode") (codes "tunnel") d refl (omega arith)) (λ c. good_unset 30 (codes "pfp-flag") d refl (omega arith))))
+    good_then 30 _ _ (good_word 30 (codes "mode") (codes "tunnel") d refl (omega arith)) (λ c. good_unset 30 (codes "pfp-flag") d refl
+    (omega arith))))
     (λ front. good_then 30 _ _ (good_word 30 (codes "protocol-parameters") (codes "esp") d refl (omega arith)) (λ b.
-    good_then 30 _ _ (good_unset 30 (codes "seq-overflow") d refl (omega arith)) (λ c. good_unset 30 (codes "stateful-frag-check") d refl (omega arith)))))
+    good_then 30 _ _ (good_unset 30 (codes "seq-overflow") d refl (omega arith)) (λ c. good_unset 30
+    (codes "stateful-frag-check") d refl (omega arith)))))
 
 good_suite_of : (o : Option Data) → IsGood 45 (suite_of o)
 good_suite_of None = good_ok 45 tt
@@ -218,7 +232,8 @@ good_policy : (d : Data) → IsGood 110 (policy_in d)
 unfolding policy_in policy_shape
 good_policy d =
     good_then 110 _ _ (good_shape 110 _ _ d) (λ done.
-    good_then 110 _ _ (good_member 110 (codes "anti-replay-window-size") (number_or 64 32 4096 (get (codes "anti-replay-window-size") d)) refl (omega arith)) (λ window.
+    good_then 110 _ _ (good_member 110 (codes "anti-replay-window-size") (number_or 64 32 4096 (get
+    (codes "anti-replay-window-size") d)) refl (omega arith)) (λ window.
     good_then 110 _ _ (good_processing_of (get (codes "processing-info") d)) (λ action.
     good_then 110 _ _ (good_selector_of (get (codes "traffic-selector") d)) (λ selector. good_ok 110 _))))
 
@@ -261,12 +276,14 @@ good_encryption : (d : Data) → IsGood 30 (encryption_in d)
 unfolding encryption_in encryption_shape
 good_encryption d =
     good_then 30 _ _ (good_shape 30 _ _ d) (λ done.
-    good_then 30 _ _ (good_member 30 (codes "encryption-algorithm") (fixed_number 20 (get (codes "encryption-algorithm") d)) refl (omega arith)) (λ algorithm. good_member 30 (codes "key") (key_leaf (get (codes "key") d)) refl (omega arith)))
+    good_then 30 _ _ (good_member 30 (codes "encryption-algorithm") (fixed_number 20 (get (codes "encryption-algorithm") d)) refl
+    (omega arith)) (λ algorithm. good_member 30 (codes "key") (key_leaf (get (codes "key") d)) refl (omega arith)))
 
 good_suite_key : (d : Data) → IsGood 45 (suite_key d)
 unfolding suite_key
 good_suite_key d =
-    good_then 45 _ _ (good_only 45 (codes "encryption") d) (λ inner. good_within 30 45 (codes "encryption") _ refl (omega arith) (good_encryption inner))
+    good_then 45 _ _ (good_only 45 (codes "encryption") d) (λ inner. good_within 30 45 (codes "encryption") _ refl (omega arith)
+    (good_encryption inner))
 
 good_suite_key_of : (o : Option Data) → IsGood 110 (suite_key_of o)
 good_suite_key_of None = good_here 110 kinds.Missing
@@ -275,7 +292,8 @@ good_suite_key_of (Some d) = good_within 45 110 (codes "esp-sa") _ refl (omega a
 good_sealing : (d : Data) → IsGood 110 (sealing_in d)
 unfolding sealing_in
 good_sealing d =
-    good_then 110 _ _ (good_member 110 (codes "anti-replay-window-size") (number_or 64 32 4096 (get (codes "anti-replay-window-size") d)) refl (omega arith)) (λ window.
+    good_then 110 _ _ (good_member 110 (codes "anti-replay-window-size") (number_or 64 32 4096 (get
+    (codes "anti-replay-window-size") d)) refl (omega arith)) (λ window.
     good_then 110 _ _ (good_suite_key_of (get (codes "esp-sa") d)) (λ key.
     good_then 110 _ _ (good_unset 110 (codes "ext-seq-num") d refl (omega arith)) (λ narrow.
     good_then 110 _ _ (good_word 110 (codes "mode") (codes "tunnel") d refl (omega arith)) (λ mode.
@@ -312,7 +330,8 @@ good_tunnel d =
     good_then 10 _ _ (good_shape 10 _ _ d) (λ done.
     good_then 10 _ _ (good_member 10 (codes "df-bit") (df_leaf (get (codes "df-bit") d)) refl (omega arith)) (λ df.
     good_then 10 _ _ (good_member 10 (codes "local") (address_leaf (get (codes "local") d)) refl (omega arith)) (λ local.
-    good_then 10 _ _ (good_member 10 (codes "remote") (address_leaf (get (codes "remote") d)) refl (omega arith)) (λ remote. good_ok 10 _))))
+    good_then 10 _ _ (good_member 10 (codes "remote") (address_leaf (get (codes "remote") d)) refl (omega arith))
+    (λ remote. good_ok 10 _))))
 
 good_tunnel_of : (o : Option Data) → IsGood 110 (tunnel_of o)
 good_tunnel_of None = good_here 110 kinds.Missing

@@ -1,11 +1,11 @@
 -- What refuses a request is sound.
-use Rattle.std.proofs.Common.{◌≡◌, ◌≤◌, ℕ, Bool, true, false, List, [], ◌∷◌, codes, length, cond, is_some, Option, Some, None, Result, Ok, Err, IsUtf8, subst, refl, arith}
+use Rattle.std.proofs.Common.{◌≡◌, ℕ, Bool, true, false, List, codes, cond, is_some, Option, Some, None, Result, Ok, Err, IsUtf8, subst, refl, arith}
 use Rattle.std.specs.Prelude.{IfSome}
 use Rattle.std.specs.Str.{bytes_eq}
+use Rattle.std.proofs.lemmas.Bool.{false≢true}
 use Rattle.json.proofs.Printed.Utf8.{IsUtf8-are_ascii}
 use Rattle.serde_json.specs.Data.{Data}
 use Rattle.ikeless_tree.specs.declared.entry.SpdEntry.{SpdEntry}
-use Rattle.ikeless_tree.specs.declared.sad.SadEntry.{SadEntry}
 use Rattle.ikeless_tree.specs.declared.reply.App.{App}
 use Rattle.ikeless_tree.specs.declared.reply.Tag.{Tag}
 use Rattle.json_values.specs.declared.fault.CodecFault.{CodecFault}
@@ -19,7 +19,6 @@ use Rattle.json_codec.specs.Bodies.{body_read, json_of, sad_entry_of, spd_entry_
 use Rattle.reply_table.specs.declared.ask.Ask.{Ask}
 use Rattle.reply_table.specs.declared.ask.Ask.TheVariants as asks
 use Rattle.reply_table.specs.declared.ask.Place.{Place}
-use Rattle.reply_table.specs.declared.ask.Place.TheVariants as places
 use Rattle.rc_http.specs.declared.message.HttpFault.{HttpFault}
 use Rattle.rc_http.specs.declared.message.HttpFault.TheVariants as faults
 use Rattle.rc_http.specs.declared.message.HttpMessage.{HttpMessage}
@@ -119,45 +118,62 @@ allowed (resources.SadEntry name) = record { status = refl; value = refl; size =
 
 -- what is there
 abbrev taken : {X : Type 0} (o : Option X) → is_some o ≡ true → X
-taken None e = absurd (let no : ⊥ = cc in no)
+taken None e = absurd (false≢true e)
 taken (Some x) e = x
 
 -- each resource by the method
 
-on_spd : (m : HttpMessage) (get put post delete : Bool) → bytes_eq m.method (codes "GET") ≡ get → bytes_eq m.method (codes "PUT") ≡ put → bytes_eq m.method (codes "POST") ≡ post
-    → bytes_eq m.method (codes "DELETE") ≡ delete → AreSound (by_operation resources.Spd (operation_by resources.Spd (method_of m.method)) m)
+on_spd : (m : HttpMessage) (get put post delete : Bool) → bytes_eq m.method (codes "GET") ≡ get → bytes_eq m.method (codes "PUT") ≡ put
+    → bytes_eq m.method (codes "POST") ≡ post
+    → bytes_eq m.method (codes "DELETE") ≡ delete → AreSound (by_operation resources.Spd (operation_by resources.Spd
+    (method_of m.method)) m)
 unfolding method_of
-on_spd m true put post delete a b c d = rw a (sound_unless (taken (operation_by resources.Spd (method_of (codes "GET"))) refl) (behind_mark 63 m.target) m.body (asks_something asks.GetSpd))
-on_spd m false true post delete a b c d = rw (a, b) (sound_unless (taken (operation_by resources.Spd (method_of (codes "PUT"))) refl) (behind_mark 63 m.target) m.body (sound_asked asks.PutSpd (spd_of m.body) (list_body m.body)))
+on_spd m true put post delete a b c d = rw a (sound_unless (taken (operation_by resources.Spd (method_of (codes "GET"))) refl)
+    (behind_mark 63 m.target) m.body (asks_something asks.GetSpd))
+on_spd m false true post delete a b c d = rw (a, b) (sound_unless (taken (operation_by resources.Spd (method_of (codes "PUT"))) refl)
+    (behind_mark 63 m.target) m.body (sound_asked asks.PutSpd (spd_of m.body) (list_body m.body)))
 on_spd m false false true delete a b c d = rw (a, b, c) (sound_place (place_of (behind_mark 63 m.target)) m.body)
 on_spd m false false false true a b c d = rw (a, b, c, d) (record { is = Allowed tt (allowed resources.Spd) })
 on_spd m false false false false a b c d = rw (a, b, c, d) (record { is = Allowed tt (allowed resources.Spd) })
 
-on_spd_entry : (name : List ℕ) (m : HttpMessage) (get put post delete : Bool) → bytes_eq m.method (codes "GET") ≡ get → bytes_eq m.method (codes "PUT") ≡ put → bytes_eq m.method (codes "POST") ≡ post
-    → bytes_eq m.method (codes "DELETE") ≡ delete → AreSound (by_operation (resources.SpdEntry name) (operation_by (resources.SpdEntry name) (method_of m.method)) m)
+on_spd_entry : (name : List ℕ) (m : HttpMessage) (get put post delete : Bool) → bytes_eq m.method (codes "GET") ≡ get
+    → bytes_eq m.method (codes "PUT") ≡ put → bytes_eq m.method (codes "POST") ≡ post
+    → bytes_eq m.method (codes "DELETE") ≡ delete → AreSound (by_operation (resources.SpdEntry name) (operation_by
+    (resources.SpdEntry name) (method_of m.method)) m)
 unfolding method_of
-on_spd_entry name m true put post delete a b c d = rw a (sound_unless (taken (operation_by (resources.SpdEntry name) (method_of (codes "GET"))) refl) (behind_mark 63 m.target) m.body (asks_something (asks.GetSpdEntry name)))
-on_spd_entry name m false true post delete a b c d = rw (a, b) (sound_unless (taken (operation_by (resources.SpdEntry name) (method_of (codes "PUT"))) refl) (behind_mark 63 m.target) m.body (sound_named name (spd_entry_of m.body) (entry_body m.body)))
+on_spd_entry name m true put post delete a b c d = rw a (sound_unless (taken (operation_by (resources.SpdEntry name) (method_of
+    (codes "GET"))) refl) (behind_mark 63 m.target) m.body (asks_something (asks.GetSpdEntry name)))
+on_spd_entry name m false true post delete a b c d = rw (a, b) (sound_unless (taken (operation_by (resources.SpdEntry name) (method_of
+    (codes "PUT"))) refl) (behind_mark 63 m.target) m.body (sound_named name (spd_entry_of m.body) (entry_body m.body)))
 on_spd_entry name m false false true delete a b c d = rw (a, b, c) (record { is = Allowed tt (allowed (resources.SpdEntry name)) })
-on_spd_entry name m false false false true a b c d = rw (a, b, c, d) (sound_unless (taken (operation_by (resources.SpdEntry name) (method_of (codes "DELETE"))) refl) (behind_mark 63 m.target) m.body (asks_something (asks.DeleteSpdEntry name)))
+on_spd_entry name m false false false true a b c d = rw (a, b, c, d) (sound_unless (taken (operation_by (resources.SpdEntry name)
+    (method_of (codes "DELETE"))) refl) (behind_mark 63 m.target) m.body (asks_something (asks.DeleteSpdEntry name)))
 on_spd_entry name m false false false false a b c d = rw (a, b, c, d) (record { is = Allowed tt (allowed (resources.SpdEntry name)) })
 
-on_sad : (m : HttpMessage) (get put post delete : Bool) → bytes_eq m.method (codes "GET") ≡ get → bytes_eq m.method (codes "PUT") ≡ put → bytes_eq m.method (codes "POST") ≡ post
-    → bytes_eq m.method (codes "DELETE") ≡ delete → AreSound (by_operation resources.Sad (operation_by resources.Sad (method_of m.method)) m)
+on_sad : (m : HttpMessage) (get put post delete : Bool) → bytes_eq m.method (codes "GET") ≡ get → bytes_eq m.method (codes "PUT") ≡ put
+    → bytes_eq m.method (codes "POST") ≡ post
+    → bytes_eq m.method (codes "DELETE") ≡ delete → AreSound (by_operation resources.Sad (operation_by resources.Sad
+    (method_of m.method)) m)
 unfolding method_of
-on_sad m true put post delete a b c d = rw a (sound_unless (taken (operation_by resources.Sad (method_of (codes "GET"))) refl) (behind_mark 63 m.target) m.body (asks_something asks.GetSad))
+on_sad m true put post delete a b c d = rw a (sound_unless (taken (operation_by resources.Sad (method_of (codes "GET"))) refl)
+    (behind_mark 63 m.target) m.body (asks_something asks.GetSad))
 on_sad m false true post delete a b c d = rw (a, b) (record { is = Allowed tt (allowed resources.Sad) })
-on_sad m false false true delete a b c d = rw (a, b, c) (sound_unless (taken (operation_by resources.Sad (method_of (codes "POST"))) refl) (behind_mark 63 m.target) m.body (sound_asked asks.PostSad (sad_entry_of m.body) (half_body m.body)))
+on_sad m false false true delete a b c d = rw (a, b, c) (sound_unless (taken (operation_by resources.Sad (method_of
+    (codes "POST"))) refl) (behind_mark 63 m.target) m.body (sound_asked asks.PostSad (sad_entry_of m.body) (half_body m.body)))
 on_sad m false false false true a b c d = rw (a, b, c, d) (record { is = Allowed tt (allowed resources.Sad) })
 on_sad m false false false false a b c d = rw (a, b, c, d) (record { is = Allowed tt (allowed resources.Sad) })
 
-on_sad_entry : (name : List ℕ) (m : HttpMessage) (get put post delete : Bool) → bytes_eq m.method (codes "GET") ≡ get → bytes_eq m.method (codes "PUT") ≡ put → bytes_eq m.method (codes "POST") ≡ post
-    → bytes_eq m.method (codes "DELETE") ≡ delete → AreSound (by_operation (resources.SadEntry name) (operation_by (resources.SadEntry name) (method_of m.method)) m)
+on_sad_entry : (name : List ℕ) (m : HttpMessage) (get put post delete : Bool) → bytes_eq m.method (codes "GET") ≡ get
+    → bytes_eq m.method (codes "PUT") ≡ put → bytes_eq m.method (codes "POST") ≡ post
+    → bytes_eq m.method (codes "DELETE") ≡ delete → AreSound (by_operation (resources.SadEntry name) (operation_by
+    (resources.SadEntry name) (method_of m.method)) m)
 unfolding method_of
-on_sad_entry name m true put post delete a b c d = rw a (sound_unless (taken (operation_by (resources.SadEntry name) (method_of (codes "GET"))) refl) (behind_mark 63 m.target) m.body (asks_something (asks.GetSadEntry name)))
+on_sad_entry name m true put post delete a b c d = rw a (sound_unless (taken (operation_by (resources.SadEntry name) (method_of
+    (codes "GET"))) refl) (behind_mark 63 m.target) m.body (asks_something (asks.GetSadEntry name)))
 on_sad_entry name m false true post delete a b c d = rw (a, b) (record { is = Allowed tt (allowed (resources.SadEntry name)) })
 on_sad_entry name m false false true delete a b c d = rw (a, b, c) (record { is = Allowed tt (allowed (resources.SadEntry name)) })
-on_sad_entry name m false false false true a b c d = rw (a, b, c, d) (sound_unless (taken (operation_by (resources.SadEntry name) (method_of (codes "DELETE"))) refl) (behind_mark 63 m.target) m.body (asks_something (asks.DeleteSad name)))
+on_sad_entry name m false false false true a b c d = rw (a, b, c, d) (sound_unless (taken (operation_by (resources.SadEntry name)
+    (method_of (codes "DELETE"))) refl) (behind_mark 63 m.target) m.body (asks_something (asks.DeleteSad name)))
 on_sad_entry name m false false false false a b c d = rw (a, b, c, d) (record { is = Allowed tt (allowed (resources.SadEntry name)) })
 
 sound_resource : (r : Option Resource) (m : HttpMessage) → AreSound (by_resource r m)

@@ -1,5 +1,5 @@
 -- Every reply can be written.
-use Rattle.std.proofs.Common.{◌≡◌, ◌+◌, ◌*◌, ◌≤◌, ◌&&◌, ◌||◌, ◌++◌, not, ℕ, Bool, true, false, List, [], ◌∷◌, codes, length, find, Option, Some, None, if◌then◌else◌, refl, subst, arith}
+use Rattle.std.proofs.Common.{◌≡◌, ◌≤◌, ◌&&◌, ◌++◌, not, ℕ, Bool, true, false, List, [], ◌∷◌, codes, length, find, Option, Some, None, if◌then◌else◌, refl, subst, arith}
 use Rattle.std.specs.Prelude.{IfSome}
 use Rattle.std.specs.List.{AllByRecursion, list_any}
 use Rattle.std.proofs.lemmas.List.Elements.{recursion_from_All}
@@ -28,7 +28,7 @@ use Rattle.reply_table.specs.declared.ask.Change.{Change}
 use Rattle.reply_table.specs.declared.ask.Change.TheVariants as changes
 use Rattle.reply_table.specs.declared.ask.Place.{Place}
 use Rattle.reply_table.specs.Order.{ask_of}
-use Rattle.reply_table.specs.Reply.{At_half, At_policy, Outcome, Shown, Halves, Half, Policies, Policy, absent, delete_sad, delete_spd_entry, done, exists, full, get_sad, has_point, has_policy, has_spi, is_row, is_sad_full, is_spd_full, made, new_row, no_point, post_sad, post_spd, put_at, put_spd_entry, refused, replaced, reply, show_half, show_policy, shows, spi_taken, with_sad, with_spd, without_policy, without_row}
+use Rattle.reply_table.specs.Reply.{At_half, At_policy, Outcome, Shown, Half, Policies, Policy, absent, done, exists, full, get_sad, has_point, has_policy, has_spi, is_row, is_sad_full, is_spd_full, made, new_row, no_point, post_sad, post_spd, put_at, put_spd_entry, refused, replaced, reply, show_half, show_policy, shows, spi_taken, with_sad, with_spd, without_policy, without_row}
 use Rattle.rc_http.specs.Written.{IsWritableResponse}
 use Rattle.rc_request.specs.Asks.{IsAsk}
 use Rattle.rc_resource.specs.Lists.{IsTree}
@@ -60,7 +60,8 @@ sends_refused status tag app t s =
 sends_done : (c : Change) (t : Tree) → Sends (done c t)
 sends_done c t = done_writable
 
-sends_policy_made : (name : List ℕ) (c : Change) (t : Tree) → (e : SpdEntry) → e.name ≡ name → spd_fault (e ∷ []) ≡ None → Sends (made (At_policy name) c t)
+sends_policy_made : (name : List ℕ) (c : Change) (t : Tree) → (e : SpdEntry) → e.name ≡ name → spd_fault (e ∷ []) ≡ None
+    → Sends (made (At_policy name) c t)
 sends_policy_made name c t e is h =
     let named = subst (λ n. is_spd_name n ≡ true) is (passed_name e h) in
     let path = policy_is_path name (path_octets name named) (policy_size name named) in
@@ -170,17 +171,20 @@ reply_sent t (asks.PutSpd list) is typed h = sends_done changes.Spd (with_spd t 
 reply_sent t (asks.PostSpd e place) is typed h = sends_posted_policy t e place h
 reply_sent t (asks.GetSpdEntry name) is typed h =
     sends_policy t (find (is_named name) t.spd)
-    (found IsEntry (is_named name) t.spd (are_entries t.spd (passed_policies t.spd is.policies) (recursion_from_All IsTypedPolicy t.spd typed.spd)))
+    (found IsEntry (is_named name) t.spd (are_entries t.spd (passed_policies t.spd is.policies)
+    (recursion_from_All IsTypedPolicy t.spd typed.spd)))
 reply_sent t (asks.PutSpdEntry e) is typed h = sends_put_policy t e h
 reply_sent t (asks.DeleteSpdEntry name) is typed h =
-    either (has_policy name t.spd) (done changes.Spd (with_spd t (without_policy name t.spd))) (absent t) (sends_done changes.Spd (with_spd t (without_policy name t.spd))) (sends_refused 404 tags.InvalidValue apps.Absent t status_404)
+    either (has_policy name t.spd) (done changes.Spd (with_spd t (without_policy name t.spd))) (absent t) (sends_done changes.Spd
+    (with_spd t (without_policy name t.spd))) (sends_refused 404 tags.InvalidValue apps.Absent t status_404)
 reply_sent t asks.GetSad is typed h = sends_halves t is typed.sad
 reply_sent t (asks.PostSad e) is typed h = sends_posted_half t e h
 reply_sent t (asks.GetSadEntry name) is typed h =
     sends_half t (find (is_row name) t.sad)
     (found IsRow (is_row name) t.sad (are_rows t.sad (sized_halves t.sad is.halves) (recursion_from_All IsTypedRow t.sad typed.sad)))
 reply_sent t (asks.DeleteSad name) is typed h =
-    either (list_any (is_row name) t.sad) (done (changes.Gone name) (with_sad t (without_row name t.sad))) (absent t) (sends_done (changes.Gone name) (with_sad t (without_row name t.sad))) (sends_refused 404 tags.InvalidValue apps.Absent t status_404)
+    either (list_any (is_row name) t.sad) (done (changes.Gone name) (with_sad t (without_row name t.sad))) (absent t) (sends_done
+    (changes.Gone name) (with_sad t (without_row name t.sad))) (sends_refused 404 tags.InvalidValue apps.Absent t status_404)
 
 order_asks : (o : Order) → IsOrder o → IsAsk (ask_of o)
 order_asks orders.Read h = tt
@@ -188,5 +192,6 @@ order_asks (orders.Policy list) h = h
 order_asks (orders.Put e) h = h
 order_asks (orders.Remove name) h = tt
 
-pub order_reply_sent : (t : Tree) (o : Order) → IsTree t → AreTypedRows t.sad → AreTypedPolicies t.spd → IsOrder o → IsWritableResponse (reply_message (reply_of (reply t (ask_of o))))
+pub order_reply_sent : (t : Tree) (o : Order) → IsTree t → AreTypedRows t.sad → AreTypedPolicies t.spd → IsOrder o
+    → IsWritableResponse (reply_message (reply_of (reply t (ask_of o))))
 order_reply_sent t o is rows policies h = reply_sent t (ask_of o) is (record { spd = policies; sad = rows }) (order_asks o h)

@@ -1,11 +1,11 @@
 -- Texts that stand in JSON as they are, and how long values are there.
-use Rattle.std.proofs.Common.{◌≡◌, ◌==◌, ◌+◌, ◌*◌, ◌<◌, ◌≤◌, ◌&&◌, not, nat_le, nat_lt, ℕ, Bool, true, false, List, [], ◌∷◌, ◌++◌, length, map, Ordering, Less, Equal, Greater, if◌then◌else◌, refl, ap, ap₂, ◌∙◌, arith, length-append}
+use Rattle.std.proofs.Common.{◌≡◌, ◌==◌, ◌+◌, ◌*◌, ◌≤◌, ◌&&◌, not, nat_le, ℕ, Bool, true, false, List, [], ◌∷◌, ◌++◌, length, map, Ordering, Less, Equal, Greater, if◌then◌else◌, refl, ap, ap₂, arith, length-append}
 use Rattle.std.specs.List.{list_all, join_with_byte}
 use Rattle.std.specs.Ordering.{nat_cmp, match_ordering}
 use Rattle.std.specs.Cmp.Lexicographic.{slice_cmp}
 use Rattle.std.proofs.lemmas.Bool.{and_parts, and_from}
 use Rattle.std.proofs.lemmas.Bool.Decides.{nat_tests}
-use Rattle.json.specs.Print.{escape_byte, escape, quoted}
+use Rattle.json.specs.Print.{escape, quoted}
 use Rattle.json.proofs.Printed.Strings.{escape_byte_plain}
 use Rattle.hex.specs.Hex.{lower_digits}
 use Rattle.hex.proofs.HexLemmas.{length-encode_with}
@@ -56,7 +56,8 @@ same_escaped : (s : List ℕ) → list_all is_plain s ≡ true → escape s ≡ 
 same_escaped [] all = refl
 same_escaped (c ∷ cs) all =
     let parts = and_parts (is_plain c) (list_all is_plain cs) all in
-    ap₂ (λ (a b : List ℕ). a ++ b) (escape_byte_plain c (no_quote c parts.0) (no_backslash c parts.0) (no_control c parts.0)) (same_escaped cs parts.1)
+    ap₂ (λ (a b : List ℕ). a ++ b) (escape_byte_plain c (no_quote c parts.0) (no_backslash c parts.0) (no_control c parts.0))
+    (same_escaped cs parts.1)
 
 pub quoted_plain : (s : List ℕ) → list_all is_plain s ≡ true → length (quoted s) ≡ length s + 2
 quoted_plain s all =
@@ -70,7 +71,8 @@ sized_text k s all short = let q = quoted_plain s all in record { size = omega (
 
 -- ---- members
 
-member_size : (k : List ℕ) (d : Data) (ms : Members) → length (members_text true (member k d ms)) ≡ length (quoted k) + length (compact_text d) + length (members_text true ms) + 2
+member_size : (k : List ℕ) (d : Data) (ms : Members)
+    → length (members_text true (member k d ms)) ≡ length (quoted k) + length (compact_text d) + length (members_text true ms) + 2
 member_size k d ms =
     let outer = length-append (quoted k) (58 ∷ (compact_text d ++ members_text true ms)) in
     let inner = length-append (compact_text d) (members_text true ms) in
@@ -82,7 +84,8 @@ order_size Less a b c n x y z = x
 order_size Equal a b c n x y z = y
 order_size Greater a b c n x y z = z
 
-put_size : (n : ℕ) (k : List ℕ) (d : Data) (ms : Members) → length (quoted k) + length (compact_text d) + length (members_text true ms) + 2 ≤ n → AreSized n (put k d ms)
+put_size : (n : ℕ) (k : List ℕ) (d : Data) (ms : Members)
+    → length (quoted k) + length (compact_text d) + length (members_text true ms) + 2 ≤ n → AreSized n (put k d ms)
 put_size n k d no_members h = let one = member_size k d no_members in record { size = omega (arith, one, h) }
 put_size n k d (member l e ms) h =
     let one = member_size k d (member l e ms) in
@@ -91,10 +94,14 @@ put_size n k d (member l e ms) h =
     let old = member_size l e ms in
     let ih = (put_size (length (quoted k) + length (compact_text d) + length (members_text true ms) + 2) k d ms (omega arith)).size in
     order_size (slice_cmp nat_cmp k l) (member k d (member l e ms)) (member l d ms) (member l e (put k d ms)) n
-    (record { size = omega (arith, one, h) }) (record { size = omega (arith, two, old, h) }) (record { size = omega (arith, three, old, ih, h) })
+    (record { size = omega (arith, one, h) }) (record { size = omega (arith, two, old, h) }) (record {
+      size = omega
+          (arith, three, old, ih, h);
+    })
 
 -- a member whose name is plain
-pub tight_put : (m a n : ℕ) (k : List ℕ) (d : Data) (ms : Members) → list_all is_plain k ≡ true → length k ≤ n → IsSized a d → AreSized m ms → AreSized (m + a + n + 4) (put k d ms)
+pub tight_put : (m a n : ℕ) (k : List ℕ) (d : Data) (ms : Members) → list_all is_plain k ≡ true → length k ≤ n → IsSized a d
+    → AreSized m ms → AreSized (m + a + n + 4) (put k d ms)
 tight_put m a n k d ms all short f g =
     let name = quoted_plain k all in
     let p = f.size in

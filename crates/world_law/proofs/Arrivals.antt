@@ -1,8 +1,7 @@
 -- A datagram that arrives, a new one or one that was sent, makes of the world that stands for a past the one that stands for the past
 -- with its block, unless it is forged.
-use Rattle.std.proofs.Common.{◌≡◌, ℕ, zero, suc, ◌+◌, ◌-◌, ◌==◌, ◌&&◌, Bool, true, false, not, List, [], ◌∷◌, ◌++◌, length, Option, Some, None, slice_get, refl, sym, ◌∙◌, ap, subst, arith, if◌then◌else◌}
+use Rattle.std.proofs.Common.{◌≡◌, ℕ, zero, suc, ◌+◌, ◌-◌, ◌==◌, Bool, true, false, List, [], ◌∷◌, ◌++◌, length, Option, Some, None, slice_get, refl, sym, ◌∙◌, ap, subst, arith, if◌then◌else◌}
 use Rattle.std.specs.Prelude.{find, unwrap_or}
-use Rattle.std.specs.List.{list_any}
 use Rattle.std.specs.Option.{option_map}
 use Rattle.std.specs.Str.{bytes_eq}
 use Rattle.ikeless_tree.specs.declared.command.Peer.{Peer}
@@ -17,8 +16,8 @@ use Rattle.hist_world.specs.Arrivals.{is_forged, sent_at, sent_count}
 use Rattle.hist_world.specs.Block.{arrives_at, gateway_at, is_forgery, with_peer}
 use Rattle.gw_core.specs.Machine.{Arrive}
 use Rattle.ctl_core.specs.Core.{Core}
-use Rattle.world_steps.specs.Nodes.{Node, acts_told, outcome}
-use Rattle.world_steps.specs.Worlds.{World, datagram, node_at}
+use Rattle.world_steps.specs.Nodes.{acts_told, outcome}
+use Rattle.world_steps.specs.Worlds.{datagram, node_at}
 use Rattle.world_steps.specs.Steps.{Done, arrive_at, did, forged_at, stepped_at}
 use Rattle.world_law.specs.Stands.{node_of, sent}
 use Rattle.world_law.proofs.Frames.{find-node, found-name, standing}
@@ -61,7 +60,8 @@ datagram-last h o k e =
     rw z (ap (λ j. unwrap_or (slice_get (sent h ++ o ∷ []) j) []) n ∙ ap (λ r. unwrap_or r []) (last-got (sent h) o))
 
 datagram-other : (h : List Act) (o : List ℕ) (k : ℕ) (b : Bool) → (k == 0) ≡ b → (k == sent_count h + 1) ≡ false
-    → (if b then [] else unwrap_or (slice_get (sent h ++ o ∷ []) (k - 1)) []) ≡ (if b then [] else unwrap_or (slice_get (sent h) (k - 1)) [])
+    → (if b then [] else unwrap_or (slice_get (sent h ++ o ∷ []) (k - 1)) [])
+    ≡ (if b then [] else unwrap_or (slice_get (sent h) (k - 1)) [])
 datagram-other h o k true z e = refl
 datagram-other h o k false z e =
     let n : (k - 1 == length (sent h)) ≡ false = ap (λ m. k - 1 == m) (sent-length h) ∙ other-is k (sent_count h) z e in
@@ -74,7 +74,8 @@ none-sent k false = refl
 pub datagram-is : (k : ℕ) (h : List Act) → datagram k (sent h) ≡ sent_at k h
 datagram-is k [] = none-sent k (k == 0)
 datagram-is k (acts.Sent f y n o ∷ h) = by-number (k == sent_count h + 1) refl (datagram-is k h) where
-  by-number : (b : Bool) → (k == sent_count h + 1) ≡ b → datagram k (sent h) ≡ sent_at k h → datagram k (sent h ++ o ∷ []) ≡ (if b then o else sent_at k h)
+  by-number : (b : Bool) → (k == sent_count h + 1) ≡ b → datagram k (sent h) ≡ sent_at k h
+      → datagram k (sent h ++ o ∷ []) ≡ (if b then o else sent_at k h)
   by-number true e ih = datagram-last h o k e
   by-number false e ih = datagram-other h o k (k == 0) refl e ∙ ih
 datagram-is k (a ∷ h) = datagram-is k h
@@ -95,22 +96,27 @@ ArriveTurn header h core g o q =
 -- a datagram that isn't forged
 abbrev genuine : Header → List Act → Core → List ℕ → Peer → Done
 genuine header h core o p =
-    did (acts.Arrived p.name o ∷ acts_told (node_of header h p) (outcome (node_of header h p) (Arrive o)).acts) (stepped_at (Arrive o) (node_of header h p) (standing header h core))
+    did (acts.Arrived p.name o ∷ acts_told (node_of header h p) (outcome (node_of header h p) (Arrive o)).acts)
+    (stepped_at (Arrive o) (node_of header h p) (standing header h core))
 
 by-test : Law → (header : Header) (h : List Act) (core : Core) (o : List ℕ) (p : Peer) (b : Bool) → Ready header h → IsFound header p.name p
     → KeepsSessions (after h (if b then acts.Arrived p.name o ∷ [] else node.gw_block (own_gateway header p) h (node.Arrive o)))
     → (if b then forged_at o (standing header h core) (node_of header h p) else genuine header h core o p)
     ≡ turned header h core (if b then acts.Arrived p.name o ∷ [] else node.gw_block (own_gateway header p) h (node.Arrive o)) b
 by-test law header h core o p true ready found keeps = refl
-by-test law header h core o p false ready found keeps = event-turn law header h core p (Arrive o) (acts.Arrived p.name o) (arrive-has header h p o) ready found keeps
+by-test law header h core o p false ready found keeps =
+    event-turn law header h core p (Arrive o) (acts.Arrived p.name o) (arrive-has header h p o) ready found keeps
 
-arrive-some : Law → (header : Header) (h : List Act) (core : Core) (o : List ℕ) (p : Peer) → Ready header h → IsLawful header.gateways h → IsFound header p.name p
+arrive-some : Law → (header : Header) (h : List Act) (core : Core) (o : List ℕ) (p : Peer) → Ready header h → IsLawful header.gateways h
+    → IsFound header p.name p
     → ArriveTurn header h core p.name o (Some p)
 arrive-some law header h core o p ready lawful found keeps =
-    ap (λ b. if b then forged_at o (standing header h core) (node_of header h p) else genuine header h core o p) (forged-is law header h p o ready lawful)
+    ap (λ b. if b then forged_at o (standing header h core) (node_of header h p) else genuine header h core o p)
+    (forged-is law header h p o ready lawful)
     ∙ by-test law header h core o p (is_forged p.name p.address h o) ready found keeps
 
-arrive-case : Law → (header : Header) (h : List Act) (core : Core) (g o : List ℕ) (q : Option Peer) → Ready header h → IsLawful header.gateways h
+arrive-case : Law → (header : Header) (h : List Act) (core : Core) (g o : List ℕ) (q : Option Peer) → Ready header h
+    → IsLawful header.gateways h
     → find (λ p. bytes_eq p.name g) header.gateways ≡ q → ArriveTurn header h core g o q
 arrive-case law header h core g o None ready lawful e keeps = refl
 arrive-case law header h core g o (Some p) ready lawful e keeps =

@@ -8,7 +8,6 @@ use Rattle.ikeless_tree.specs.declared.command.Peer.{Peer}
 use Rattle.ikeless_tree.specs.declared.order.Notice.{Notice}
 use Rattle.ikeless_tree.specs.declared.order.Lane.TheVariants as lanes
 use Rattle.hist_acts.specs.declared.act.Act.{Act}
-use Rattle.hist_acts.specs.declared.act.Act.TheVariants as acts
 use Rattle.hist_acts.specs.declared.event.Header.{Header}
 use Rattle.hist_acts.specs.Past.{after, clock, events_taken}
 use Rattle.hist_acts.specs.Sessions.{session_taken}
@@ -61,11 +60,16 @@ own_gateway header p = gateway_of p.name (config_of header p)
 
 -- ---- acts, and what is kept
 
+-- behind an act of the event's own
+pub tail-is : (a b : Act) (xs ys : List Act) → a ∷ xs ≡ b ∷ ys → xs ≡ ys
+tail-is a b xs ys e = cc
+
 pub record IsBlock (header : Header) (h : List Act) (p : Peer) (e : Event) : Type 0 where
   pub acts : step_told (naming (node_of header h p)) e (outcome (node_of header h p) e) ≡ gw_block (own_gateway header p) h (event_of e)
   pub kept : (outcome (node_of header h p) e).kept ≡ kept_of (state_of p.name (after h (gw_block (own_gateway header p) h (event_of e))))
 
-pub block-is : Law → (header : Header) (h : List Act) (p : Peer) (e : Event) → IsOrderly (state_of p.name h) → naming (node_of header h p) ≡ naming_of p.name (state_of p.name h)
+pub block-is : Law → (header : Header) (h : List Act) (p : Peer) (e : Event) → IsOrderly (state_of p.name h)
+    → naming (node_of header h p) ≡ naming_of p.name (state_of p.name h)
     → IsBlock header h p e
 block-is law header h p e order named =
     let s = state_of p.name h in
@@ -73,7 +77,8 @@ block-is law header h p e order named =
     let step = step-told p.name (config_of header p) (naming_of p.name s) (kept_of s) e in
     let follow = step-is law.sized c s (event_of e) order in
     record {
-      acts = ap (λ (n : Naming). step_told n e (outcome (node_of header h p) e)) named ∙ (step.acts ∙ (sym follow.acts ∙ law.acts c h (event_of e)));
+      acts = ap (λ (n : Naming). step_told n e (outcome (node_of header h p) e)) named
+          ∙ (step.acts ∙ (sym follow.acts ∙ law.acts c h (event_of e)));
       kept = step.kept ∙ (sym follow.kept ∙ ap kept_of (sym (law.keeps c h (event_of e))));
     }
 
@@ -104,7 +109,8 @@ plain-answer (answers.Pass o) ys p = p
 pub plain-done : (d : Done) → are_plain (acts_of_done d) ≡ true
 plain-done d =
     let ys : List GwAct = map act_of_gone d.gone ++ map act_of_notice d.notices in
-    ap are_plain (append_assoc (acts_of_answer d.answer) (map act_of_gone d.gone) (map act_of_notice d.notices)) ∙ by-answer d.answer ys (plain-gone d.gone d.notices)
+    ap are_plain (append_assoc (acts_of_answer d.answer) (map act_of_gone d.gone) (map act_of_notice d.notices))
+    ∙ by-answer d.answer ys (plain-gone d.gone d.notices)
   where
     by-answer : (a : Option PacketAnswer) (ys : List GwAct) → are_plain ys ≡ true → are_plain (acts_of_answer a ++ ys) ≡ true
     by-answer None ys p = p
@@ -133,7 +139,8 @@ session-one : (n : Naming) (g : List ℕ) (x : GwAct) (k : List Act) → session
 session-one n g (done.Reply r) k = refl
 session-one n g _ k = refl
 
-pub session-told : (n : Naming) (g : List ℕ) (xs : List GwAct) (k : List Act) → session_taken g (after k (map (told n) xs)) ≡ session_taken g k
+pub session-told : (n : Naming) (g : List ℕ) (xs : List GwAct) (k : List Act)
+    → session_taken g (after k (map (told n) xs)) ≡ session_taken g k
 session-told n g [] k = refl
 session-told n g (x ∷ xs) k = session-told n g xs (told n x ∷ k) ∙ session-one n g x k
 
@@ -165,7 +172,8 @@ rest-one : (kept : Kept) (pipe : UnderWay) (header : Header) (n : Naming) (x : G
 rest-one kept pipe header n (done.Reply r) k p e = absurd (no e)
 rest-one kept pipe header n _ k p e = refl
 
-pub rest-told : (kept : Kept) (pipe : UnderWay) (header : Header) (n : Naming) (xs : List GwAct) (k : List Act) (p : Peer) → are_plain xs ≡ true
+pub rest-told : (kept : Kept) (pipe : UnderWay) (header : Header) (n : Naming) (xs : List GwAct) (k : List Act) (p : Peer)
+    → are_plain xs ≡ true
     → node_with kept pipe header (after k (map (told n) xs)) p ≡ node_with kept pipe header k p
 rest-told kept pipe header n [] k p e = refl
 rest-told kept pipe header n (x ∷ xs) k p e =
@@ -173,14 +181,16 @@ rest-told kept pipe header n (x ∷ xs) k p e =
     rest-told kept pipe header n xs (told n x ∷ k) p parts.1 ∙ rest-one kept pipe header n x k p parts.0
 
 -- and what goes up goes up at the clock
-pipe-one : (host : Addr) (n : Naming) (g : List ℕ) (now : ℕ) (x : GwAct) (k : List Act) (u : UnderWay) → is_plain x ≡ true → bytes_eq n.name g ≡ true → clock k ≡ now
+pipe-one : (host : Addr) (n : Naming) (g : List ℕ) (now : ℕ) (x : GwAct) (k : List Act) (u : UnderWay) → is_plain x ≡ true
+    → bytes_eq n.name g ≡ true → clock k ≡ now
     → (if is_at g (told n x) then after_act (request_at host) (response_at g) line_at (told n x) k u else u) ≡ nodes.piped now x u
 pipe-one host n g now (done.Reply r) k u e own c = absurd (no e)
 pipe-one host n g now (done.Notice t) k u e own c =
     if-new (bytes_eq n.name g) (after_push lanes.Note (line_text t (clock k)) u) u own ∙ ap (λ z. after_push lanes.Note (line_text t z) u) c
 pipe-one host n g now _ k u e own c = refl
 
-pub pipe-told : (host : Addr) (n : Naming) (g : List ℕ) (now : ℕ) (xs : List GwAct) (k : List Act) (u : UnderWay) → are_plain xs ≡ true → bytes_eq n.name g ≡ true → clock k ≡ now
+pub pipe-told : (host : Addr) (n : Naming) (g : List ℕ) (now : ℕ) (xs : List GwAct) (k : List Act) (u : UnderWay) → are_plain xs ≡ true
+    → bytes_eq n.name g ≡ true → clock k ≡ now
     → piped (request_at host) (response_at g) line_at g k (map (told n) xs) u ≡ all_piped now xs u
 pipe-told host n g now [] k u e own c = refl
 pipe-told host n g now (x ∷ xs) k u e own c =
@@ -195,7 +205,8 @@ pub node-told : (header : Header) (h : List Act) (p : Peer) (a : Act) (out : Out
     → ((kept : Kept) (pipe : UnderWay) → node_with kept pipe header (a ∷ h) p ≡ node_with kept pipe header h p)
     → KeepsSessions (after h (a ∷ acts_told (node_of header h p) out.acts))
     → out.kept ≡ kept_of (state_of p.name (after h (a ∷ acts_told (node_of header h p) out.acts)))
-    → node_with out.kept (all_piped out.kept.clock out.acts (pipe_at p.name p.address h)) header h p ≡ node_of header (after h (a ∷ acts_told (node_of header h p) out.acts)) p
+    → node_with out.kept (all_piped out.kept.clock out.acts (pipe_at p.name p.address h)) header h p
+    ≡ node_of header (after h (a ∷ acts_told (node_of header h p) out.acts)) p
 node-told header h p a out plain away counts keeps is =
     let n : Naming = naming (node_of header h p) in
     let u : UnderWay = pipe_at p.name p.address h in

@@ -1,6 +1,6 @@
 -- The gateway's own test of a forged arrival is that of the law: what opened its number was sealed under the other half, or no datagram
 -- with these octets was sent at all.
-use Rattle.std.proofs.Common.{◌≡◌, ℕ, ◌+◌, ◌-◌, ◌<◌, ◌^◌, ◌==◌, ◌&&◌, ◌||◌, Bool, true, false, not, nat_lt, List, [], ◌∷◌, ◌++◌, map, length, Option, Some, None, Result, Ok, Err, refl, sym, ◌∙◌, ap, subst, arith, if◌then◌else◌}
+use Rattle.std.proofs.Common.{◌≡◌, ℕ, ◌<◌, ◌^◌, ◌==◌, ◌&&◌, ◌||◌, Bool, true, false, not, nat_lt, List, [], ◌∷◌, ◌++◌, map, length, Option, Some, None, Result, Ok, Err, refl, sym, ◌∙◌, ap, subst, arith, if◌then◌else◌}
 use Rattle.std.proofs.lemmas.Bool.{and_from, or_left, or_right}
 use Rattle.std.specs.List.{list_any}
 use Rattle.std.specs.Str.{bytes_eq}
@@ -38,8 +38,8 @@ use Rattle.hist_gateway.specs.Look.{look, tells}
 use Rattle.hist_gateway.specs.Stands.{does_bad_spi_stand}
 use Rattle.hist_safety.specs.Carried.{keying_of}
 use Rattle.hist_safety.specs.Law.{IsLawful}
-use Rattle.hist_safety.specs.Orders.{order_of, was_order_given}
-use Rattle.hist_safety.proofs.Basics.{both-left, both-right, name-self, no, or-split, some-is}
+use Rattle.hist_safety.specs.Orders.{order_of}
+use Rattle.hist_safety.proofs.Basics.{both-right, name-self, no, or-split, some-is}
 use Rattle.hist_safety.proofs.Carried.{carried, sealed-sent}
 use Rattle.hist_safety.proofs.Frames.{esp-spi, keying-spi}
 use Rattle.hist_safety.proofs.Live.{spi-is}
@@ -55,7 +55,7 @@ use Rattle.world_steps.specs.Nodes.{naming, outcome}
 use Rattle.world_steps.specs.Worlds.{was_sent}
 use Rattle.world_steps.specs.Steps.{did_open}
 use Rattle.world_law.specs.Stands.{node_of, sent}
-use Rattle.world_law.proofs.Blocks.{Law, block-is, own_gateway}
+use Rattle.world_law.proofs.Blocks.{tail-is, Law, block-is}
 use Rattle.world_law.proofs.Turns.{Ready}
 
 -- ---- the answer tells that the octets opened
@@ -77,34 +77,41 @@ opened-told n (x ∷ xs) = ap (λ b. b || list_any did_open xs) (opened-one n x)
 abbrev half_opens : List ℕ → List Act → List ℕ → Option SadEntry → Bool
 half_opens g h b None = false
 half_opens g h b (Some e) =
-    is_fresh (verdict_over e.window (numbers_taken g e.name h) (number_of e (numbers_taken g e.name h) b)) && does_open (esp.opened (keying e.spi e.key) b)
+    is_fresh (verdict_over e.window (numbers_taken g e.name h) (number_of e (numbers_taken g e.name h) b)) && does_open
+    (esp.opened (keying e.spi e.key) b)
 
 abbrev view_opens : List ℕ → Addr → List Act → Result Packet NotPacket → Bool
 view_opens g own h (Err fault) = false
-view_opens g own h (Ok v) = arrive.is_sealed_for own v && (not (nat_lt (length v.payload) 34) && half_opens g h v.payload (by_spi (spi_of v.payload) (live g h)))
+view_opens g own h (Ok v) =
+    arrive.is_sealed_for own v && (not (nat_lt (length v.payload) 34) && half_opens g h v.payload (by_spi (spi_of v.payload) (live g h)))
 
 if-opened : (b : Bool) (x y : Act) → was_opened x ≡ true → was_opened y ≡ true → was_opened (if b then x else y) ≡ true
 if-opened true x y p q = p
 if-opened false x y p q = q
 
-inner-opened : (g : List ℕ) (e : SadEntry) (n next : ℕ) (p : List ℕ) (r : Result Packet NotPacket) → was_opened (arrive.by_inner g e n next p r) ≡ true
+inner-opened : (g : List ℕ) (e : SadEntry) (n next : ℕ) (p : List ℕ) (r : Result Packet NotPacket)
+    → was_opened (arrive.by_inner g e n next p r) ≡ true
 inner-opened g e n next p (Err fault) = refl
 inner-opened g e n next p (Ok v) =
-    if-opened (not (arrive.is_told_version next p)) (acts.Drop g why.Inner) (if holds_packet e.selector In v then acts.Gave g e.name n p else acts.Drop g why.Selector) refl
+    if-opened (not (arrive.is_told_version next p)) (acts.Drop g why.Inner)
+    (if holds_packet e.selector In v then acts.Gave g e.name n p else acts.Drop g why.Selector) refl
     (if-opened (holds_packet e.selector In v) (acts.Gave g e.name n p) (acts.Drop g why.Selector) refl refl)
 
 packet-opened : (g : List ℕ) (e : SadEntry) (n : ℕ) (p : Option esp.InnerPacket) → was_opened (arrive.by_packet g e n p) ≡ true
 packet-opened g e n None = refl
 packet-opened g e n (Some p) =
-    if-opened (p.next == 59) (acts.Drop g why.Dummy) (arrive.by_inner g e n p.next p.octets (view_of p.octets)) refl (inner-opened g e n p.next p.octets (view_of p.octets))
+    if-opened (p.next == 59) (acts.Drop g why.Dummy) (arrive.by_inner g e n p.next p.octets (view_of p.octets)) refl
+    (inner-opened g e n p.next p.octets (view_of p.octets))
 
-text-opened : (g : List ℕ) (j : List Act) (e : SadEntry) (n : ℕ) (text : Option (List ℕ)) → list_any was_opened (arrive.by_text g j e n text) ≡ does_open text
+text-opened : (g : List ℕ) (j : List Act) (e : SadEntry) (n : ℕ) (text : Option (List ℕ))
+    → list_any was_opened (arrive.by_text g j e n text) ≡ does_open text
 text-opened g j e n None = refl
 text-opened g j e n (Some x) =
     let a : Act = arrive.by_packet g e n (esp.inner_packet x) in
     or_left (was_opened a) (list_any was_opened (look g (a ∷ j) (e ∷ []))) (packet-opened g e n (esp.inner_packet x))
 
-verdict-opened : (g b : List ℕ) (j : List Act) (e : SadEntry) (n : ℕ) (v : Verdict) → list_any was_opened (arrive.by_verdict g j b e n v) ≡ (is_fresh v && does_open (esp.opened (keying e.spi e.key) b))
+verdict-opened : (g b : List ℕ) (j : List Act) (e : SadEntry) (n : ℕ) (v : Verdict)
+    → list_any was_opened (arrive.by_verdict g j b e n v) ≡ (is_fresh v && does_open (esp.opened (keying e.spi e.key) b))
 verdict-opened g b j e n verdicts.Zero = refl
 verdict-opened g b j e n verdicts.Old = refl
 verdict-opened g b j e n verdicts.Seen = refl
@@ -114,14 +121,17 @@ told-unopened : (g : List ℕ) (j : List Act) (n : Notice) (b : Bool) → list_a
 told-unopened g j n true = refl
 told-unopened g j n false = refl
 
-half-opened : (g o b : List ℕ) (h : List Act) (found : Option SadEntry) → list_any was_opened (arrive.arrive_by_half g (acts.Arrived g o ∷ h) b found) ≡ half_opens g h b found
-half-opened g o b h None = told-unopened g (acts.Arrived g o ∷ h) (notices.BadSpi (spi_of b)) (does_bad_spi_stand g (spi_of b) (acts.Arrived g o ∷ h))
+half-opened : (g o b : List ℕ) (h : List Act) (found : Option SadEntry)
+    → list_any was_opened (arrive.arrive_by_half g (acts.Arrived g o ∷ h) b found) ≡ half_opens g h b found
+half-opened g o b h None =
+    told-unopened g (acts.Arrived g o ∷ h) (notices.BadSpi (spi_of b)) (does_bad_spi_stand g (spi_of b) (acts.Arrived g o ∷ h))
 half-opened g o b h (Some e) =
     let n : ℕ = number_of e (numbers_taken g e.name h) b in
     verdict-opened g b (acts.Arrived g o ∷ h) e n (verdict_over e.window (numbers_taken g e.name h) n)
 
 long-opened : (g o b : List ℕ) (h : List Act) (short : Bool)
-    → list_any was_opened (if short then arrive.drops g why.Short else arrive.arrive_by_half g (acts.Arrived g o ∷ h) b (by_spi (spi_of b) (live g h)))
+    → list_any was_opened (if short then arrive.drops g why.Short else arrive.arrive_by_half g (acts.Arrived g o ∷ h) b
+    (by_spi (spi_of b) (live g h)))
     ≡ (not short && half_opens g h b (by_spi (spi_of b) (live g h)))
 long-opened g o b h true = refl
 long-opened g o b h false = half-opened g o b h (by_spi (spi_of b) (live g h))
@@ -136,7 +146,8 @@ clear-opened g o None = refl
 clear-opened g o (Some p) = ap (λ b. b || false) (action-opened g o p.action)
 
 own-opened : (g o : List ℕ) (h : List Act) (v : Packet) (own : Bool)
-    → list_any was_opened (if own then arrive.esp_acts g (acts.Arrived g o ∷ h) v.payload else arrive.arrive_by_entry g o (first_entry (force g h) In v) ∷ [])
+    → list_any was_opened (if own then arrive.esp_acts g (acts.Arrived g o ∷ h) v.payload else arrive.arrive_by_entry g o
+    (first_entry (force g h) In v) ∷ [])
     ≡ (own && (not (nat_lt (length v.payload) 34) && half_opens g h v.payload (by_spi (spi_of v.payload) (live g h))))
 own-opened g o h v true = long-opened g o v.payload h (nat_lt (length v.payload) 34)
 own-opened g o h v false = clear-opened g o (first_entry (force g h) In v)
@@ -145,11 +156,13 @@ fault-opened : (fault : NotPacket) → is_opened (fault_why fault) ≡ false
 fault-opened faults.Fragment = refl
 fault-opened _ = refl
 
-view-opened : (g o : List ℕ) (own : Addr) (h : List Act) (r : Result Packet NotPacket) → list_any was_opened (arrive.arrive_by_view g own (acts.Arrived g o ∷ h) o r) ≡ view_opens g own h r
+view-opened : (g o : List ℕ) (own : Addr) (h : List Act) (r : Result Packet NotPacket)
+    → list_any was_opened (arrive.arrive_by_view g own (acts.Arrived g o ∷ h) o r) ≡ view_opens g own h r
 view-opened g o own h (Err fault) = ap (λ b. b || false) (fault-opened fault)
 view-opened g o own h (Ok v) = own-opened g o h v (arrive.is_sealed_for own v)
 
-arrival-opened : (g o : List ℕ) (own : Addr) (h : List Act) → list_any was_opened (arrive.arrive_acts g own (acts.Arrived g o ∷ h) o) ≡ view_opens g own h (view_of o)
+arrival-opened : (g o : List ℕ) (own : Addr) (h : List Act)
+    → list_any was_opened (arrive.arrive_acts g own (acts.Arrived g o ∷ h) o) ≡ view_opens g own h (view_of o)
 unfolding arrive.arrive_acts
 arrival-opened g o own h = view-opened g o own h (view_of o)
 
@@ -158,15 +171,17 @@ arrival-opened g o own h = view-opened g o own h (view_of o)
 abbrev has_octets : List ℕ → List ℕ → Bool
 has_octets b o = bytes_eq (esp_of o) b
 
-any-more : (b : List ℕ) (os : List (List ℕ)) (o : List ℕ) → list_any (has_octets b) (os ++ o ∷ []) ≡ (list_any (has_octets b) os || has_octets b o)
+any-more : (b : List ℕ) (os : List (List ℕ)) (o : List ℕ)
+    → list_any (has_octets b) (os ++ o ∷ []) ≡ (list_any (has_octets b) os || has_octets b o)
 any-more b [] o = or-none (has_octets b o) where
   or-none : (c : Bool) → (c || false) ≡ c
   or-none true = refl
   or-none false = refl
-any-more b (p ∷ os) o = ap (λ c. has_octets b p || c) (any-more b os o) ∙ or-join (has_octets b p) (list_any (has_octets b) os) (has_octets b o) where
-  or-join : (x y z : Bool) → (x || (y || z)) ≡ ((x || y) || z)
-  or-join true y z = refl
-  or-join false y z = refl
+any-more b (p ∷ os) o =
+    ap (λ c. has_octets b p || c) (any-more b os o) ∙ or-join (has_octets b p) (list_any (has_octets b) os) (has_octets b o) where
+      or-join : (x y z : Bool) → (x || (y || z)) ≡ ((x || y) || z)
+      or-join true y z = refl
+      or-join false y z = refl
 
 -- what is sealed was sent
 sealed-was : (x b : List ℕ) (h : List Act) → is_sealed x b h ≡ true → was_sent b (sent h) ≡ true
@@ -187,7 +202,11 @@ was-sealed b [] e = absurd (no e)
 was-sealed b (acts.Sent f y n o ∷ h) e =
     or-split {A = IsSealed b (acts.Sent f y n o ∷ h)} (list_any (has_octets b) (sent h)) (has_octets b o)
     (λ q. let r = was-sealed b h q in (r.0, or_right (bytes_eq y r.0 && bytes_eq (esp_of o) b) (is_sealed r.0 b h) r.1))
-    (λ q. (y, or_left (bytes_eq y y && bytes_eq (esp_of o) b) (is_sealed y b h) (and_from (bytes_eq y y) (bytes_eq (esp_of o) b) (name-self y) q)))
+    (λ q. (
+      y,
+      or_left (bytes_eq y y && bytes_eq (esp_of o) b) (is_sealed y b h)
+          (and_from (bytes_eq y y) (bytes_eq (esp_of o) b) (name-self y) q),
+    ))
     (sym (any-more b (sent h) o) ∙ e)
 was-sealed b (a ∷ h) e = was-sealed b h e
 
@@ -202,10 +221,14 @@ record Sealer (x b : List ℕ) : Type 0 where
   pub numbered : Numbered serial half
   pub spi : spi_of b ≡ half.spi
 
-told-spi : (d i : SadEntry) (t b p : List ℕ) (n next : ℕ) → b ≡ esp_octets (keying_of d) n next p → Numbered t i → d.spi ≡ i.spi → spi_of b ≡ i.spi
+told-spi : (d i : SadEntry) (t b p : List ℕ) (n next : ℕ) → b ≡ esp_octets (keying_of d) n next p → Numbered t i → d.spi ≡ i.spi
+    → spi_of b ≡ i.spi
 told-spi d i t b p n next sealed low same =
     let few : (keying_of d).spi < 2 ^ 32 = subst (λ (z : ℕ). z < 2 ^ 32) (sym (keying-spi d ∙ same)) (small t i low) in
     ap spi_of sealed ∙ (esp-spi (keying_of d) n next p few ∙ (keying-spi d ∙ same))
+
+one-order : (d c : SadEntry) (o : Option SadEntry) → o ≡ Some d → o ≡ Some c → d ≡ c
+one-order d c o e f = some-is d c (sym e ∙ f)
 
 spi-same : (d c i : SadEntry) → d ≡ c → d.spi ≡ i.spi → c.spi ≡ i.spi
 spi-same d c i e same = ap (λ (z : SadEntry). z.spi) (sym e) ∙ same
@@ -217,7 +240,7 @@ sealer gs x b h l s =
     let t = outbound gs x h l (order-ordered x c.0 h c.2) c.4 in
     let ordered : order_of (out_half t.0) h ≡ Some c.0 = subst (λ (z : List ℕ). order_of z h ≡ Some c.0) t.1 c.2 in
     let two = pair gs t.0 h l (order-ordered (out_half t.0) c.0 h ordered) in
-    let same : two.0 ≡ c.0 = some-is two.0 c.0 (sym two.2 ∙ ordered) in
+    let same : two.0 ≡ c.0 = one-order two.0 c.0 (order_of (out_half t.0) h) two.2 ordered in
     let spi : c.0.spi ≡ two.1.spi = spi-same two.0 c.0 two.1 same two.5 in
     let one : Numbered t.0 two.1 = numbered gs t.0 two.1 h l two.3 in
     record {
@@ -235,7 +258,8 @@ record Owner (e : SadEntry) (b : List ℕ) : Type 0 where
   pub numbered : Numbered serial e
   pub spi : e.spi ≡ spi_of b
 
-spi-owner : (gs : List Peer) (g b : List ℕ) (e : SadEntry) (h : List Act) → IsLawful gs h → by_spi (spi_of b) (live g h) ≡ Some e → Owner e b
+spi-owner : (gs : List Peer) (g b : List ℕ) (e : SadEntry) (h : List Act) → IsLawful gs h → by_spi (spi_of b) (live g h) ≡ Some e
+    → Owner e b
 spi-owner gs g b e h l found =
     let is = spi-is gs g (spi_of b) e h l found in
     let put = put-order gs g e.name e h l is.0 in
@@ -248,14 +272,16 @@ spi-owner gs g b e h l found =
     }
 
 -- octets that have the SPI of a live inbound half were sealed under the other half, if they were sealed
-sealed-other : (gs : List Peer) (g x b : List ℕ) (e : SadEntry) (h : List Act) → IsLawful gs h → by_spi (spi_of b) (live g h) ≡ Some e → is_sealed x b h ≡ true → x ≡ other_half e.name
+sealed-other : (gs : List Peer) (g x b : List ℕ) (e : SadEntry) (h : List Act) → IsLawful gs h → by_spi (spi_of b) (live g h) ≡ Some e
+    → is_sealed x b h ≡ true → x ≡ other_half e.name
 sealed-other gs g x b e h l found s = same-serial x b e (sealer gs x b h l s) (spi-owner gs g b e h l found) where
   same-serial : (x b : List ℕ) (e : SadEntry) → Sealer x b → Owner e b → x ≡ other_half e.name
   same-serial x b e a o =
       let serial : o.serial ≡ a.serial = one-spi o.serial a.serial e a.half o.numbered a.numbered (o.spi ∙ a.spi) in
       a.name ∙ (ap out_half (sym serial) ∙ ap other_half (sym o.name))
 
-sealed-is : (gs : List Peer) (g b : List ℕ) (e : SadEntry) (h : List Act) → IsLawful gs h → by_spi (spi_of b) (live g h) ≡ Some e → is_sealed (other_half e.name) b h ≡ was_sent b (sent h)
+sealed-is : (gs : List Peer) (g b : List ℕ) (e : SadEntry) (h : List Act) → IsLawful gs h → by_spi (spi_of b) (live g h) ≡ Some e
+    → is_sealed (other_half e.name) b h ≡ was_sent b (sent h)
 sealed-is gs g b e h l found = by-test (is_sealed (other_half e.name) b h) (was_sent b (sent h)) refl refl where
   by-test : (c d : Bool) → is_sealed (other_half e.name) b h ≡ c → was_sent b (sent h) ≡ d → c ≡ d
   by-test true d s w = sym (sealed-was (other_half e.name) b h s) ∙ w
@@ -270,7 +296,8 @@ both : (x y z : Bool) → (x && (y && z)) ≡ ((x && y) && z)
 both true y z = refl
 both false y z = refl
 
-half-forged : (gs : List Peer) (g b : List ℕ) (h : List Act) (found : Option SadEntry) → IsLawful gs h → by_spi (spi_of b) (live g h) ≡ found
+half-forged : (gs : List Peer) (g b : List ℕ) (h : List Act) (found : Option SadEntry) → IsLawful gs h
+    → by_spi (spi_of b) (live g h) ≡ found
     → is_half_forged g h b found ≡ (half_opens g h b found && not (was_sent b (sent h)))
 half-forged gs g b h None l e = refl
 half-forged gs g b h (Some e) l found =
@@ -278,7 +305,8 @@ half-forged gs g b h (Some e) l found =
     let opens : Bool = does_open (esp.opened (keying e.spi e.key) b) in
     ap (λ s. fresh && (opens && not s)) (sealed-is gs g b e h l found) ∙ both fresh opens (not (was_sent b (sent h)))
 
-long-forged : (own long half opens sent_so : Bool) → half ≡ (opens && not sent_so) → (own && (long && half)) ≡ ((own && (long && opens)) && not sent_so)
+long-forged : (own long half opens sent_so : Bool) → half ≡ (opens && not sent_so)
+    → (own && (long && half)) ≡ ((own && (long && opens)) && not sent_so)
 long-forged true true half opens sent_so e = e
 long-forged true false half opens sent_so e = refl
 long-forged false long half opens sent_so e = refl
@@ -288,14 +316,13 @@ view-forged : (gs : List Peer) (g : List ℕ) (own : Addr) (h : List Act) (r : R
 view-forged gs g own h (Err fault) l = refl
 view-forged gs g own h (Ok v) l =
     let found : Option SadEntry = by_spi (spi_of v.payload) (live g h) in
-    long-forged (arrive.is_sealed_for own v) (not (nat_lt (length v.payload) 34)) (is_half_forged g h v.payload found) (half_opens g h v.payload found) (was_sent v.payload (sent h))
+    long-forged (arrive.is_sealed_for own v) (not (nat_lt (length v.payload) 34)) (is_half_forged g h v.payload found)
+    (half_opens g h v.payload found) (was_sent v.payload (sent h))
     (half-forged gs g v.payload h found l refl)
 
-tail-is : (a b : Act) (xs ys : List Act) → a ∷ xs ≡ b ∷ ys → xs ≡ ys
-tail-is a b xs ys e = cc
-
 pub forged-is : Law → (header : Header) (h : List Act) (p : Peer) (o : List ℕ) → Ready header h → IsLawful header.gateways h
-    → (list_any did_open (outcome (node_of header h p) (Arrive o)).acts && not (was_sent (esp_of o) (sent h))) ≡ is_forged p.name p.address h o
+    → (list_any did_open (outcome (node_of header h p) (Arrive o)).acts && not (was_sent (esp_of o) (sent h)))
+    ≡ is_forged p.name p.address h o
 forged-is law header h p o ready l =
     let n : Naming = naming (node_of header h p) in
     let xs : List GwAct = (outcome (node_of header h p) (Arrive o)).acts in

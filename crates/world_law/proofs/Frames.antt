@@ -1,5 +1,5 @@
 -- What stands for a past, act by act: an act is of one gateway at most, and leaves the others as they were.
-use Rattle.std.proofs.Common.{◌≡◌, ℕ, ◌+◌, ◌-◌, ◌<◌, ◌==◌, ◌&&◌, ◌||◌, Bool, true, false, not, List, [], ◌∷◌, ◌++◌, drop, map, length, Option, Some, None, refl, sym, ◌∙◌, ap, subst, arith, if◌then◌else◌}
+use Rattle.std.proofs.Common.{◌≡◌, ℕ, ◌+◌, ◌-◌, ◌<◌, ◌==◌, ◌&&◌, ◌||◌, Bool, true, false, not, List, [], ◌∷◌, ◌++◌, drop, map, length, Some, refl, sym, ◌∙◌, ap, subst, arith, if◌then◌else◌}
 use Rattle.std.proofs.lemmas.Bool.{or_parts, true≢false}
 use Rattle.std.specs.Prelude.{find}
 use Rattle.std.specs.List.{list_any}
@@ -16,9 +16,9 @@ use Rattle.hist_gateway.specs.Handle.{requests}
 use Rattle.hist_gateway.specs.May.{IsNewHalf}
 use Rattle.hist_gateway.specs.State.{state_of}
 use Rattle.hist_gateway.specs.State as states
-use Rattle.hist_gateway.proofs.KeepsLemmas.{did-away, keeps, same-is, same-refl, same-sym}
+use Rattle.hist_gateway.proofs.KeepsLemmas.{did-away, keeps, same-is, same-sym}
 use Rattle.hist_controller.specs.Told.{Named, peer_name}
-use Rattle.hist_safety.proofs.Basics.{no, some-is}
+use Rattle.hist_safety.proofs.Basics.{some-is}
 use Rattle.session_pipe.specs.Past as pipes
 use Rattle.session_pipe.specs.UnderWay.{UnderWay}
 use Rattle.hist_wire.specs.Wire.{line_at, pipe_at, request_at, response_at}
@@ -68,7 +68,8 @@ apart-named (p ∷ ps) n =
 
     later : (f g : ℕ) → f < length ps → g < length ps → bytes_eq (peer_name ps f) (peer_name ps g) ≡ (g == f)
     later f g i j =
-        ap (λ z. bytes_eq z (peer_name ps g)) (sym (next-name p ps f)) ∙ ap (λ z. bytes_eq (peer_name (p ∷ ps) (f + 1)) z) (sym (next-name p ps g))
+        ap (λ z. bytes_eq z (peer_name ps g)) (sym (next-name p ps f))
+        ∙ ap (λ z. bytes_eq (peer_name (p ∷ ps) (f + 1)) z) (sym (next-name p ps g))
         ∙ n (f + 1) (g + 1) (omega (arith, i)) (omega (arith, j)) ∙ same-next f g (g == f) refl
 
 -- ---- the gateway of a name
@@ -77,7 +78,8 @@ pub find-node : (header : Header) (h : List Act) (g : List ℕ) (ps : List Peer)
     → find (λ n. bytes_eq n.name g) (map (node_of header h) ps) ≡ option_map (node_of header h) (find (λ p. bytes_eq p.name g) ps)
 find-node header h g [] = refl
 find-node header h g (p ∷ ps) = by-name (bytes_eq p.name g) (find-node header h g ps) where
-  by-name : (b : Bool) → find (λ n. bytes_eq n.name g) (map (node_of header h) ps) ≡ option_map (node_of header h) (find (λ q. bytes_eq q.name g) ps)
+  by-name : (b : Bool)
+      → find (λ n. bytes_eq n.name g) (map (node_of header h) ps) ≡ option_map (node_of header h) (find (λ q. bytes_eq q.name g) ps)
       → (if b then Some (node_of header h p) else find (λ n. bytes_eq n.name g) (map (node_of header h) ps))
       ≡ option_map (node_of header h) (if b then Some p else find (λ q. bytes_eq q.name g) ps)
   by-name true ih = refl
@@ -87,31 +89,38 @@ find-node header h g (p ∷ ps) = by-name (bytes_eq p.name g) (find-node header 
 pub found-name : (g : List ℕ) (p : Peer) (ps : List Peer) → find (λ q. bytes_eq q.name g) ps ≡ Some p → p.name ≡ g
 found-name g p [] e = absurd (cc)
 found-name g p (q ∷ ps) e = by-name (bytes_eq q.name g) refl e (found-name g p ps) where
-  by-name : (b : Bool) → bytes_eq q.name g ≡ b → (if b then Some q else find (λ r. bytes_eq r.name g) ps) ≡ Some p → (find (λ r. bytes_eq r.name g) ps ≡ Some p → p.name ≡ g) → p.name ≡ g
+  by-name : (b : Bool) → bytes_eq q.name g ≡ b → (if b then Some q else find (λ r. bytes_eq r.name g) ps) ≡ Some p
+      → (find (λ r. bytes_eq r.name g) ps ≡ Some p → p.name ≡ g) → p.name ≡ g
   by-name true s e ih = ap (λ (r : Peer). r.name) (sym (some-is q p e)) ∙ same-is q.name g s
   by-name false s e ih = ih e
 
 -- one gateway changes, and is put in its place
-pub placed-is : (header : Header) (h k : List Act) (p : Peer) (ps : List Peer) → AreApart ps → find (λ q. bytes_eq q.name p.name) ps ≡ Some p
+pub placed-is : (header : Header) (h k : List Act) (p : Peer) (ps : List Peer) → AreApart ps
+    → find (λ q. bytes_eq q.name p.name) ps ≡ Some p
     → ((q : Peer) → bytes_eq p.name q.name ≡ false → node_of header k q ≡ node_of header h q)
     → placed (node_of header k p) (map (node_of header h) ps) ≡ map (node_of header k) ps
 placed-is header h k p [] apart e stays = absurd (cc)
-placed-is header h k p (q ∷ ps) apart e stays = by-name (bytes_eq q.name p.name) refl e (λ f. placed-is header h k p ps apart.1 f stays) where
-  rest : (rs : List Peer) → AreOthers p.name rs → map (node_of header h) rs ≡ map (node_of header k) rs
-  rest [] o = refl
-  rest (r ∷ rs) o =
-      ap (λ z. z ∷ map (node_of header h) rs) (sym (stays r (same-sym p.name r.name ∙ o.0))) ∙ ap (λ z. node_of header k r ∷ z) (rest rs o.1)
+placed-is header h k p (q ∷ ps) apart e stays =
+    by-name (bytes_eq q.name p.name) refl e (λ f. placed-is header h k p ps apart.1 f stays) where
+      rest : (rs : List Peer) → AreOthers p.name rs → map (node_of header h) rs ≡ map (node_of header k) rs
+      rest [] o = refl
+      rest (r ∷ rs) o =
+          ap (λ z. z ∷ map (node_of header h) rs) (sym (stays r (same-sym p.name r.name ∙ o.0)))
+          ∙ ap (λ z. node_of header k r ∷ z) (rest rs o.1)
 
-  by-name : (b : Bool) → bytes_eq q.name p.name ≡ b → (if b then Some q else find (λ r. bytes_eq r.name p.name) ps) ≡ Some p
-      → (find (λ r. bytes_eq r.name p.name) ps ≡ Some p → placed (node_of header k p) (map (node_of header h) ps) ≡ map (node_of header k) ps)
-      → (if b then node_of header k p ∷ map (node_of header h) ps else node_of header h q ∷ placed (node_of header k p) (map (node_of header h) ps))
-      ≡ node_of header k q ∷ map (node_of header k) ps
-  by-name true s e ih =
-      let same : q ≡ p = some-is q p e in
-      ap (λ z. node_of header k z ∷ map (node_of header h) ps) (sym same) ∙ ap (λ z. node_of header k q ∷ z) (rest ps (subst (λ (z : Peer). AreOthers z.name ps) same apart.0))
-  by-name false s e ih =
-      ap (λ z. z ∷ placed (node_of header k p) (map (node_of header h) ps)) (sym (stays q (same-sym p.name q.name ∙ s)))
-      ∙ ap (λ z. node_of header k q ∷ z) (ih e)
+      by-name : (b : Bool) → bytes_eq q.name p.name ≡ b → (if b then Some q else find (λ r. bytes_eq r.name p.name) ps) ≡ Some p
+          → (find (λ r. bytes_eq r.name p.name) ps ≡ Some p → placed (node_of header k p) (map (node_of header h) ps) ≡ map
+          (node_of header k) ps)
+          → (if b then node_of header k p ∷ map (node_of header h) ps else node_of header h q ∷ placed (node_of header k p)
+          (map (node_of header h) ps))
+          ≡ node_of header k q ∷ map (node_of header k) ps
+      by-name true s e ih =
+          let same : q ≡ p = some-is q p e in
+          ap (λ z. node_of header k z ∷ map (node_of header h) ps) (sym same)
+          ∙ ap (λ z. node_of header k q ∷ z) (rest ps (subst (λ (z : Peer). AreOthers z.name ps) same apart.0))
+      by-name false s e ih =
+          ap (λ z. z ∷ placed (node_of header k p) (map (node_of header h) ps)) (sym (stays q (same-sym p.name q.name ∙ s)))
+          ∙ ap (λ z. node_of header k q ∷ z) (ih e)
 
 -- ---- an act of another gateway, or of none
 
@@ -215,9 +224,12 @@ rest-away kept header (acts.Boot f) h p e =
     (orders g o h) (if here then 0 else requests g h) (answered g o h)) e
 rest-away kept header (acts.Opened f s) h p e =
     let g : List ℕ = p.name in
-    ap (λ (here : Bool). counted kept header p (if here then openings g h + 1 else openings g h) (here || sessions.is_open g h) (if here then s else sessions.session_taken g h)
-    (going_down p h (if here then s else sessions.session_taken g h)) (going_up p h (if here then openings g h + 1 else openings g h)) (noted p h (if here then openings g h + 1 else openings g h))
-    (orders g (if here then openings g h + 1 else openings g h) h) (if here then 0 else requests g h) (answered g (if here then openings g h + 1 else openings g h) h)) e
+    ap (λ (here : Bool). counted kept header p (if here then openings g h + 1 else openings g h) (here || sessions.is_open g h)
+    (if here then s else sessions.session_taken g h)
+    (going_down p h (if here then s else sessions.session_taken g h)) (going_up p h (if here then openings g h + 1 else openings g h))
+    (noted p h (if here then openings g h + 1 else openings g h))
+    (orders g (if here then openings g h + 1 else openings g h) h) (if here then 0 else requests g h)
+    (answered g (if here then openings g h + 1 else openings g h) h)) e
 rest-away kept header (acts.Cut f s) h p e =
     let g : List ℕ = p.name in
     let o : ℕ = openings g h in
@@ -244,14 +256,16 @@ rest-away kept header (acts.Answered f s k a) h p e =
     let g : List ℕ = p.name in
     let o : ℕ = openings g h in
     ap (λ (here : Bool). counted kept header p o (sessions.is_open g h) (sessions.session_taken g h)
-    (going_down p h (sessions.session_taken g h)) (drop (if here && (s == o) then answered g o h + 1 else answered g o h) (pipes.responses (response_at g) g o h)) (noted p h o)
+    (going_down p h (sessions.session_taken g h)) (drop (if here && (s == o) then answered g o h + 1 else answered g o h)
+    (pipes.responses (response_at g) g o h)) (noted p h o)
     (orders g o h) (requests g h) (if here && (s == o) then answered g o h + 1 else answered g o h)) e
 rest-away kept header (acts.Notice f s n) h p e =
     let g : List ℕ = p.name in
     let o : ℕ = openings g h in
     let ls : List (List ℕ) = pipes.lines line_at g o h in
     ap (λ (here : Bool). counted kept header p o (sessions.is_open g h) (sessions.session_taken g h)
-    (going_down p h (sessions.session_taken g h)) (going_up p h o) (drop (sessions.notices_heard g o h) (if here && (s == o) then ls ++ line_at h n ∷ [] else ls))
+    (going_down p h (sessions.session_taken g h)) (going_up p h o)
+    (drop (sessions.notices_heard g o h) (if here && (s == o) then ls ++ line_at h n ∷ [] else ls))
     (orders g o h) (requests g h) (answered g o h)) e
 rest-away kept header (acts.Heard f s n) h p e =
     let g : List ℕ = p.name in
@@ -263,12 +277,14 @@ rest-away kept header (acts.Heard f s n) h p e =
 rest-away kept header a h p e = refl
 
 -- it leaves the gateway as it was
-pub node-away : (header : Header) (a : Act) (h : List Act) (p : Peer) → is_of p.name a ≡ false → node_of header (a ∷ h) p ≡ node_of header h p
+pub node-away : (header : Header) (a : Act) (h : List Act) (p : Peer) → is_of p.name a ≡ false
+    → node_of header (a ∷ h) p ≡ node_of header h p
 node-away header a h p e =
     ap (λ k. node_with k (pipe_at p.name p.address (a ∷ h)) header (a ∷ h) p) (kept-away p.name a h (at-of p.name a e))
     ∙ rest-away (kept_of (state_of p.name h)) header a h p e
 
-pub nodes-away : (header : Header) (xs h : List Act) (p : Peer) → list_any (is_of p.name) xs ≡ false → node_of header (after h xs) p ≡ node_of header h p
+pub nodes-away : (header : Header) (xs h : List Act) (p : Peer) → list_any (is_of p.name) xs ≡ false
+    → node_of header (after h xs) p ≡ node_of header h p
 nodes-away header [] h p e = refl
 nodes-away header (a ∷ xs) h p e =
     let parts = or_parts (is_of p.name a) (list_any (is_of p.name) xs) e in
@@ -279,7 +295,8 @@ pub all-away : (header : Header) (a : Act) (h : List Act) (ps : List Peer) → (
     → map (node_of header (a ∷ h)) ps ≡ map (node_of header h) ps
 all-away header a h [] e = refl
 all-away header a h (p ∷ ps) e =
-    ap (λ z. z ∷ map (node_of header (a ∷ h)) ps) (node-away header a h p (e p)) ∙ ap (λ z. node_of header h p ∷ z) (all-away header a h ps e)
+    ap (λ z. z ∷ map (node_of header (a ∷ h)) ps) (node-away header a h p (e p))
+    ∙ ap (λ z. node_of header h p ∷ z) (all-away header a h ps e)
 
 -- ---- the world that stands for a past
 
@@ -294,4 +311,5 @@ standing header h core = record {
 }
 
 pub standing-is : (header : Header) (p : Past) (w : World) → StandsFor header p w → w ≡ standing header p.world w.controller
-standing-is header p w s = (λ i. record { nodes = s.nodes i; controller = w.controller; sent = s.sent i; clock = s.clock i; taken = s.taken i })
+standing-is header p w s =
+    (λ i. record { nodes = s.nodes i; controller = w.controller; sent = s.sent i; clock = s.clock i; taken = s.taken i })

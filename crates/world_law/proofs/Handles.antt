@@ -1,5 +1,5 @@
 -- A gateway that handles its next request makes of the world that stands for a past the one that stands for the past with its block.
-use Rattle.std.proofs.Common.{◌≡◌, ℕ, ◌+◌, Bool, true, false, List, [], ◌∷◌, ◌++◌, map, Option, Some, None, Ok, refl, sym, ◌∙◌, ap, subst, append-nil, if◌then◌else◌}
+use Rattle.std.proofs.Common.{◌≡◌, ℕ, ◌+◌, false, List, [], ◌∷◌, ◌++◌, map, Option, Some, None, Ok, refl, sym, ◌∙◌, ap, subst}
 use Rattle.std.specs.Prelude.{find}
 use Rattle.std.specs.Option.{option_map}
 use Rattle.std.specs.Str.{bytes_eq}
@@ -20,10 +20,9 @@ use Rattle.rc_resource.specs.Replies.{reply_of}
 use Rattle.hist_acts.specs.declared.act.Act.{Act}
 use Rattle.hist_acts.specs.declared.act.Act.TheVariants as acts
 use Rattle.hist_acts.specs.declared.event.Header.{Header}
-use Rattle.hist_acts.specs.Past.{after, clock, events_taken, force}
+use Rattle.hist_acts.specs.Past.{after, clock, force}
 use Rattle.hist_acts.specs.Sessions.{next_request}
 use Rattle.hist_halves.specs.Halves.{live}
-use Rattle.hist_gateway.specs.Block as node
 use Rattle.hist_gateway.specs.Handle.{requests}
 use Rattle.hist_gateway.specs.Machine.{row_from}
 use Rattle.hist_gateway.specs.Rows as rows
@@ -35,7 +34,7 @@ use Rattle.session_pipe.specs.Sessions.{KeepsSessions}
 use Rattle.session_pipe.specs.UnderWay.{UnderWay, after_push, after_take}
 use Rattle.hist_sessions.specs.Pipes.{piped}
 use Rattle.hist_sessions.proofs.Pipes.{pipe-follows}
-use Rattle.hist_world.specs.Block.{gateway_at, handles_at, took, with_peer}
+use Rattle.hist_world.specs.Block.{gateway_at, handles_at, with_peer}
 use Rattle.hist_wire.specs.Wire.{line_at, pipe_at, request_at, response_at, response_to}
 use Rattle.gw_tables.specs.Kept.{Kept}
 use Rattle.gw_tables.specs.Kept as tables
@@ -44,14 +43,14 @@ use Rattle.gw_requests.specs.declared.act.GwAct.TheVariants as done
 use Rattle.gw_requests.specs.Requests.{Outcome, acts_of_change}
 use Rattle.gw_core.specs.Machine.{Event, Handle}
 use Rattle.gw_law.specs.Told.{kept_of}
-use Rattle.gw_history.specs.Told.{answer_of, event_of, told}
+use Rattle.gw_history.specs.Told.{answer_of, told}
 use Rattle.ctl_core.specs.Core.{Core}
 use Rattle.world_steps.specs.Nodes.{Node, acts_told, after_request, all_piped, all_sent, naming, outcome}
 use Rattle.world_steps.specs.Worlds.{node_at}
-use Rattle.world_steps.specs.Steps.{did, down_at, handle}
+use Rattle.world_steps.specs.Steps.{did, down_at}
 use Rattle.world_law.specs.Stands.{node_of, sent}
 use Rattle.world_law.proofs.Frames.{find-node, found-name, node_with, nodes-away, standing}
-use Rattle.world_law.proofs.Blocks.{Law, block-is, clock-told, of-told, own_gateway, sent-told, taken-told}
+use Rattle.world_law.proofs.Blocks.{Law, block-is, clock-told, of-told, sent-told, taken-told}
 use Rattle.world_law.proofs.Turns.{IsFound, LeaveOthers, Ready, moved}
 
 -- ---- the databases
@@ -75,14 +74,16 @@ replied r c = acts_of_change r.tree.spd c ++ done.Reply (reply_of r) ∷ []
 -- the gateway after them, where what is kept is this
 abbrev replied_node : Header → List Act → Peer → ℕ → List GwAct → Kept → Node
 replied_node header h p now xs kept =
-    record (node_with kept (all_piped now xs (after_take lanes.Down (pipe_at p.name p.address h))) header h p) { handled = requests p.name h + 1 }
+    record (node_with kept (all_piped now xs (after_take lanes.Down
+    (pipe_at p.name p.address h))) header h p) { handled = requests p.name h + 1 }
 
 -- the handled request, after this past: the response goes up
 record Up (header : Header) (p : Peer) (k : List Act) (s n : ℕ) (r : table.Outcome) (u : UnderWay) : Type 0 where
   pub pipe : piped (request_at p.address) (response_at p.name) line_at p.name k (acts.Handled p.name s n (answer_of (reply_of r)) ∷ []) u
       ≡ after_push lanes.Up (response_text (reply_message (reply_of r))) (after_take lanes.Down u)
   pub counts : (kept : Kept) (pipe : UnderWay)
-      → record (node_with kept pipe header k p) { handled = requests p.name k + 1 } ≡ node_with kept pipe header (acts.Handled p.name s n (answer_of (reply_of r)) ∷ k) p
+      → record (node_with kept pipe header k p) { handled = requests p.name k + 1 }
+      ≡ node_with kept pipe header (acts.Handled p.name s n (answer_of (reply_of r)) ∷ k) p
 
 goes-up : (header : Header) (p : Peer) (k : List Act) (s n : ℕ) (r : table.Outcome) (u : UnderWay) (a : Answer) → a ≡ answer_of (reply_of r)
     → response_at p.name k a ≡ response_text (reply_message (reply_of r)) → Up header p k s n r u
@@ -101,16 +102,21 @@ record IsRequest (p : Peer) (m : ℕ) (k : List Act) (o : Order) (r : table.Outc
   pub next : next_request p.name (acts.Took m ∷ k) ≡ Some o
   pub reply : r ≡ table.reply (rows.tree_of p.name (acts.Took m ∷ k)) (ask_of o)
 
-text-of : (o : Order) (r q : table.Outcome) → r ≡ q → response_text (reply_message (reply_of q)) ≡ response_text (reply_message (reply_of r))
+text-of : (o : Order) (r q : table.Outcome) → r ≡ q
+    → response_text (reply_message (reply_of q)) ≡ response_text (reply_message (reply_of r))
 text-of o r q e = ap (λ z. response_text (reply_message (reply_of z))) (sym e)
 
 -- the pipe after a request with this change, and the counts
 record Leaves (header : Header) (p : Peer) (h : List Act) (xs : List GwAct) : Type 0 where
-  pub pipe : (now : ℕ) (u : UnderWay) → piped (request_at p.address) (response_at p.name) line_at p.name h (map (told (naming (node_of header h p))) xs) u ≡ all_piped now xs (after_take lanes.Down u)
+  pub pipe : (now : ℕ) (u : UnderWay)
+      → piped (request_at p.address) (response_at p.name) line_at p.name h (map (told (naming (node_of header h p))) xs) u
+      ≡ all_piped now xs (after_take lanes.Down u)
   pub counts : (kept : Kept) (pipe : UnderWay)
-      → record (node_with kept pipe header h p) { handled = requests p.name h + 1 } ≡ node_with kept pipe header (after h (map (told (naming (node_of header h p))) xs)) p
+      → record (node_with kept pipe header h p) { handled = requests p.name h + 1 }
+      ≡ node_with kept pipe header (after h (map (told (naming (node_of header h p))) xs)) p
 
-leaves : (header : Header) (p : Peer) (m : ℕ) (k : List Act) (o : Order) (r : table.Outcome) (c : Change) → IsRequest p m k o r → Leaves header p (acts.Took m ∷ k) (replied r c)
+leaves : (header : Header) (p : Peer) (m : ℕ) (k : List Act) (o : Order) (r : table.Outcome) (c : Change) → IsRequest p m k o r
+    → Leaves header p (acts.Took m ∷ k) (replied r c)
 leaves header p m k o r changes.Nothing is =
     let h : List Act = acts.Took m ∷ k in
     let n = naming (node_of header h p) in
@@ -154,13 +160,15 @@ leaves header p m k o r (changes.Gone x) is =
 -- ---- the gateway after its request
 
 handled-node : (header : Header) (p : Peer) (h : List Act) (xs : List GwAct) (now : ℕ) (kept : Kept) → Leaves header p h xs
-    → KeepsSessions (after h (map (told (naming (node_of header h p))) xs)) → kept ≡ kept_of (state_of p.name (after h (map (told (naming (node_of header h p))) xs)))
+    → KeepsSessions (after h (map (told (naming (node_of header h p))) xs))
+    → kept ≡ kept_of (state_of p.name (after h (map (told (naming (node_of header h p))) xs)))
     → replied_node header h p now xs kept ≡ node_of header (after h (map (told (naming (node_of header h p))) xs)) p
 handled-node header p h xs now kept is keeps same =
     let k : List Act = after h (map (told (naming (node_of header h p))) xs) in
     let u : UnderWay = pipe_at p.name p.address h in
     let pipe : all_piped now xs (after_take lanes.Down u) ≡ pipe_at p.name p.address k =
-    sym (is.pipe now u) ∙ pipe-follows (request_at p.address) (response_at p.name) line_at p.name h (map (told (naming (node_of header h p))) xs) keeps in
+    sym (is.pipe now u)
+    ∙ pipe-follows (request_at p.address) (response_at p.name) line_at p.name h (map (told (naming (node_of header h p))) xs) keeps in
     ap (λ z. replied_node header h p now xs z) same
     ∙ (ap (λ z. record (node_with (kept_of (state_of p.name k)) z header h p) { handled = requests p.name h + 1 }) pipe
     ∙ is.counts (kept_of (state_of p.name k)) (pipe_at p.name p.address k))
@@ -173,7 +181,8 @@ DownTurn header h core g o q =
     → down_at (Some o) (standing header h core) (option_map (node_of header h) q)
     ≡ did (handles_at h (with_peer header g q) (Some o)) (standing header (after h (handles_at h (with_peer header g q) (Some o))) core)
 
-down-some : Law → (header : Header) (m : ℕ) (k : List Act) (core : Core) (o : Order) (p : Peer) → Ready header (acts.Took m ∷ k) → IsFound header p.name p
+down-some : Law → (header : Header) (m : ℕ) (k : List Act) (core : Core) (o : Order) (p : Peer) → Ready header (acts.Took m ∷ k)
+    → IsFound header p.name p
     → next_request p.name (acts.Took m ∷ k) ≡ Some o → DownTurn header (acts.Took m ∷ k) core p.name o (Some p)
 down-some law header m k core o p ready found next keeps =
     let h : List Act = acts.Took m ∷ k in
@@ -193,17 +202,22 @@ down-some law header m k core o p ready found next keeps =
     (sym (sent-told (naming n) out.acts h)) (sym (clock-told (naming n) out.acts h)) (sym (taken-told (naming n) out.acts h)))
     ∙ ap (λ zs. did zs (standing header (after h zs) core)) b.acts
 
-down-case : Law → (header : Header) (m : ℕ) (k : List Act) (core : Core) (g : List ℕ) (o : Order) (q : Option Peer) → Ready header (acts.Took m ∷ k)
-    → find (λ p. bytes_eq p.name g) header.gateways ≡ q → next_request g (acts.Took m ∷ k) ≡ Some o → DownTurn header (acts.Took m ∷ k) core g o q
+down-case : Law → (header : Header) (m : ℕ) (k : List Act) (core : Core) (g : List ℕ) (o : Order) (q : Option Peer)
+    → Ready header (acts.Took m ∷ k)
+    → find (λ p. bytes_eq p.name g) header.gateways ≡ q → next_request g (acts.Took m ∷ k) ≡ Some o
+    → DownTurn header (acts.Took m ∷ k) core g o q
 down-case law header m k core g o None ready e next keeps = refl
 down-case law header m k core g o (Some p) ready e next keeps =
-    subst (λ z. IsFound header z p → next_request z (acts.Took m ∷ k) ≡ Some o → DownTurn header (acts.Took m ∷ k) core z o (Some p)) (found-name g p header.gateways e)
+    subst (λ z. IsFound header z p → next_request z (acts.Took m ∷ k) ≡ Some o → DownTurn header (acts.Took m ∷ k) core z o (Some p))
+    (found-name g p header.gateways e)
     (λ found first later. down-some law header m k core o p ready found first later) e next keeps
 
-pub down-turn : Law → (header : Header) (m : ℕ) (k : List Act) (core : Core) (g : List ℕ) (o : Option Order) → Ready header (acts.Took m ∷ k)
+pub down-turn : Law → (header : Header) (m : ℕ) (k : List Act) (core : Core) (g : List ℕ) (o : Option Order)
+    → Ready header (acts.Took m ∷ k)
     → next_request g (acts.Took m ∷ k) ≡ o → KeepsSessions (after (acts.Took m ∷ k) (handles_at (acts.Took m ∷ k) (gateway_at header g) o))
     → down_at o (standing header (acts.Took m ∷ k) core) (node_at g (standing header (acts.Took m ∷ k) core))
-    ≡ did (handles_at (acts.Took m ∷ k) (gateway_at header g) o) (standing header (after (acts.Took m ∷ k) (handles_at (acts.Took m ∷ k) (gateway_at header g) o)) core)
+    ≡ did (handles_at (acts.Took m ∷ k) (gateway_at header g) o)
+    (standing header (after (acts.Took m ∷ k) (handles_at (acts.Took m ∷ k) (gateway_at header g) o)) core)
 down-turn law header m k core g None ready next keeps = refl
 down-turn law header m k core g (Some o) ready next keeps =
     ap (down_at (Some o) (standing header (acts.Took m ∷ k) core)) (find-node header (acts.Took m ∷ k) g header.gateways)

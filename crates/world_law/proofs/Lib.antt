@@ -24,3 +24,6 @@ pub mod Gives
 pub mod CanStep
 pub mod ControllerEvents
 pub mod Start
+pub mod Spells
+pub mod Requests
+pub mod Steps

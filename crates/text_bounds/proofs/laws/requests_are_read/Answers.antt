@@ -9,6 +9,9 @@ pub returns : goal.returns
 returns c = record {
   looks = request_looks;
   same = same_request;
-  orders = λ host o a is typed. (request_again (order_message host o), request_whole (order_message host o) (order_writable host o a is typed),
-      same_request (order_message host o) ∙ c.orders_are_read.ensures host o is typed);
+  orders = λ host o a is typed. (
+    request_again (order_message host o),
+    request_whole (order_message host o) (order_writable host o a is typed),
+    same_request (order_message host o) ∙ c.orders_are_read.ensures host o is typed,
+  );
 }
