@@ -1,2 +1,3 @@
+pub mod NoEntries
 pub mod Octets
 pub mod OneLine

@@ -74,16 +74,16 @@ opened-told n [] = refl
 opened-told n (x ∷ xs) = ap (λ b. b || list_any did_open xs) (opened-one n x) ∙ ap (λ b. was_opened (told n x) || b) (opened-told n xs)
 
 -- the arrival reaches the test of its tag and passes it
-abbrev half_opens : List ℕ → List Act → List ℕ → Option SadEntry → Bool
-half_opens g h b None = false
-half_opens g h b (Some e) =
+abbrev does_half_open : List ℕ → List Act → List ℕ → Option SadEntry → Bool
+does_half_open g h b None = false
+does_half_open g h b (Some e) =
     is_fresh (verdict_over e.window (numbers_taken g e.name h) (number_of e (numbers_taken g e.name h) b)) && does_open
     (esp.opened (keying e.spi e.key) b)
 
-abbrev view_opens : List ℕ → Addr → List Act → Result Packet NotPacket → Bool
-view_opens g own h (Err fault) = false
-view_opens g own h (Ok v) =
-    arrive.is_sealed_for own v && (not (nat_lt (length v.payload) 34) && half_opens g h v.payload (by_spi (spi_of v.payload) (live g h)))
+abbrev does_view_open : List ℕ → Addr → List Act → Result Packet NotPacket → Bool
+does_view_open g own h (Err fault) = false
+does_view_open g own h (Ok v) =
+    arrive.is_sealed_for own v && (not (nat_lt (length v.payload) 34) && does_half_open g h v.payload (by_spi (spi_of v.payload) (live g h)))
 
 if-opened : (b : Bool) (x y : Act) → was_opened x ≡ true → was_opened y ≡ true → was_opened (if b then x else y) ≡ true
 if-opened true x y p q = p
@@ -122,7 +122,7 @@ told-unopened g j n true = refl
 told-unopened g j n false = refl
 
 half-opened : (g o b : List ℕ) (h : List Act) (found : Option SadEntry)
-    → list_any was_opened (arrive.arrive_by_half g (acts.Arrived g o ∷ h) b found) ≡ half_opens g h b found
+    → list_any was_opened (arrive.arrive_by_half g (acts.Arrived g o ∷ h) b found) ≡ does_half_open g h b found
 half-opened g o b h None =
     told-unopened g (acts.Arrived g o ∷ h) (notices.BadSpi (spi_of b)) (does_bad_spi_stand g (spi_of b) (acts.Arrived g o ∷ h))
 half-opened g o b h (Some e) =
@@ -132,7 +132,7 @@ half-opened g o b h (Some e) =
 long-opened : (g o b : List ℕ) (h : List Act) (short : Bool)
     → list_any was_opened (if short then arrive.drops g why.Short else arrive.arrive_by_half g (acts.Arrived g o ∷ h) b
     (by_spi (spi_of b) (live g h)))
-    ≡ (not short && half_opens g h b (by_spi (spi_of b) (live g h)))
+    ≡ (not short && does_half_open g h b (by_spi (spi_of b) (live g h)))
 long-opened g o b h true = refl
 long-opened g o b h false = half-opened g o b h (by_spi (spi_of b) (live g h))
 
@@ -148,7 +148,7 @@ clear-opened g o (Some p) = ap (λ b. b || false) (action-opened g o p.action)
 own-opened : (g o : List ℕ) (h : List Act) (v : Packet) (own : Bool)
     → list_any was_opened (if own then arrive.esp_acts g (acts.Arrived g o ∷ h) v.payload else arrive.arrive_by_entry g o
     (first_entry (force g h) In v) ∷ [])
-    ≡ (own && (not (nat_lt (length v.payload) 34) && half_opens g h v.payload (by_spi (spi_of v.payload) (live g h))))
+    ≡ (own && (not (nat_lt (length v.payload) 34) && does_half_open g h v.payload (by_spi (spi_of v.payload) (live g h))))
 own-opened g o h v true = long-opened g o v.payload h (nat_lt (length v.payload) 34)
 own-opened g o h v false = clear-opened g o (first_entry (force g h) In v)
 
@@ -157,12 +157,12 @@ fault-opened faults.Fragment = refl
 fault-opened _ = refl
 
 view-opened : (g o : List ℕ) (own : Addr) (h : List Act) (r : Result Packet NotPacket)
-    → list_any was_opened (arrive.arrive_by_view g own (acts.Arrived g o ∷ h) o r) ≡ view_opens g own h r
+    → list_any was_opened (arrive.arrive_by_view g own (acts.Arrived g o ∷ h) o r) ≡ does_view_open g own h r
 view-opened g o own h (Err fault) = ap (λ b. b || false) (fault-opened fault)
 view-opened g o own h (Ok v) = own-opened g o h v (arrive.is_sealed_for own v)
 
 arrival-opened : (g o : List ℕ) (own : Addr) (h : List Act)
-    → list_any was_opened (arrive.arrive_acts g own (acts.Arrived g o ∷ h) o) ≡ view_opens g own h (view_of o)
+    → list_any was_opened (arrive.arrive_acts g own (acts.Arrived g o ∷ h) o) ≡ does_view_open g own h (view_of o)
 unfolding arrive.arrive_acts
 arrival-opened g o own h = view-opened g o own h (view_of o)
 
@@ -298,7 +298,7 @@ both false y z = refl
 
 half-forged : (gs : List Peer) (g b : List ℕ) (h : List Act) (found : Option SadEntry) → IsLawful gs h
     → by_spi (spi_of b) (live g h) ≡ found
-    → is_half_forged g h b found ≡ (half_opens g h b found && not (was_sent b (sent h)))
+    → is_half_forged g h b found ≡ (does_half_open g h b found && not (was_sent b (sent h)))
 half-forged gs g b h None l e = refl
 half-forged gs g b h (Some e) l found =
     let fresh : Bool = is_fresh (verdict_over e.window (numbers_taken g e.name h) (number_of e (numbers_taken g e.name h) b)) in
@@ -312,12 +312,12 @@ long-forged true false half opens sent_so e = refl
 long-forged false long half opens sent_so e = refl
 
 view-forged : (gs : List Peer) (g : List ℕ) (own : Addr) (h : List Act) (r : Result Packet NotPacket) → IsLawful gs h
-    → is_view_forged g own h r ≡ (view_opens g own h r && not (was_sent (payload_of r) (sent h)))
+    → is_view_forged g own h r ≡ (does_view_open g own h r && not (was_sent (payload_of r) (sent h)))
 view-forged gs g own h (Err fault) l = refl
 view-forged gs g own h (Ok v) l =
     let found : Option SadEntry = by_spi (spi_of v.payload) (live g h) in
     long-forged (arrive.is_sealed_for own v) (not (nat_lt (length v.payload) 34)) (is_half_forged g h v.payload found)
-    (half_opens g h v.payload found) (was_sent v.payload (sent h))
+    (does_half_open g h v.payload found) (was_sent v.payload (sent h))
     (half-forged gs g v.payload h found l refl)
 
 pub forged-is : Law → (header : Header) (h : List Act) (p : Peer) (o : List ℕ) → Ready header h → IsLawful header.gateways h
@@ -329,6 +329,6 @@ forged-is law header h p o ready l =
     let b = block-is law header h p (Arrive o) (ready.order p.name) (ready.named p) in
     let ys : List Act = arrive.arrive_acts p.name p.address (acts.Arrived p.name o ∷ h) o in
     let told_so : map (told n) xs ≡ ys = tail-is (acts.Arrived p.name o) (acts.Arrived p.name o) (map (told n) xs) ys b.acts in
-    let opened : list_any did_open xs ≡ view_opens p.name p.address h (view_of o) =
+    let opened : list_any did_open xs ≡ does_view_open p.name p.address h (view_of o) =
     opened-told n xs ∙ (ap (list_any was_opened) told_so ∙ arrival-opened p.name o p.address h) in
     ap (λ c. c && not (was_sent (esp_of o) (sent h))) opened ∙ sym (view-forged header.gateways p.name p.address h (view_of o) l)

@@ -20,4 +20,5 @@ returns-in-Ok-Whole c =
     c.if-taken-octets.false
 
 pub returns : goal.returns
-returns c = fails_whole c.args.feeder.kind c.args.octets.now c.in-Err.refused _ (c.in-Err.ensures.gives [] (since_none c.args.feeder c.requires))
+returns c = fails_whole c.args.feeder.kind c.args.octets.now c.in-Err.refused _ (c.in-Err.ensures.gives []
+    (since_none c.args.feeder c.requires))
