@@ -13,7 +13,7 @@ use Rattle.hist_acts.specs.declared.act.Act.{Act}
 use Rattle.hist_acts.specs.declared.act.Act.TheVariants as acts
 use Rattle.hist_acts.specs.Sessions.{handled, is_session, next_request, session_taken}
 use Rattle.hist_halves.specs.Halves.{was_put}
-use Rattle.hist_clear.specs.Safe.{ClearIsLet}
+use Rattle.hist_safety.specs.Clear.{ClearIsLet}
 use Rattle.hist_safety.specs.Orders.{place_of, session_of, site}
 use Rattle.hist_safety.specs.Law.{IsAnswer, IsLawful, DropMayHappen, GiveMayHappen, MayHappen, PassMayHappen, SendMayHappen, is_ready}
 use Rattle.hist_safety.specs.Kept.{IsBehind, IsPutAt}

@@ -35,7 +35,7 @@ use Rattle.hist_acts.specs.declared.act.Act.{Act}
 use Rattle.hist_acts.specs.declared.act.Act.TheVariants as acts
 use Rattle.hist_halves.specs.Sealed.{by_spi, esp_of, number_from, number_of, payload_of}
 use Rattle.hist_halves.specs.Halves.{is_lapsed, is_live, is_sealed, live, numbers_taken, put_of}
-use Rattle.hist_clear.specs.Safe.{ClearIsLet}
+use Rattle.hist_safety.specs.Clear.{ClearIsLet}
 use Rattle.hist_safety.specs.Orders.{mirrored}
 use Rattle.hist_safety.specs.Carried.{Delivers, IsGenuine, IsUndelivered, Sends, aes_in, keying_of, was_sealed}
 use Rattle.hist_safety.specs.Law.{IsLawful, IsWhole}

@@ -22,7 +22,7 @@ use Rattle.hist_acts.specs.declared.act.Act.{Act}
 use Rattle.hist_acts.specs.declared.act.Act.TheVariants as acts
 use Rattle.hist_halves.specs.Sealed.{by_spi, esp_of, number_of}
 use Rattle.hist_halves.specs.Halves.{is_lapsed, is_live, is_sealed, live, put_of, numbers_taken}
-use Rattle.hist_clear.specs.Safe.{ClearIsLet}
+use Rattle.hist_safety.specs.Clear.{ClearIsLet}
 use Rattle.hist_safety.specs.Orders.{is_removal_ordered, mirrored, order_of, site}
 use Rattle.hist_safety.specs.Carried.{ComesTo, Delivers, IsGenuine, keying_of, was_given, was_sent}
 use Rattle.hist_safety.specs.Law.{IsAnswer, IsLawful, GiveMayHappen, MayHappen}

@@ -16,7 +16,7 @@ use Rattle.hist_acts.specs.declared.act.Act.TheVariants as acts
 use Rattle.hist_acts.specs.Sessions.{answer_at, answered, handled, is_open, next_request, openings, orders, session_taken}
 use Rattle.hist_halves.specs.Sealed.{is_opened}
 use Rattle.hist_halves.specs.Halves.{is_live}
-use Rattle.hist_clear.specs.Safe.{ClearIsLet}
+use Rattle.hist_safety.specs.Clear.{ClearIsLet}
 use Rattle.hist_safety.specs.Orders.{inbounds, is_removal_ordered, is_key_used, is_removal_answered, is_put_accepted, mirrored, order_of, was_order_given, site}
 use Rattle.hist_safety.specs.Carried.{Delivers, IsGenuine, IsOpened, IsUndelivered, Sends}
 

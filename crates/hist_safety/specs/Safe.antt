@@ -12,7 +12,7 @@ use Rattle.hist_acts.specs.declared.act.Act.{Act}
 use Rattle.hist_acts.specs.declared.act.Act.TheVariants as acts
 use Rattle.hist_halves.specs.Sealed.{esp_of, number_of}
 use Rattle.hist_halves.specs.Halves.{is_lapsed, is_live, put_of, numbers_taken, was_put}
-use Rattle.hist_clear.specs.Safe.{ClearIsLet}
+use Rattle.hist_safety.specs.Clear.{ClearIsLet}
 use Rattle.hist_safety.specs.Orders.{is_removal_ordered, site}
 use Rattle.hist_safety.specs.Carried.{address_of, aes_in, was_given, was_sealed, was_sent}
 

@@ -31,7 +31,7 @@ use Rattle.hist_gateway.specs.Block.{Gateway}
 use Rattle.hist_gateway.specs.May.{GatewayMayActAll, IsLetOut, IsSealedLet, GatewayMayAct}
 use Rattle.hist_safety.specs.Carried.{Sends, keying_of}
 use Rattle.hist_safety.specs.Law.{IsLawful, AllMayHappen, MayHappen, is_ready}
-use Rattle.hist_clear.specs.Safe.{ClearIsLet}
+use Rattle.hist_safety.specs.Clear.{ClearIsLet}
 use Rattle.hist_safety.proofs.Basics.{no, both-right, some-is}
 use Rattle.hist_safety.specs.Kept.{IsOneOf}
 use Rattle.hist_safety.proofs.Live.{stands}

@@ -1,4 +1,7 @@
-pub mod PoliciesLemmas
-pub mod WorldLemmas
 pub mod Bytes
-pub mod ReaderLemmas
+pub mod Lines
+pub mod Events
+pub mod Taking
+pub mod Going
+pub mod Ends
+pub mod Whole

@@ -1,5 +1,3 @@
-pub mod Policies
-pub mod World
 pub mod Script
 pub mod Run
 pub mod Reader

@@ -1,90 +1,149 @@
 -- What the state of a run between two octets stands for.
-use Rattle.std.specs.Prelude.{◌≡◌, ◌≤◌, ◌+◌, ℕ, Bool, true, false, List, [], ◌∷◌, ◌++◌, length, Option, Some, None, MatchOption, Result, Ok, Err, vec_len}
+use Rattle.std.specs.Prelude.{◌≡◌, ◌≤◌, ◌+◌, ℕ, Bool, true, false, List, [], ◌∷◌, ◌++◌, length, Option, Some, None, Result, Ok, Err, vec_len}
 use Rattle.ikl_base.specs.Outside.{HasRisen, IsCalm, HasFailed}
 use Rattle.ikl_base.specs.declared.status.Status.{Status}
 use Rattle.ikl_base.specs.declared.status.Status.TheVariants as statuses
 use Rattle.ikl_base.specs.declared.status.LineFault.{LineFault}
 use Rattle.ikl_base.specs.declared.fault.OrMemory.{OrMemory}
 use Rattle.ikl_base.specs.declared.fault.OrMemory.TheVariants as failures
+use Rattle.hist_acts.specs.declared.act.Act.{Act}
+use Rattle.hist_acts.specs.declared.act.Act.TheVariants as acts
 use Rattle.hist_acts.specs.declared.event.Event.{Event}
 use Rattle.hist_acts.specs.declared.event.Header.{Header}
-use Rattle.hist_acts.specs.Past.{after}
+use Rattle.hist_world.specs.Block.{Past, history, nothing}
+use Rattle.hist_world.specs.Stands.{past_at}
+use Rattle.hist_wire.specs.Histories.{LastForged}
+use Rattle.hist_wire.specs.Wire.{under_way}
+use Rattle.world_law.specs.Stands.{StandsFor}
+use Rattle.world_run.specs.declared.go.Go.{Go}
+use Rattle.world_run.specs.declared.go.Go.TheVariants as goes
 use Rattle.script_lines.specs.Text.{text_of}
+use Rattle.ikeless_cli.specs.declared.running.Running.{Running}
 use Rattle.ikeless_cli.specs.declared.reader.Reader.{Reader}
-use Rattle.ikeless_cli.specs.declared.world.World.{World}
-use Rattle.ikeless_cli.specs.Script.{HasNoLf, IsLine, AreLines, joined, IsScript, acts_of}
-use Rattle.ikeless_cli.specs.World.{StandsFor}
-use Rattle.ikeless_cli.specs.Run.{Refuses, Ran, BrokeOff, is_write_fault}
+use Rattle.ikeless_cli.specs.Script.{HasNoLf, IsLine, AreLines, joined, IsScript}
+use Rattle.ikeless_cli.specs.Run.{AreGenuine, IsLastArrival, Refuses, Ran, is_write_fault}
+
+-- ---- what was taken
 
 -- the header, once it was read
-abbrev pub header_kept : Option World → Option Header
+abbrev pub header_kept : Option Running → Option Header
 header_kept None = None
-header_kept (Some w) = Some w.header
-
--- the number of lines taken
-abbrev pub lines_of : Option World → ℕ
-lines_of None = 0
-lines_of (Some w) = w.taken + 1
+header_kept (Some r) = Some r.world.header
 
 -- the number of events taken
-abbrev pub taken_of : Option World → ℕ
+abbrev pub taken_of : Option Running → ℕ
 taken_of None = 0
-taken_of (Some w) = w.taken
+taken_of (Some r) = r.events
 
--- these lines and events were taken
-pub record Stands (world : Option World) (lines : List (List ℕ)) (events : List Event) : Type 0 where
+-- the number of lines taken
+abbrev pub lines_of : Option Running → ℕ
+lines_of None = 0
+lines_of (Some r) = r.events + 1
+
+-- what happened at these events
+abbrev pub acts_of : Option Header → List Event → List Act
+acts_of None es = []
+acts_of (Some h) es = history (under_way h) h nothing es
+
+-- the past after these events
+abbrev pub past_of : Header → List Event → Past
+past_of h es = past_at (under_way h) h nothing es
+
+-- the world stands for what happened at these events
+abbrev pub IsStateOf : Option Running → List Event → Type 0
+IsStateOf None es = Unit {0}
+IsStateOf (Some r) es = StandsFor r.world.header (past_of r.world.header es) r.world.world × (r.events ≡ length es)
+
+-- these lines and events were taken, none of them a forged arrival
+pub record Stands (running : Option Running) (lines : List (List ℕ)) (events : List Event) : Type 0 where
   pub each : AreLines lines
-  pub script : IsScript (header_kept world) lines events
-  pub state : MatchOption world (Unit {0}) (λ w. StandsFor w (after [] (acts_of (Some w.header) events)))
+  pub script : IsScript (header_kept running) lines events
+  pub genuine : AreGenuine (header_kept running) events
+  pub state : IsStateOf running events
 
--- what a line that is taken adds
-pub record TakesLine (old new : Option World) (line text : List ℕ) : Type 0 where
-  pub more : (lines : List (List ℕ)) (events : List Event) → IsLine line → Stands old lines events →
-      (events' : List Event) × Stands new (lines ++ line ∷ []) events' × (text_of (acts_of (header_kept new) events') ≡ text_of (acts_of (header_kept old) events) ++ text)
+-- the world can be stepped, and took as many events
+abbrev pub IsLive : Option Running → Type 0
+IsLive None = Unit {0}
+IsLive (Some r) = (r.world.is_spent ≡ false) × (r.world.world.taken ≡ r.events)
+
+-- ---- a line
+
+-- one more line was taken, and this text is that of its block
+pub record GoesOn (new : Option Running) (lines : List (List ℕ)) (before text : List ℕ) : Type 0 where
+  pub events : List Event
+  pub stands : Stands new lines events
+  pub written : text_of (acts_of (header_kept new) events) ≡ before ++ text
+
+-- one more line was taken, it is a forged arrival of these octets, and this text is that of its block
+pub record IsOver (lines : List (List ℕ)) (before text octets : List ℕ) : Type 0 where
+  pub header : Header
+  pub events : List Event
+  pub each : AreLines lines
+  pub script : IsScript (Some header) lines events
+  pub forged : LastForged header events
+  pub last : IsLastArrival (acts_of (Some header) events) octets
+  pub written : text_of (acts_of (Some header) events) ≡ before ++ text
+
+abbrev pub After : Option Running → List (List ℕ) → List ℕ → List ℕ → Option (List ℕ) → Type 0
+After new lines before text None = GoesOn new lines before text
+After new lines before text (Some octets) = IsOver lines before text octets
+
+-- what a line that is taken adds: the text of its block, and the octets of a forged arrival
+pub record TakesLine (old new : Option Running) (line text : List ℕ) (forged : Option (List ℕ)) : Type 0 where
+  pub more : (lines : List (List ℕ)) (events : List Event) → IsLine line → Stands old lines events
+      → After new (lines ++ line ∷ []) (text_of (acts_of (header_kept old) events)) text forged
 
 -- a line that isn't taken is refused for its reason, unless memory ran out
-abbrev pub RefusesLine : Option World → List ℕ → OrMemory LineFault → Type 0
-RefusesLine world line (failures.Refused reason) = Refuses (header_kept world) line reason
-RefusesLine world line failures.NoMemory = Unit {0}
+abbrev pub RefusesLine : Option Running → List ℕ → OrMemory LineFault → Type 0
+RefusesLine running line (failures.Refused reason) = Refuses (header_kept running) line reason
+RefusesLine running line failures.NoMemory = Unit {0}
+
+-- the octets of an arrival that stands in its block alone
+abbrev pub arrival_of : List Act → List ℕ
+arrival_of (acts.Took k ∷ acts.Arrived g o ∷ []) = o
+arrival_of _ = []
+
+-- those of the arrival with which a run ends
+abbrev pub forged_of : List Act → Go → Option (List ℕ)
+forged_of acts goes.On = None
+forged_of acts goes.Forged = Some (arrival_of acts)
+
+-- a forged arrival ends the run at its line
+abbrev pub ends_forged : ℕ → Option (List ℕ) → Result Unit Status
+ends_forged line None = Ok tt
+ends_forged line (Some octets) = Err (statuses.Forged line octets)
+
+-- ---- octets
 
 -- The octets read are the lines taken and the line that has begun; the octets written are the text of what happened.
-pub record Reads (input text : List ℕ) (world : Option World) (line : List ℕ) (whole : ℕ) : Type 0 where
+pub record Reads (input text : List ℕ) (running : Option Running) (line : List ℕ) (whole : ℕ) : Type 0 where
   pub lines : List (List ℕ)
   pub events : List Event
   pub octets : input ≡ joined lines ++ line
-  pub stands : Stands world lines events
-  pub written : text ≡ text_of (acts_of (header_kept world) events)
+  pub stands : Stands running lines events
+  pub written : text ≡ text_of (acts_of (header_kept running) events)
   pub inside : HasNoLf line
   pub short : length line ≤ 1048576
   pub count : whole ≡ length (joined lines)
+  pub within : whole + length line ≤ 67108864
 
--- the counts of a run stay within the limit on a script
+-- the counts of a run stay within the limit on a script, and its world can be stepped
 pub record IsCounted (r : Reader) : Type 0 where
-  pub taken : taken_of r.world ≤ r.whole
+  pub taken : taken_of r.running ≤ r.whole
   pub limit : r.whole + vec_len r.line ≤ 67108864
+  pub live : IsLive r.running
 
 -- whatever stood before: these octets are read, more is written, and the new state stands for it
 abbrev pub Goes : (List ℕ → List ℕ → Type 0) → (List ℕ → List ℕ → Type 0) → (List ℕ → Type 0) → List ℕ → Type 0
 Goes old new gains octets = (input text : List ℕ) → old input text → (more : List ℕ) × gains more × new (input ++ octets) (text ++ more)
 
 -- whatever stood before: the run ends at these octets, whatever comes after them
-abbrev pub Ends : (List ℕ → List ℕ → Type 0) → Status → (List ℕ → Type 0) → List ℕ → Type 0
-Ends old status gains octets = (input text : List ℕ) → old input text → (more : List ℕ) × gains more
-    × ((left : Option (List ℕ)) (after : List ℕ) → Ran status left (input ++ (octets ++ after)) (text ++ more))
-
--- the same, where the sink ended it
-abbrev pub Breaks : (List ℕ → List ℕ → Type 0) → (List ℕ → Type 0) → List ℕ → Type 0
-Breaks old gains octets = (input text : List ℕ) → old input text → (part : List ℕ) × gains part
-    × ((after : List ℕ) → BrokeOff (input ++ (octets ++ after)) (text ++ part))
-
--- the run ends with this status at these octets
 abbrev pub EndsWith : Status → (List ℕ → List ℕ → Type 0) → (List ℕ → Type 0) → List ℕ → Type 0
-EndsWith statuses.WriteFault old gains octets = Breaks old gains octets
-EndsWith status old gains octets = Ends old status gains octets
+EndsWith status old gains octets = (input text : List ℕ) → old input text → (more : List ℕ) × gains more
+    × ((left : Option (List ℕ)) (after : List ℕ) → Ran status left (input ++ (octets ++ after)) (text ++ more))
 
 -- whatever stood before: the run ends with this status within these octets
 abbrev pub Finishes : Status → (List ℕ → List ℕ → Type 0) → (List ℕ → Type 0) → List ℕ → Type 0
-Finishes statuses.WriteFault old gains octets = (input text : List ℕ) → old input text → (part : List ℕ) × gains part × BrokeOff (input ++ octets) (text ++ part)
 Finishes status old gains octets = (input text : List ℕ) → old input text → (more : List ℕ) × gains more
     × ((left : Option (List ℕ)) → Ran status left (input ++ octets) (text ++ more))
 

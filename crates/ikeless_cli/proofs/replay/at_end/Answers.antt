@@ -2,7 +2,7 @@ use Rattle.std.proofs.Common.{◌≡◌, ◌<◌, inl, inr, refl, ap, length, ar
 use Rattle.std.proofs.lemmas.Grind.{common_steps}
 use Rattle.ikeless_cli.specs.Reader.{header_kept}
 use Rattle.std.proofs.lemmas.List.{nil_from_length}
-use Rattle.ikeless_cli.proofs.ReaderLemmas.{ends-cut_off, ends-done, isnt-empty}
+use Rattle.ikeless_cli.proofs.Ends.{ends-cut_off, ends-done, isnt-empty}
 use Rattle.ikeless_cli.proofs.replay.at_end.Goals as goal
 
 pub returns-in-None-clause-ran : goal.returns-in-None-clause-ran

@@ -1,39 +1,30 @@
-use Rattle.std.proofs.Common.{◌≡◌, ◌+◌, ℕ, List, ◌++◌, take, true, subst, length-append, arith}
+use Rattle.std.proofs.Common.{◌≡◌, ℕ, List, ◌++◌, take, subst, length-append, arith}
 use Rattle.ikl_base.specs.Outside.{Loses}
-use Rattle.ikl_base.specs.declared.status.Status.TheVariants as statuses
 use Rattle.ikeless_cli.proofs.Bytes.{gains_more, loses_more, loses_no_more}
-use Rattle.ikeless_cli.proofs.ReaderLemmas.{ran-here, finishes-ran, finishes-broke, sink-on, at-end-after}
+use Rattle.ikeless_cli.proofs.Ends.{at-end-after, ends-fault}
+use Rattle.ikeless_cli.proofs.Going.{sink-on}
 use Rattle.ikeless_cli.proofs.replay.run.Goals as goal
 
 pub returns-in-Err-clause-ran : goal.returns-in-Err-clause-ran
-returns-in-Err-clause-ran g c = λ other.
+returns-in-Err-clause-ran g c =
     let inv = c.turns.invariant.so_far in
-    (inv.0, inv.1, loses_no_more _ _ _ _ inv.2 c.in-Err.ensures.gives, inv.3, ran-here statuses.ReadFault _ _ _ _ _ _ inv.4 inv.4.inside)
+    (inv.0, inv.1, loses_no_more _ _ _ _ inv.2 c.in-Err.ensures.gives, inv.3, ends-fault (g.S.Source.left c.read.new.self) _ _ _ _ _ inv.4)
 
 pub returns-then-n-eq0-clause-ran : goal.returns-then-n-eq0-clause-ran
-returns-then-n-eq0-clause-ran g c = λ other.
+returns-then-n-eq0-clause-ran g c =
     let inv = c.turns.invariant.so_far in
     let P : ℕ → Type 0 = λ n. Loses (g.S.Source.left c.turns.input) (g.S.Source.left c.read.new.self) (take n c.read.new.buf) in
     let none = subst P c.if-n-eq0.true c.in-Ok.ensures.gives.octets in
     (inv.0, inv.1, loses_no_more _ _ _ _ inv.2 none, inv.3, c.at_end.ensures.ran inv.0 inv.1 _ inv.4 (at-end-after _ _ (c.in-Ok.ensures.gives.end c.if-n-eq0.true (let size = c.turns.invariant.size in let kept = c.read.auto.buf in omega (arith, size, kept))) none))
 
 pub returns-in-Err-take_piece-clause-ran : goal.returns-in-Err-take_piece-clause-ran
-returns-in-Err-take_piece-clause-ran g c = λ other.
+returns-in-Err-take_piece-clause-ran g c =
     let inv = c.turns.invariant.so_far in
     let piece : List ℕ = c.split_at.result.0.now in
     let e : take c.in-Ok.n c.read.new.buf ≡ piece = cc in
     let P : List ℕ → Type 0 = λ x. Loses (g.S.Source.left c.turns.input) (g.S.Source.left c.read.new.self) x in
-    let step = finishes-ran c.in-Err-take_piece.status _ _ _ _ _ _ other c.in-Err-take_piece.ensures.err inv.0 inv.1 inv.4 in
+    let step = c.in-Err-take_piece.ensures.err inv.0 inv.1 inv.4 in
     (inv.0 ++ piece, inv.1 ++ step.0, loses_more _ _ _ _ _ inv.2 (subst P e c.in-Ok.ensures.gives.octets), gains_more _ _ _ _ _ inv.3 step.1, step.2 _)
-
-pub returns-in-Err-take_piece-clause-broke : goal.returns-in-Err-take_piece-clause-broke
-returns-in-Err-take_piece-clause-broke g c = λ broke.
-    let inv = c.turns.invariant.so_far in
-    let piece : List ℕ = c.split_at.result.0.now in
-    let e : take c.in-Ok.n c.read.new.buf ≡ piece = cc in
-    let P : List ℕ → Type 0 = λ x. Loses (g.S.Source.left c.turns.input) (g.S.Source.left c.read.new.self) x in
-    let step = finishes-broke c.in-Err-take_piece.status _ _ _ _ _ _ broke c.in-Err-take_piece.ensures.err inv.0 inv.1 inv.4 in
-    (inv.0 ++ piece, inv.1 ++ step.0, loses_more _ _ _ _ _ inv.2 (subst P e c.in-Ok.ensures.gives.octets), gains_more _ _ _ _ _ inv.3 step.1, step.2)
 
 pub turns-preserved : goal.turns-preserved
 turns-preserved g c =

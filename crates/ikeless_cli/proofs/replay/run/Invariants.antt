@@ -7,7 +7,7 @@ abbrev pub invariant-turns : goal.invariant-turns
 invariant-turns g l = record {
   so_far : (octets : List ℕ) × (text : List ℕ) × Loses (g.S.Source.left l.initial.input) (g.S.Source.left l.input) octets
       × Gains (g.K.Sink.written l.initial.output) (g.K.Sink.written l.output) text
-      × Reads octets text l.reader.world l.reader.line.items l.reader.whole × (l._turn ≤ length octets);
+      × Reads octets text l.reader.running l.reader.line.items l.reader.whole × (l._turn ≤ length octets);
   counted : IsCounted l.reader;
   size : length l.buf ≡ 65536;
   source : g.S.Source.faults l.initial.input ≤ g.S.Source.faults l.input;

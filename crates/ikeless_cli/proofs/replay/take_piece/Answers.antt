@@ -1,6 +1,7 @@
 use Rattle.std.proofs.Common.{◌≡◌, ℕ, ◌+◌, List, [], ◌∷◌, ◌++◌, get_or, take, drop, arith, ◌<◌, length}
 use Rattle.std.proofs.lemmas.Grind.{common_steps}
-use Rattle.ikeless_cli.proofs.ReaderLemmas.{reads-more, reads-finish, reads-same, sink-on}
+use Rattle.ikeless_cli.proofs.Ends.{reads-finish}
+use Rattle.ikeless_cli.proofs.Going.{reads-more, reads-same, sink-on}
 use Rattle.ikeless_cli.proofs.replay.take_piece.Goals as goal
 
 cut-at : (xs : List ℕ) (i : ℕ) → i < length xs → take i xs ++ get_or xs i 0 ∷ drop (i + 1) xs ≡ xs

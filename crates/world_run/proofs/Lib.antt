@@ -1,0 +1,11 @@
+pub mod Places
+pub mod Shapes
+pub mod Giving
+pub mod Counts
+pub mod Done
+pub mod Led
+pub mod Numbers
+pub mod Standing
+pub mod Telling
+pub mod Heard
+pub mod Events

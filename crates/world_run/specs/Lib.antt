@@ -1,0 +1,4 @@
+pub mod Taken
+pub mod Packets
+pub mod Sessions
+pub mod Kept
