@@ -145,7 +145,14 @@ fn there_is_room_for_4096_halves(rt: HostRuntime) -> Result<(), Fail> {
     assert_eq!(rt; fill(alloc, &mut gateway, 1, 4097)?, 4096);
     assert_eq!(rt; post(alloc, &mut gateway, 4097, 4097)?, Some(DENIED));
     let shown = read(alloc, &mut gateway)?;
-    assert_eq!(rt; shown, Some(Said { status: 200, is_denied: false, names: 4096 }));
+    assert_eq!(rt;
+        shown,
+        Some(Said {
+            status: 200,
+            is_denied: false,
+            names: 4096
+        })
+    );
     assert_eq!(rt; delete(alloc, &mut gateway, 7)?, Some(DONE));
     assert_eq!(rt; post(alloc, &mut gateway, 4097, 4097)?, Some(CREATED));
     Ok(())
