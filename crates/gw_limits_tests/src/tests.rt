@@ -73,7 +73,7 @@ fn half(alloc: Global, name: u32, spi: u32) -> Result<SadEntry, NoMemory> {
 }
 
 // The reply to a request, which comes last.
-fn said(acts: &GwActs) -> Option<Said> {
+fn reply_in(acts: &GwActs) -> Option<Said> {
     match acts.as_slice().last() {
         Some(GwAct::Reply(reply)) => Some(Said {
             status: reply.status,
@@ -97,7 +97,7 @@ fn post(
     }
     let mut acts = GwActs::new(alloc);
     gateway.step(GwEvent::Handle(Ok(Ask::PostSad(entry))), &mut acts)?;
-    Ok(said(&acts))
+    Ok(reply_in(&acts))
 }
 
 // Asks for a half to be removed.
@@ -106,13 +106,13 @@ fn delete(alloc: Global, gateway: &mut Gateway, name: u32) -> Result<Option<Said
     let name = Name::from_slice(alloc, text.as_bytes())?;
     let mut acts = GwActs::new(alloc);
     gateway.step(GwEvent::Handle(Ok(Ask::DeleteSad(name))), &mut acts)?;
-    Ok(said(&acts))
+    Ok(reply_in(&acts))
 }
 
 fn read(alloc: Global, gateway: &mut Gateway) -> Result<Option<Said>, NoMemory> {
     let mut acts = GwActs::new(alloc);
     gateway.step(GwEvent::Handle(Ok(Ask::GetSad)), &mut acts)?;
-    Ok(said(&acts))
+    Ok(reply_in(&acts))
 }
 
 // Installs halves with these serial numbers, and counts those that were installed.

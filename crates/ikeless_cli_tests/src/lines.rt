@@ -27,6 +27,12 @@ const REFUSED: [(&str, &str); 15] = [
     ),
 ];
 
+const NO_HEADERS: [(&[u8], &str); 3] = [
+    (b"", "end"),
+    (b"\xff\0\n", "octet"),
+    (b"world seq-last 0 a=192.0.2.1\n", "header"),
+];
+
 #[test]
 fn refused_lines_say_where_and_why(rt: HostRuntime) -> Result<(), Fail> {
     let alloc = rt.alloc();
@@ -34,15 +40,15 @@ fn refused_lines_say_where_and_why(rt: HostRuntime) -> Result<(), Fail> {
         let script = format!(in alloc; "{HEADER}\n{line}")?;
         check(&rt, alloc, script.as_bytes(), b"", (3, 2, reason))?;
     }
-    check(&rt, alloc, b"", b"", (3, 1, "end"))?;
-    check(&rt, alloc, b"\xff\0\n", b"", (3, 1, "octet"))?;
-    check(
-        &rt,
-        alloc,
-        b"world seq-last 0 a=192.0.2.1\n",
-        b"",
-        (3, 1, "header"),
-    )?;
+    Ok(())
+}
+
+#[test]
+fn a_script_begins_with_a_header(rt: HostRuntime) -> Result<(), Fail> {
+    let alloc = rt.alloc();
+    for (script, reason) in NO_HEADERS {
+        check(&rt, alloc, script, b"", (3, 1, reason))?;
+    }
     let alone = format!(in alloc; "{HEADER}\n")?;
     check(&rt, alloc, alone.as_bytes(), b"", (0, 0, ""))?;
     Ok(())

@@ -9,6 +9,7 @@ use std::test::Fail;
 
 const ROOM: usize = 1 << 20;
 
+/// The words of the command.
 pub fn replay_words(alloc: Global) -> Result<Vec<String>, NoMemory> {
     let mut words = Vec::new(alloc);
     words.push(String::from_str(alloc, "replay")?)?;
