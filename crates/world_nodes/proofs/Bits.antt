@@ -12,8 +12,10 @@ changed-bit bit b few small =
     let low : (bit * 256 + b) % 256 ≡ b = omega (arith, small) in
     let high : (bit * 256 + b) / 256 ≡ bit = omega (arith, small) in
     let within : bit * 256 + b < 2048 = omega (arith, few, small) in
-    let row = all_below_at (λ x. bit_xor (x % 256) (1 * 2 ^ (x / 256) % 2 ^ 8) == with_bit (x / 256) (x % 256)) 2048 (bit * 256 + b) table within in
-    let same = eqb-true (bit_xor ((bit * 256 + b) % 256) (1 * 2 ^ ((bit * 256 + b) / 256) % 2 ^ 8)) (with_bit ((bit * 256 + b) / 256) ((bit * 256 + b) % 256)) row in
+    let row = all_below_at (λ x. bit_xor (x % 256) (1 * 2 ^ (x / 256) % 2 ^ 8) == with_bit (x / 256) (x % 256)) 2048
+    (bit * 256 + b) table within in
+    let same = eqb-true (bit_xor ((bit * 256 + b) % 256) (1 * 2 ^ ((bit * 256 + b) / 256) % 2 ^ 8))
+    (with_bit ((bit * 256 + b) / 256) ((bit * 256 + b) % 256)) row in
     subst (λ hi. bit_xor b (1 * 2 ^ hi % 2 ^ 8) ≡ with_bit hi b) high
     (subst (λ lo. bit_xor lo (1 * 2 ^ ((bit * 256 + b) / 256) % 2 ^ 8) ≡ with_bit ((bit * 256 + b) / 256) lo) low same)
 
@@ -36,5 +38,6 @@ flipped-past bit (b ∷ bs) (suc i) le =
     rw (later, before) (ap (λ z. b ∷ z) (flipped-past bit bs i (omega (arith, le))))
 
 -- as the code does it
-pub flip : (bit : ℕ) (l : List ℕ) (i : ℕ) → bit < 8 → i < length l → get_or l i 0 < 256 → set l i (bit_xor (get_or l i 0) (1 * 2 ^ bit % 2 ^ 8)) ≡ flipped i bit l
+pub flip : (bit : ℕ) (l : List ℕ) (i : ℕ) → bit < 8 → i < length l → get_or l i 0 < 256
+    → set l i (bit_xor (get_or l i 0) (1 * 2 ^ bit % 2 ^ 8)) ≡ flipped i bit l
 flip bit l i few lt small = ap (λ b. set l i b) (changed-bit bit (get_or l i 0) few small) ∙ sym (flipped-at bit l i lt)

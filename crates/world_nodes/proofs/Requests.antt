@@ -1,5 +1,5 @@
 -- The next request of a gateway.
-use Rattle.std.proofs.Common.{◌≡◌, List, ℕ, Option, Some, None, Result, Ok, sym, subst, ◌∙◌}
+use Rattle.std.proofs.Common.{◌≡◌, List, ℕ, Option, Some, None, Result, Ok, sym, subst}
 use Rattle.std.specs.List.{All}
 use Rattle.ikl_base.specs.declared.address.Addr.{Addr}
 use Rattle.ikeless_tree.specs.declared.order.Lane.TheVariants as lanes
@@ -17,7 +17,8 @@ use Rattle.world_steps.specs.Conditions.{Asks, IsSent, IsWritten}
 
 -- these octets are read as what an order asks
 abbrev pub IsReadAs : List ℕ → Result Ask RcError → Type 0
-IsReadAs octets r = (host : Addr) (o : Order) → octets ≡ request_text (order_message host o) → IsSent host o → request_of (order_message host o) ≡ Ok (ask_of o) → r ≡ Ok (ask_of o)
+IsReadAs octets r = (host : Addr) (o : Order) → octets ≡ request_text (order_message host o) → IsSent host o
+    → request_of (order_message host o) ≡ Ok (ask_of o) → r ≡ Ok (ask_of o)
 
 -- what is done at the next request can be told
 pub asked-written : (n : Node) (octets : List ℕ) (r : Result Ask RcError) → next_message lanes.Down n.pipe ≡ Some octets → IsReadAs octets r

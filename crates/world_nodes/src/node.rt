@@ -180,8 +180,10 @@ impl Node {
         requires few { self.old.handled < 2 ^ 63 }
         ensures none { Asks self.old None → OnOk result ((self.new ≡ self.old) × (sent.new ≡ sent.old) × (acts.new ≡ acts.old)) }
         ensures node { (o : Given) → Asks self.old (Some o) → OnOk result (self.new ≡ after_request o self.old) }
-        ensures sent { (o : Given) → Asks self.old (Some o) → OnOk result (sent.new ≡ sent.old ++ all_sent (outcome self.old (Handle (Ok (ask_of o)))).acts) }
-        ensures acts { (o : Given) → Asks self.old (Some o) → OnOk result (acts.new ≡ acts.old ++ acts_told self.old (outcome self.old (Handle (Ok (ask_of o)))).acts) }
+        ensures sent { (o : Given) → Asks self.old (Some o)
+            → OnOk result (sent.new ≡ sent.old ++ all_sent (outcome self.old (Handle (Ok (ask_of o)))).acts) }
+        ensures acts { (o : Given) → Asks self.old (Some o)
+            → OnOk result (acts.new ≡ acts.old ++ acts_told self.old (outcome self.old (Handle (Ok (ask_of o)))).acts) }
     {
         match self.pipe.take(Lane::Down)? {
             None => Ok(()),
@@ -228,7 +230,8 @@ impl Node {
         requires sent { IsSent self.old.config.address order }
         requires few { self.old.orders < 2 ^ 63 }
         ensures node { OnOk result (self.new ≡ ordered order self.old) }
-        ensures acts { OnOk result (acts.new ≡ acts.old ++ told_as.Order self.old.name self.old.pipe.openings (self.old.orders + 1) order ∷ []) }
+        ensures acts { OnOk result (acts.new
+            ≡ acts.old ++ told_as.Order self.old.name self.old.pipe.openings (self.old.orders + 1) order ∷ []) }
     {
         let config = self.gateway.config();
         let octets = write_order(self.alloc, &config.address, &order)?;

@@ -35,7 +35,8 @@ giving-more (given.Refused why ∷ xs) x w =
     let ih = giving-more xs x w in
     record { world = ih.world; acts = ap (λ z. acts.Refused why ∷ z) ih.acts }
 giving-more (given.Order i o ∷ xs) x w = by-node (slice_get w.nodes i) (λ v. giving-more xs x v) where
-  by-node : (n : Option Node) → ((v : World) → IsMore xs x v (giving (xs ++ x ∷ []) v) (giving xs v)) → IsMore (given.Order i o ∷ xs) x w (order_at o (xs ++ x ∷ []) w n (giving (xs ++ x ∷ []))) (order_at o xs w n (giving xs))
+  by-node : (n : Option Node) → ((v : World) → IsMore xs x v (giving (xs ++ x ∷ []) v) (giving xs v))
+      → IsMore (given.Order i o ∷ xs) x w (order_at o (xs ++ x ∷ []) w n (giving (xs ++ x ∷ []))) (order_at o xs w n (giving xs))
   by-node None more =
       let ih = more w in
       record { world = ih.world; acts = ih.acts }
@@ -47,7 +48,8 @@ giving-more (given.Order i o ∷ xs) x w = by-node (slice_get w.nodes i) (λ v. 
 
 pub place-named : (w : World) (i : ℕ) (n : Node) → slice_get w.nodes i ≡ Some n → number_of n.name w ≡ i → IsPlace n.name i w
 place-named w i n e f = at-place-of w.nodes e f where
-  at-place-of : (ns : List Node) → slice_get ns i ≡ Some n → position_or_len (λ (m : Node). bytes_eq m.name n.name) ns ≡ i → position (λ (m : Node). bytes_eq m.name n.name) ns ≡ Some i
+  at-place-of : (ns : List Node) → slice_get ns i ≡ Some n → position_or_len (λ (m : Node). bytes_eq m.name n.name) ns ≡ i
+      → position (λ (m : Node). bytes_eq m.name n.name) ns ≡ Some i
   at-place-of ns e f =
       let within : i < length ns = slice_get_within ns i n e in
       grind (arith, common_steps)
@@ -93,7 +95,8 @@ pub record IsKept (k : ℕ) (w v : World) : Type 0 where
 less : (k : ℕ) (n : Node) → n.orders < k → n.orders < k + 1
 less k n l = omega (arith, l)
 
-pub one-kept : (k : ℕ) (x : CtlAct) (w : World) → AreNamed w → IsGiven w.nodes x → All (λ n. n.orders < k) w.nodes → IsKept k w (giving (x ∷ []) w).world
+pub one-kept : (k : ℕ) (x : CtlAct) (w : World) → AreNamed w → IsGiven w.nodes x → All (λ n. n.orders < k) w.nodes
+    → IsKept k w (giving (x ∷ []) w).world
 one-kept k (given.Refused why) w named g few = record {
   alike = alike-refl w.nodes;
   back = alike-refl w.nodes;
@@ -109,7 +112,8 @@ one-kept k (given.Order i o) w named (n, e, s) few =
     in
     let one : n.orders < k = subst (λ (z : Node). z.orders < k) same (few i n here.within) in
     let more : All (λ z. z.orders < k + 1) (set w.nodes i (ordered o n)) =
-    All-set (λ z. z.orders < k + 1) w.nodes i (ordered o n) (omega (arith, one)) (All-weaker (λ z. z.orders < k) (λ z. z.orders < k + 1) (less k) w.nodes few)
+    All-set (λ z. z.orders < k + 1) w.nodes i (ordered o n) (omega (arith, one))
+    (All-weaker (λ z. z.orders < k) (λ z. z.orders < k + 1) (less k) w.nodes few)
     in
     let kept : IsKept k w (with_node (ordered o n) w) = record {
       alike = subst (λ z. AreAlike w.nodes z) (sym nodes) (alike-back (set w.nodes i (ordered o n)) w.nodes alike);
@@ -123,11 +127,14 @@ pub all-middle : (P : CtlAct → Type 0) (xs ys : List CtlAct) (x : CtlAct) → 
 all-middle P [] ys x a = All-head P x ys a
 all-middle P (z ∷ zs) ys x a = all-middle P zs ys x (All-tail P z (zs ++ x ∷ ys) a)
 
-pub controlled-done : (e : CtlEvent) (w v : World) (core : Core) (xs : List CtlAct) (before after : List Act) → core ≡ (stepped w.controller e).core → xs ≡ (stepped w.controller e).acts
+pub controlled-done : (e : CtlEvent) (w v : World) (core : Core) (xs : List CtlAct) (before after : List Act)
+    → core ≡ (stepped w.controller e).core → xs ≡ (stepped w.controller e).acts
     → v ≡ (giving xs (record w { controller = core })).world → after ≡ before ++ (giving xs (record w { controller = core })).acts
     → IsDone (controlled e w) before after v gos.On
 controlled-done e w v core xs before after f g h a = record {
-  acts = a ∙ ap (λ z. before ++ (giving z (record w { controller = core })).acts) g ∙ ap (λ z. before ++ (giving (stepped w.controller e).acts (record w { controller = z })).acts) f;
+  acts = a ∙ ap (λ z. before ++ (giving z (record w { controller = core })).acts) g
+      ∙ ap (λ z. before ++ (giving (stepped w.controller e).acts (record w { controller = z })).acts) f;
   go = sym (ap go_of (giving-genuine (stepped w.controller e).acts (record w { controller = (stepped w.controller e).core })));
-  world = λ _. h ∙ ap (λ z. (giving z (record w { controller = core })).world) g ∙ ap (λ z. (giving (stepped w.controller e).acts (record w { controller = z })).world) f;
+  world = λ _. h ∙ ap (λ z. (giving z (record w { controller = core })).world) g
+      ∙ ap (λ z. (giving (stepped w.controller e).acts (record w { controller = z })).world) f;
 }

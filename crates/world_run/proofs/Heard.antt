@@ -28,7 +28,8 @@ use Rattle.world_run.proofs.Led.{IsChanged, changed-by, gives-on, number-is, pla
 use Rattle.world_run.proofs.Places.{IsAt, placed-some}
 
 -- where no answer is expected
-pub no-answer : (w : World) (g : List ℕ) (i : ℕ) (n : Node) → IsAt g i w n → expected w.controller i ≡ None → (x : Option Answer) → at (λ k. Answers k w x) (node_at g w)
+pub no-answer : (w : World) (g : List ℕ) (i : ℕ) (n : Node) → IsAt g i w n → expected w.controller i ≡ None → (x : Option Answer)
+    → at (λ k. Answers k w x) (node_at g w)
     → (None ≡ x) × (w ≡ answer_heard x g w)
 no-answer w g i n here e None a = (refl, refl)
 no-answer w g i n here e (Some y) a =
@@ -36,18 +37,22 @@ no-answer w g i n here e (Some y) a =
     let f : expected w.controller i ≡ Some b.0.order = ap (expected w.controller) (sym (number-is g i w n here)) ∙ b.0.expected in
     absurd (cc)
 
-changed-world : (f : Node → Node) → ((n : Node) → (f n).name ≡ n.name) → (w v : World) (g : List ℕ) (i : ℕ) (n m : Node) → IsAt g i w n → m ≡ f n
+changed-world : (f : Node → Node) → ((n : Node) → (f n).name ≡ n.name) → (w v : World) (g : List ℕ) (i : ℕ) (n m : Node) → IsAt g i w n
+    → m ≡ f n
     → v ≡ kept_with w (set w.nodes i m) w.sent → v ≡ changed_at f (node_at g w) w
 changed-world f keeps w v g i n m here e x =
     let done : v ≡ with_node (f n) w = x ∙ ap (λ z. kept_with w (set w.nodes i z) w.sent) e ∙ placed-is g i w n (f n) here (keeps n) in
     subst (λ (z : Option Node). v ≡ changed_at f z w) (sym here.node) done
 
 -- the next answer, to this order
-pub some-answer : (w v : World) (g : List ℕ) (i : ℕ) (n m : Node) (o : Order) (r : Result (Option Answer) NoMemory) → IsAt g i w n → expected w.controller i ≡ Some o
+pub some-answer : (w v : World) (g : List ℕ) (i : ℕ) (n m : Node) (o : Order) (r : Result (Option Answer) NoMemory) → IsAt g i w n
+    → expected w.controller i ≡ Some o
     → (next_message lanes.Up n.pipe ≡ None → IfOk r (λ y. (y ≡ None) × (m ≡ n)))
-    → ((reply : Reply) (a : Answer) → next_message lanes.Up n.pipe ≡ Some (response_text (reply_message reply)) → IsWritableResponse (reply_message reply)
+    → ((reply : Reply) (a : Answer) → next_message lanes.Up n.pipe ≡ Some (response_text (reply_message reply))
+    → IsWritableResponse (reply_message reply)
     → answer_of o (reply_message reply) ≡ Ok a → IfOk r (λ y. (y ≡ Some a) × (m ≡ heard_answer n)))
-    → v ≡ kept_with w (set w.nodes i m) w.sent → (x : Option Answer) → at (λ k. Answers k w x) (node_at g w) → IfOk r (λ y. (y ≡ x) × (v ≡ answer_heard x g w))
+    → v ≡ kept_with w (set w.nodes i m) w.sent → (x : Option Answer) → at (λ k. Answers k w x) (node_at g w)
+    → IfOk r (λ y. (y ≡ x) × (v ≡ answer_heard x g w))
 some-answer w v g i n m o (Err e) here f none some x y a = tt
 some-answer w v g i n m o (Ok got) here f none some x None a =
     let b : Answers n w None = subst (at (λ k. Answers k w None)) here.node a in
@@ -63,8 +68,10 @@ some-answer w v g i n m o (Ok got) here f none some x (Some y) a =
 -- the next notice
 pub some-notice : (w v : World) (g : List ℕ) (i : ℕ) (n m : Node) (r : Result (Option Notice) NoMemory) → IsAt g i w n
     → (next_message lanes.Note n.pipe ≡ None → IfOk r (λ y. (y ≡ None) × (m ≡ n)))
-    → ((t : Notice) (line : List ℕ) → next_message lanes.Note n.pipe ≡ Some line → IsHeard t line → IfOk r (λ y. (y ≡ Some t) × (m ≡ heard_notice n)))
-    → v ≡ kept_with w (set w.nodes i m) w.sent → (x : Option Notice) → at (λ k. Notices k w x) (node_at g w) → IfOk r (λ y. (y ≡ x) × (v ≡ notice_heard x g w))
+    → ((t : Notice) (line : List ℕ) → next_message lanes.Note n.pipe ≡ Some line → IsHeard t line
+    → IfOk r (λ y. (y ≡ Some t) × (m ≡ heard_notice n)))
+    → v ≡ kept_with w (set w.nodes i m) w.sent → (x : Option Notice) → at (λ k. Notices k w x) (node_at g w)
+    → IfOk r (λ y. (y ≡ x) × (v ≡ notice_heard x g w))
 some-notice w v g i n m (Err e) here none some x y a = tt
 some-notice w v g i n m (Ok got) here none some x None a =
     let b : Notices n w None = subst (at (λ k. Notices k w None)) here.node a in
@@ -101,30 +108,37 @@ answer-heard w v g i y a p f e (Some z, b) =
 
 pub answer-changed : (w v : World) (g : List ℕ) (i : ℕ) (a : Answer) → IsAnswerHeard w v g i a → IsChanged w v
 answer-changed w v g i a h =
-    let put : v ≡ kept_with w (set w.nodes i (heard_answer h.gateway)) w.sent = h.world ∙ sym (placed-is g i w h.gateway (heard_answer h.gateway) h.here refl) in
+    let put : v ≡ kept_with w (set w.nodes i (heard_answer h.gateway)) w.sent = h.world
+    ∙ sym (placed-is g i w h.gateway (heard_answer h.gateway) h.here refl) in
     subst (λ (z : World). IsChanged w z) (sym put) (changed-by w g i h.gateway (heard_answer h.gateway) h.here refl refl)
 
 pub answer-gives : (w v : World) (g : List ℕ) (i : ℕ) (a : Answer) → IsAnswerHeard w v g i a → Gives (told.Answered i a) v
 answer-gives w v g i a h =
-    gives-on (told.Answered i a) w v (answer-changed w v g i a h) (subst (λ (k : ℕ). Gives (told.Answered k a) w) (number-is g i w h.gateway h.here) h.heard.1)
+    gives-on (told.Answered i a) w v (answer-changed w v g i a h)
+    (subst (λ (k : ℕ). Gives (told.Answered k a) w) (number-is g i w h.gateway h.here) h.heard.1)
 
 pub answer-few : (w v : World) (g : List ℕ) (i : ℕ) (a : Answer) → IsAnswerHeard w v g i a → AreFew w → AreFew v
 answer-few w v g i a h few =
-    let put : v.nodes ≡ set w.nodes i (heard_answer h.gateway) = ap (λ (z : World). z.nodes) h.world ∙ h.here.put (heard_answer h.gateway) refl in
+    let put : v.nodes ≡ set w.nodes i (heard_answer h.gateway) = ap (λ (z : World). z.nodes) h.world
+    ∙ h.here.put (heard_answer h.gateway) refl in
     let same : get_or w.nodes i h.gateway ≡ h.gateway = get_or_from_slice_get w.nodes i h.gateway h.gateway h.here.get in
     let one : h.gateway.orders < 2 ^ 62 = subst (λ (z : Node). z.orders < 2 ^ 62) same (few i h.gateway h.here.within) in
-    subst (λ (z : List Node). All (λ n. n.orders < 2 ^ 62) z) (sym put) (All-set (λ (n : Node). n.orders < 2 ^ 62) w.nodes i (heard_answer h.gateway) one few)
+    subst (λ (z : List Node). All (λ n. n.orders < 2 ^ 62) z) (sym put)
+    (All-set (λ (n : Node). n.orders < 2 ^ 62) w.nodes i (heard_answer h.gateway) one few)
 
 pub answer-within : (w v : World) (g : List ℕ) (i : ℕ) (a : Answer) → IsAnswerHeard w v g i a → i < length v.nodes
 answer-within w v g i a h =
-    let put : v.nodes ≡ set w.nodes i (heard_answer h.gateway) = ap (λ (z : World). z.nodes) h.world ∙ h.here.put (heard_answer h.gateway) refl in
+    let put : v.nodes ≡ set w.nodes i (heard_answer h.gateway) = ap (λ (z : World). z.nodes) h.world
+    ∙ h.here.put (heard_answer h.gateway) refl in
     let same : length v.nodes ≡ length w.nodes = ap length put ∙ length-set w.nodes i (heard_answer h.gateway) in
     let within = h.here.within in
     omega (arith, same, within)
 
-pub answer-here : (w v : World) (g : List ℕ) (i : ℕ) (a : Answer) (x : Node) → (h : IsAnswerHeard w v g i a) → x ≡ get_or v.nodes i x → x ≡ heard_answer h.gateway
+pub answer-here : (w v : World) (g : List ℕ) (i : ℕ) (a : Answer) (x : Node) → (h : IsAnswerHeard w v g i a) → x ≡ get_or v.nodes i x
+    → x ≡ heard_answer h.gateway
 answer-here w v g i a x h e =
-    let put : v.nodes ≡ set w.nodes i (heard_answer h.gateway) = ap (λ (z : World). z.nodes) h.world ∙ h.here.put (heard_answer h.gateway) refl in
+    let put : v.nodes ≡ set w.nodes i (heard_answer h.gateway) = ap (λ (z : World). z.nodes) h.world
+    ∙ h.here.put (heard_answer h.gateway) refl in
     e ∙ ap (λ (z : List Node). get_or z i x) put ∙ get_or-set_same w.nodes i (heard_answer h.gateway) x h.here.within
 
 -- ---- the same of a notice
@@ -153,28 +167,35 @@ notice-heard w v g i y a p f e (Some z, b) =
 
 pub notice-changed : (w v : World) (g : List ℕ) (i : ℕ) (a : Notice) → IsNoticeHeard w v g i a → IsChanged w v
 notice-changed w v g i a h =
-    let put : v ≡ kept_with w (set w.nodes i (heard_notice h.gateway)) w.sent = h.world ∙ sym (placed-is g i w h.gateway (heard_notice h.gateway) h.here refl) in
+    let put : v ≡ kept_with w (set w.nodes i (heard_notice h.gateway)) w.sent = h.world
+    ∙ sym (placed-is g i w h.gateway (heard_notice h.gateway) h.here refl) in
     subst (λ (z : World). IsChanged w z) (sym put) (changed-by w g i h.gateway (heard_notice h.gateway) h.here refl refl)
 
 pub notice-gives : (w v : World) (g : List ℕ) (i : ℕ) (a : Notice) → IsNoticeHeard w v g i a → Gives (told.Noticed i a) v
 notice-gives w v g i a h =
-    gives-on (told.Noticed i a) w v (notice-changed w v g i a h) (subst (λ (k : ℕ). Gives (told.Noticed k a) w) (number-is g i w h.gateway h.here) h.heard.1)
+    gives-on (told.Noticed i a) w v (notice-changed w v g i a h)
+    (subst (λ (k : ℕ). Gives (told.Noticed k a) w) (number-is g i w h.gateway h.here) h.heard.1)
 
 pub notice-few : (w v : World) (g : List ℕ) (i : ℕ) (a : Notice) → IsNoticeHeard w v g i a → AreFew w → AreFew v
 notice-few w v g i a h few =
-    let put : v.nodes ≡ set w.nodes i (heard_notice h.gateway) = ap (λ (z : World). z.nodes) h.world ∙ h.here.put (heard_notice h.gateway) refl in
+    let put : v.nodes ≡ set w.nodes i (heard_notice h.gateway) = ap (λ (z : World). z.nodes) h.world
+    ∙ h.here.put (heard_notice h.gateway) refl in
     let same : get_or w.nodes i h.gateway ≡ h.gateway = get_or_from_slice_get w.nodes i h.gateway h.gateway h.here.get in
     let one : h.gateway.orders < 2 ^ 62 = subst (λ (z : Node). z.orders < 2 ^ 62) same (few i h.gateway h.here.within) in
-    subst (λ (z : List Node). All (λ n. n.orders < 2 ^ 62) z) (sym put) (All-set (λ (n : Node). n.orders < 2 ^ 62) w.nodes i (heard_notice h.gateway) one few)
+    subst (λ (z : List Node). All (λ n. n.orders < 2 ^ 62) z) (sym put)
+    (All-set (λ (n : Node). n.orders < 2 ^ 62) w.nodes i (heard_notice h.gateway) one few)
 
 pub notice-within : (w v : World) (g : List ℕ) (i : ℕ) (a : Notice) → IsNoticeHeard w v g i a → i < length v.nodes
 notice-within w v g i a h =
-    let put : v.nodes ≡ set w.nodes i (heard_notice h.gateway) = ap (λ (z : World). z.nodes) h.world ∙ h.here.put (heard_notice h.gateway) refl in
+    let put : v.nodes ≡ set w.nodes i (heard_notice h.gateway) = ap (λ (z : World). z.nodes) h.world
+    ∙ h.here.put (heard_notice h.gateway) refl in
     let same : length v.nodes ≡ length w.nodes = ap length put ∙ length-set w.nodes i (heard_notice h.gateway) in
     let within = h.here.within in
     omega (arith, same, within)
 
-pub notice-here : (w v : World) (g : List ℕ) (i : ℕ) (a : Notice) (x : Node) → (h : IsNoticeHeard w v g i a) → x ≡ get_or v.nodes i x → x ≡ heard_notice h.gateway
+pub notice-here : (w v : World) (g : List ℕ) (i : ℕ) (a : Notice) (x : Node) → (h : IsNoticeHeard w v g i a) → x ≡ get_or v.nodes i x
+    → x ≡ heard_notice h.gateway
 notice-here w v g i a x h e =
-    let put : v.nodes ≡ set w.nodes i (heard_notice h.gateway) = ap (λ (z : World). z.nodes) h.world ∙ h.here.put (heard_notice h.gateway) refl in
+    let put : v.nodes ≡ set w.nodes i (heard_notice h.gateway) = ap (λ (z : World). z.nodes) h.world
+    ∙ h.here.put (heard_notice h.gateway) refl in
     e ∙ ap (λ (z : List Node). get_or z i x) put ∙ get_or-set_same w.nodes i (heard_notice h.gateway) x h.here.within

@@ -29,21 +29,25 @@ pub record IsChanged (w v : World) : Type 0 where
 
 pub gives-on : (e : CtlEvent) (w v : World) → IsChanged w v → Gives e w → Gives e v
 gives-on e w v c g =
-    subst (λ k. All (IsGiven v.nodes) (stepped k e).acts) (sym c.controller) (all-given-alike w.nodes v.nodes (stepped w.controller e).acts c.alike g)
+    subst (λ k. All (IsGiven v.nodes) (stepped k e).acts) (sym c.controller)
+    (all-given-alike w.nodes v.nodes (stepped w.controller e).acts c.alike g)
 
 pub named-on : (w v : World) → IsChanged w v → AreNamed w → AreNamed v
 named-on w v c n = named-alike v w c.back n
 
 -- the gateway at a place becomes this one
-pub placed-is : (g : List ℕ) (i : ℕ) (w : World) (n m : Node) → IsAt g i w n → m.name ≡ n.name → kept_with w (set w.nodes i m) w.sent ≡ with_node m w
+pub placed-is : (g : List ℕ) (i : ℕ) (w : World) (n m : Node) → IsAt g i w n → m.name ≡ n.name
+    → kept_with w (set w.nodes i m) w.sent ≡ with_node m w
 placed-is g i w n m at e = ap (λ z. kept_with w z w.sent) (sym (at.put m e))
 
 -- its number
 pub number-is : (g : List ℕ) (i : ℕ) (w : World) (n : Node) → IsAt g i w n → number_of n.name w ≡ i
 number-is g i w n at = ap (λ z. number_of z w) at.name ∙ at.number
 
-pub open-done : (w v1 v : World) (g : List ℕ) (i : ℕ) (n : Node) (before mid after : List Act) (go : Go) → IsAt g i w n → n.pipe.is_open ≡ false
-    → v1 ≡ with_node (opened n) w → mid ≡ before ++ acts.Opened g (n.pipe.openings + 1) ∷ [] → IsDone (controlled (told.Opened i) v1) mid after v go
+pub open-done : (w v1 v : World) (g : List ℕ) (i : ℕ) (n : Node) (before mid after : List Act) (go : Go) → IsAt g i w n
+    → n.pipe.is_open ≡ false
+    → v1 ≡ with_node (opened n) w → mid ≡ before ++ acts.Opened g (n.pipe.openings + 1) ∷ []
+    → IsDone (controlled (told.Opened i) v1) mid after v go
     → IsDone (open_at w (node_at g w)) before after v go
 open-done w v1 v g i n before mid after go at closed x a d =
     let e : IsDone (controlled (told.Opened (number_of n.name w)) (with_node (opened n) w)) mid after v go =
@@ -51,13 +55,17 @@ open-done w v1 v g i n before mid after go at closed x a d =
     (subst (λ (z : ℕ). IsDone (controlled (told.Opened z) v1) mid after v go) (sym (number-is g i w n at)) d)
     in
     let b : IsDone (open_at w (Some n)) before after v go =
-    if-false n.pipe.is_open (did [] w) (behind (acts.Opened n.name (n.pipe.openings + 1) ∷ []) (controlled (told.Opened (number_of n.name w)) (with_node (opened n) w)))
-    before after v go closed (done-behind (controlled (told.Opened (number_of n.name w)) (with_node (opened n) w)) (acts.Opened n.name (n.pipe.openings + 1) ∷ [])
+    if-false n.pipe.is_open (did [] w)
+    (behind (acts.Opened n.name (n.pipe.openings + 1) ∷ []) (controlled (told.Opened (number_of n.name w)) (with_node (opened n) w)))
+    before after v go closed
+    (done-behind (controlled (told.Opened (number_of n.name w)) (with_node (opened n) w))
+    (acts.Opened n.name (n.pipe.openings + 1) ∷ [])
     before mid after v go (a ∙ ap (λ z. before ++ acts.Opened z (n.pipe.openings + 1) ∷ []) (sym at.name)) e)
     in
     subst (λ (z : Option Node). IsDone (open_at w z) before after v go) (sym at.node) b
 
-pub cut-done : (w v1 v : World) (g : List ℕ) (i : ℕ) (n : Node) (before mid after : List Act) (go : Go) → IsAt g i w n → n.pipe.is_open ≡ true
+pub cut-done : (w v1 v : World) (g : List ℕ) (i : ℕ) (n : Node) (before mid after : List Act) (go : Go) → IsAt g i w n
+    → n.pipe.is_open ≡ true
     → v1 ≡ with_node (cut n) w → mid ≡ before ++ acts.Cut g n.pipe.openings ∷ [] → IsDone (controlled (told.Cut i) v1) mid after v go
     → IsDone (cut_at w (node_at g w)) before after v go
 cut-done w v1 v g i n before mid after go at seen x a d =
@@ -66,8 +74,10 @@ cut-done w v1 v g i n before mid after go at seen x a d =
     (subst (λ (z : ℕ). IsDone (controlled (told.Cut z) v1) mid after v go) (sym (number-is g i w n at)) d)
     in
     let b : IsDone (cut_at w (Some n)) before after v go =
-    if-true n.pipe.is_open (behind (acts.Cut n.name n.pipe.openings ∷ []) (controlled (told.Cut (number_of n.name w)) (with_node (cut n) w))) (did [] w)
-    before after v go seen (done-behind (controlled (told.Cut (number_of n.name w)) (with_node (cut n) w)) (acts.Cut n.name n.pipe.openings ∷ [])
+    if-true n.pipe.is_open
+    (behind (acts.Cut n.name n.pipe.openings ∷ []) (controlled (told.Cut (number_of n.name w)) (with_node (cut n) w))) (did [] w)
+    before after v go seen
+    (done-behind (controlled (told.Cut (number_of n.name w)) (with_node (cut n) w)) (acts.Cut n.name n.pipe.openings ∷ [])
     before mid after v go (a ∙ ap (λ z. before ++ acts.Cut z n.pipe.openings ∷ []) (sym at.name)) e)
     in
     subst (λ (z : Option Node). IsDone (cut_at w z) before after v go) (sym at.node) b
@@ -81,7 +91,8 @@ up-done w v1 v g i n a before mid after go at x m d =
     (subst (λ (z : ℕ). IsDone (controlled (told.Answered z a) v1) mid after v go) (sym (number-is g i w n at)) d)
     in
     let b : IsDone (up_at (Some a) w (Some n)) before after v go =
-    done-behind (controlled (told.Answered (number_of n.name w) a) (with_node (heard_answer n) w)) (acts.Answered n.name n.pipe.openings (n.answered + 1) a ∷ [])
+    done-behind (controlled (told.Answered (number_of n.name w) a) (with_node (heard_answer n) w))
+    (acts.Answered n.name n.pipe.openings (n.answered + 1) a ∷ [])
     before mid after v go (m ∙ ap (λ z. before ++ acts.Answered z n.pipe.openings (n.answered + 1) a ∷ []) (sym at.name)) e
     in
     subst (λ (z : Option Node). IsDone (up_at (Some a) w z) before after v go) (sym at.node) b
@@ -116,7 +127,8 @@ pub open-already : (w v : World) (g : List ℕ) (i : ℕ) (n : Node) (before aft
     → go ≡ gos.On → after ≡ before → v ≡ w → IsDone (open_at w (node_at g w)) before after v go
 open-already w v g i n before after go here seen e a x =
     let b : IsDone (open_at w (Some n)) before after v go =
-    if-true n.pipe.is_open (did [] w) (behind (acts.Opened n.name (n.pipe.openings + 1) ∷ []) (controlled (told.Opened (number_of n.name w)) (with_node (opened n) w)))
+    if-true n.pipe.is_open (did [] w)
+    (behind (acts.Opened n.name (n.pipe.openings + 1) ∷ []) (controlled (told.Opened (number_of n.name w)) (with_node (opened n) w)))
     before after v go seen (none-done w v before after go e a x)
     in
     subst (λ (z : Option Node). IsDone (open_at w z) before after v go) (sym here.node) b
@@ -125,7 +137,8 @@ pub cut-already : (w v : World) (g : List ℕ) (i : ℕ) (n : Node) (before afte
     → go ≡ gos.On → after ≡ before → v ≡ w → IsDone (cut_at w (node_at g w)) before after v go
 cut-already w v g i n before after go here seen e a x =
     let b : IsDone (cut_at w (Some n)) before after v go =
-    if-false n.pipe.is_open (behind (acts.Cut n.name n.pipe.openings ∷ []) (controlled (told.Cut (number_of n.name w)) (with_node (cut n) w))) (did [] w)
+    if-false n.pipe.is_open
+    (behind (acts.Cut n.name n.pipe.openings ∷ []) (controlled (told.Cut (number_of n.name w)) (with_node (cut n) w))) (did [] w)
     before after v go seen (none-done w v before after go e a x)
     in
     subst (λ (z : Option Node). IsDone (cut_at w z) before after v go) (sym here.node) b

@@ -19,7 +19,8 @@ use Rattle.world_steps.specs.Nodes.{Node, acts_told, cut, heard_answer, heard_no
 use Rattle.world_steps.specs.Worlds.{World, datagram, node_at, number_of, with_node}
 use Rattle.world_steps.specs.Steps.{Done, Found, arrive_at, behind, boot_at, controlled, cut_at, did, down_at, forged_at, giving, is_forged_at, let_at, note_at, open_at, order_at, step, stepped_at, taken, up_at}
 
-if-number : (b : Bool) (w : World) (c d : Done) → c.world.taken ≡ w.taken → d.world.taken ≡ w.taken → (if b then c else d).world.taken ≡ w.taken
+if-number : (b : Bool) (w : World) (c d : Done) → c.world.taken ≡ w.taken → d.world.taken ≡ w.taken
+    → (if b then c else d).world.taken ≡ w.taken
 if-number true w c d e f = e
 if-number false w c d e f = f
 
@@ -41,7 +42,8 @@ let-number o w (Some n) = refl
 arrive-number : (o : List ℕ) (w : World) (n : Option Node) → (arrive_at o w n).world.taken ≡ w.taken
 arrive-number o w None = refl
 arrive-number o w (Some n) =
-    if-number (is_forged_at o w n) w (forged_at o w n) (did (acts.Arrived n.name o ∷ acts_told n (outcome n (Arrive o)).acts) (stepped_at (Arrive o) n w)) refl refl
+    if-number (is_forged_at o w n) w (forged_at o w n)
+    (did (acts.Arrived n.name o ∷ acts_told n (outcome n (Arrive o)).acts) (stepped_at (Arrive o) n w)) refl refl
 
 boot-number : (w : World) (n : Option Node) → (boot_at w n).world.taken ≡ w.taken
 boot-number w None = refl
@@ -55,13 +57,15 @@ down-number (Some o) w (Some n) = refl
 open-number : (w : World) (n : Option Node) → (open_at w n).world.taken ≡ w.taken
 open-number w None = refl
 open-number w (Some n) =
-    if-number n.pipe.is_open w (did [] w) (behind (acts.Opened n.name (n.pipe.openings + 1) ∷ []) (controlled (told.Opened (number_of n.name w)) (with_node (opened n) w)))
+    if-number n.pipe.is_open w (did [] w)
+    (behind (acts.Opened n.name (n.pipe.openings + 1) ∷ []) (controlled (told.Opened (number_of n.name w)) (with_node (opened n) w)))
     refl (controlled-number (told.Opened (number_of n.name w)) (with_node (opened n) w))
 
 cut-number : (w : World) (n : Option Node) → (cut_at w n).world.taken ≡ w.taken
 cut-number w None = refl
 cut-number w (Some n) =
-    if-number n.pipe.is_open w (behind (acts.Cut n.name n.pipe.openings ∷ []) (controlled (told.Cut (number_of n.name w)) (with_node (cut n) w))) (did [] w)
+    if-number n.pipe.is_open w
+    (behind (acts.Cut n.name n.pipe.openings ∷ []) (controlled (told.Cut (number_of n.name w)) (with_node (cut n) w))) (did [] w)
     (controlled-number (told.Cut (number_of n.name w)) (with_node (cut n) w)) refl
 
 up-number : (x : Option Answer) (w : World) (n : Option Node) → (up_at x w n).world.taken ≡ w.taken

@@ -40,7 +40,8 @@ placed-at g m (n ∷ ns) (suc i) d lt here before e =
 pub at-place : (g : List ℕ) (i : ℕ) (w : World) (d : Node) → IsPlace g i w → IsAt g i w (get_or w.nodes i d)
 at-place g i w d e =
     let s = position-Some (λ n. bytes_eq n.name g) w.nodes i d e in
-    let num : position_or_len (λ n. bytes_eq n.name g) w.nodes ≡ i = position_or_len_is (λ n. bytes_eq n.name g) w.nodes i d (omega (arith, s.0)) s.2 (λ l. s.1) in
+    let num : position_or_len (λ n. bytes_eq n.name g) w.nodes ≡ i = position_or_len_is (λ n. bytes_eq n.name g) w.nodes i d
+    (omega (arith, s.0)) s.2 (λ l. s.1) in
     let got : slice_get w.nodes i ≡ Some (get_or w.nodes i d) = slice_get-get_or w.nodes i d s.0 in
     let same : (get_or w.nodes i d).name ≡ g = same_name (get_or w.nodes i d).name g s.1 in
     record {
@@ -67,13 +68,17 @@ at-index g i u w x e p v =
     let q : IsPlace g i u = subst (λ (z : World). IsPlace g i z) (sym e) p in
     subst (λ (z : Node). IsAt g i u z) (sym v) (at-place g i u x q)
 
-pub unplaced : (g : List ℕ) (u w : World) (ns : List Node) → None ≡ position (λ (n : Node). bytes_eq n.name g) ns → ns ≡ u.nodes → u ≡ w → node_at g w ≡ None
+pub unplaced : (g : List ℕ) (u w : World) (ns : List Node) → None ≡ position (λ (n : Node). bytes_eq n.name g) ns → ns ≡ u.nodes → u ≡ w
+    → node_at g w ≡ None
 unplaced g u w ns e f h =
-    no-place g w (sym (e ∙ ap (λ (z : List Node). position (λ (n : Node). bytes_eq n.name g) z) f ∙ ap (λ (z : World). position (λ (n : Node). bytes_eq n.name g) z.nodes) h))
+    no-place g w (sym (e ∙ ap (λ (z : List Node). position (λ (n : Node). bytes_eq n.name g) z) f
+    ∙ ap (λ (z : World). position (λ (n : Node). bytes_eq n.name g) z.nodes) h))
 
-pub placed-found : (g : List ℕ) (i : ℕ) (u w : World) (ns : List Node) → Some i ≡ position (λ (n : Node). bytes_eq n.name g) ns → ns ≡ u.nodes → u ≡ w → IsPlace g i w
+pub placed-found : (g : List ℕ) (i : ℕ) (u w : World) (ns : List Node) → Some i ≡ position (λ (n : Node). bytes_eq n.name g) ns
+    → ns ≡ u.nodes → u ≡ w → IsPlace g i w
 placed-found g i u w ns e f h =
-    sym (e ∙ ap (λ (z : List Node). position (λ (n : Node). bytes_eq n.name g) z) f ∙ ap (λ (z : World). position (λ (n : Node). bytes_eq n.name g) z.nodes) h)
+    sym (e ∙ ap (λ (z : List Node). position (λ (n : Node). bytes_eq n.name g) z) f
+    ∙ ap (λ (z : World). position (λ (n : Node). bytes_eq n.name g) z.nodes) h)
 
 -- by the gateway of a name
 pub at-found : {A : Type 0} → (P : A → Node → Type 0) (o : Option Node) (n : Node) → o ≡ Some n → ((x : A) × at (P x) o) → (x : A) × P x n
@@ -81,7 +86,8 @@ at-found P o n e (x, a) = (x, subst (at (P x)) e a)
 
 pub number-placed : (g : List ℕ) (i : ℕ) (w : World) → IsPlace g i w → number_of g w ≡ i
 number-placed g i w e = by-list w.nodes e where
-  by-list : (ns : List Node) → position (λ (n : Node). bytes_eq n.name g) ns ≡ Some i → position_or_len (λ (n : Node). bytes_eq n.name g) ns ≡ i
+  by-list : (ns : List Node) → position (λ (n : Node). bytes_eq n.name g) ns ≡ Some i
+      → position_or_len (λ (n : Node). bytes_eq n.name g) ns ≡ i
   by-list ns e = grind (arith, common_steps)
 
 -- a place has a gateway

@@ -32,7 +32,8 @@ pub alike-trans : (ns ms ls : List Node) → AreAlike ns ms → AreAlike ms ls �
 alike-trans ns ms ls a b = record { names = a.names ∙ b.names; configs = a.configs ∙ b.configs }
 
 -- one of them is another, of its name and address
-pub alike-set : (ns : List Node) (i : ℕ) (m d : Node) → m.name ≡ (get_or ns i d).name → m.config ≡ (get_or ns i d).config → AreAlike (set ns i m) ns
+pub alike-set : (ns : List Node) (i : ℕ) (m d : Node) → m.name ≡ (get_or ns i d).name → m.config ≡ (get_or ns i d).config
+    → AreAlike (set ns i m) ns
 alike-set ns i m d e f = record { names = map-set_same name_of ns i m d e; configs = map-set_same config_of ns i m d f }
 
 -- the number of a name is of the names alone

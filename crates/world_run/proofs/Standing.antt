@@ -40,7 +40,8 @@ stepped-is header p e d old new v go f i = by-forged (is_forged_event header p e
       let ends : go ≡ gos.Forged = i.go ∙ ap go_of (f.forged s) in
       subst (λ (z : Go). Stepped header p e old new v z) (sym ends) (added, s)
 
-pub on-stands : (header : Header) (p : Past) (e : Event) (old new : List Act) (v : World) (go : Go) → does_go_on go ≡ true → Stepped header p e old new v go
+pub on-stands : (header : Header) (p : Past) (e : Event) (old new : List Act) (v : World) (go : Go) → does_go_on go ≡ true
+    → Stepped header p e old new v go
     → StandsFor header (past_after (under_way header) header p e) v
 on-stands header p e old new v gos.On s t = t.2
 on-stands header p e old new v gos.Forged s t = absurd (cc)
@@ -50,8 +51,10 @@ not-not true e = refl
 not-not false e = absurd (cc)
 
 -- the number after an event with which the script goes on
-pub number-on : (r : Found) (e : Event) (w : World) (old new : List Act) (v : World) (go : Go) → IsDone (step r e w) old new v go → go ≡ gos.On → v.taken ≡ w.taken + 1
-number-on r e w old new v go d s = ap (λ (z : World). z.taken) (d.world (genuine (step r e w).is_forged (sym d.go ∙ s))) ∙ one-more r e w where
-  genuine : (b : Bool) → go_of b ≡ gos.On → b ≡ false
-  genuine true e = absurd (cc)
-  genuine false e = refl
+pub number-on : (r : Found) (e : Event) (w : World) (old new : List Act) (v : World) (go : Go) → IsDone (step r e w) old new v go
+    → go ≡ gos.On → v.taken ≡ w.taken + 1
+number-on r e w old new v go d s = ap (λ (z : World). z.taken) (d.world (genuine (step r e w).is_forged (sym d.go ∙ s)))
+    ∙ one-more r e w where
+      genuine : (b : Bool) → go_of b ≡ gos.On → b ≡ false
+      genuine true e = absurd (cc)
+      genuine false e = refl

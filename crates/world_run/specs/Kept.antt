@@ -26,7 +26,8 @@ pub record IsStanding (header : Header) (w : worlds.World) : Type 0 where
 -- The block of the event was added; where the event is a forged arrival the script ends with it.
 abbrev pub Stepped : Header → Past → Event → List Act → List Act → worlds.World → Go → Type 0
 Stepped header p e old new w gos.On =
-    (new ≡ old ++ block (under_way header) header p e) × (is_forged_event header p e ≡ false) × StandsFor header (past_after (under_way header) header p e) w
+    (new ≡ old ++ block (under_way header) header p e) × (is_forged_event header p e ≡ false) × StandsFor header
+    (past_after (under_way header) header p e) w
 Stepped header p e old new w gos.Forged =
     (new ≡ old ++ block (under_way header) header p e) × (is_forged_event header p e ≡ true)
 

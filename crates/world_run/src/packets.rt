@@ -190,7 +190,8 @@ impl Parts {
     ) -> Result<Go, NoMemory>
         requires can { TellsAt (Arrive (datagram k self.old.sent)) (node_at g self.old) }
         requires room { IsRoom self.old }
-        ensures { IfOk result (λ go. IsDone (steps.arrive_at (datagram k self.old.sent) self.old (node_at g self.old)) acts.old acts.new self.new go) }
+        ensures { IfOk result (λ go.
+            IsDone (steps.arrive_at (datagram k self.old.sent) self.old (node_at g self.old)) acts.old acts.new self.new go) }
     {
         let octets = self.sent.datagram(self.alloc, k)?;
         self.on_arrive(g, octets, acts)
@@ -207,7 +208,8 @@ impl Parts {
         requires can { TellsAt (Arrive (flipped offset bit (datagram k self.old.sent))) (node_at g self.old) }
         requires room { IsRoom self.old }
         requires bit { bit < 8 }
-        ensures { IfOk result (λ go. IsDone (steps.arrive_at (flipped offset bit (datagram k self.old.sent)) self.old (node_at g self.old)) acts.old acts.new self.new go) }
+        ensures { IfOk result (λ go.
+            IsDone (steps.arrive_at (flipped offset bit (datagram k self.old.sent)) self.old (node_at g self.old)) acts.old acts.new self.new go) }
     {
         let octets = self.sent.datagram(self.alloc, k)?;
         self.on_arrive(g, with_flip(octets, offset, bit), acts)
@@ -222,7 +224,8 @@ impl Parts {
     ) -> Result<Go, NoMemory>
         requires can { TellsAt (Arrive (ttl_changed ttl (datagram k self.old.sent))) (node_at g self.old) }
         requires room { IsRoom self.old }
-        ensures { IfOk result (λ go. IsDone (steps.arrive_at (ttl_changed ttl (datagram k self.old.sent)) self.old (node_at g self.old)) acts.old acts.new self.new go) }
+        ensures { IfOk result (λ go.
+            IsDone (steps.arrive_at (ttl_changed ttl (datagram k self.old.sent)) self.old (node_at g self.old)) acts.old acts.new self.new go) }
     {
         let octets = self.sent.datagram(self.alloc, k)?;
         self.on_arrive(g, with_ttl(octets, ttl), acts)

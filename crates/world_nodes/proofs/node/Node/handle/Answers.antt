@@ -1,4 +1,4 @@
-use Rattle.std.proofs.Common.{◌≡◌, Option, Some, sym, ap, subst, ◌∙◌}
+use Rattle.std.proofs.Common.{◌≡◌, Option, Some, sym, subst}
 use Rattle.ikeless_tree.specs.declared.order.Lane.TheVariants as lanes
 use Rattle.ikeless_tree.specs.declared.order.Order.{Order}
 use Rattle.session_pipe.specs.UnderWay.{next_message}
@@ -20,5 +20,6 @@ handle_request-requires-clause-written c =
     } in
     let same : n ≡ c.args.self.now = c.self.view_is in
     let asks : (x : Option Order) × Asks n x = subst (λ (m : Node). (x : Option Order) × Asks m x) (sym same) c.requires.asks in
-    let next : next_message lanes.Down n.pipe ≡ Some c.as_slice.result.now = cc (c.in_ok-take.ensures.message, c.in-Some.is, c.as_slice.ensures) in
+    let next : next_message lanes.Down n.pipe ≡ Some c.as_slice.result.now = cc
+    (c.in_ok-take.ensures.message, c.in-Some.is, c.as_slice.ensures) in
     asked-written n c.as_slice.result.now c.in_ok-request-in-Some.request next (λ host o. c.in_ok-request-in-Some.ensures.order host o) asks

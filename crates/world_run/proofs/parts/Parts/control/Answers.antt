@@ -1,9 +1,9 @@
-use Rattle.std.proofs.Common.{◌≡◌, ◌++◌, sym, ap, subst, ◌∙◌}
+use Rattle.std.proofs.Common.{◌++◌, ap, subst, ◌∙◌}
 use Rattle.ctl_core.specs.Step.{stepped}
 use Rattle.world_steps.specs.Worlds.{World}
-use Rattle.world_steps.specs.Steps.{controlled, giving}
+use Rattle.world_steps.specs.Steps.{controlled}
 use Rattle.world_run.specs.declared.go.Go.TheVariants as gos
-use Rattle.world_run.specs.Taken.{IsDone, go_of}
+use Rattle.world_run.specs.Taken.{IsDone}
 use Rattle.world_run.specs.contracts.parts.Parts.{the_view}
 use Rattle.world_run.proofs.Giving.{controlled-done}
 use Rattle.world_run.proofs.parts.Parts.control.Goals as goal

@@ -1,4 +1,4 @@
-use Rattle.std.proofs.Common.{◌≡◌, Option, Some, refl, set, sym, subst}
+use Rattle.std.proofs.Common.{Option, refl, set, sym, subst}
 use Rattle.ikeless_tree.specs.declared.order.Order.{Order}
 use Rattle.world_steps.specs.Nodes.{Node}
 use Rattle.world_steps.specs.Worlds.{World, node_at}
@@ -15,7 +15,8 @@ pub handle-requires-clause-asks : goal.handle-requires-clause-asks
 handle-requires-clause-asks c =
     let u : World = the_view c.self.inside in
     let here : IsAt c.args.g.now c.args.i u c.index_mut-node.result.now =
-    at-index c.args.g.now c.args.i u c.args.self.now c.index_mut-node.result.now c.self.view_is c.requires.place c.index_mut-node.ensures.value
+    at-index c.args.g.now c.args.i u c.args.self.now c.index_mut-node.result.now c.self.view_is c.requires.place
+    c.index_mut-node.ensures.value
     in
     let asks : (x : Option Order) × at (λ n. Asks n x) (node_at c.args.g.now u) =
     subst (λ (z : World). (x : Option Order) × at (λ n. Asks n x) (node_at c.args.g.now z)) (sym c.self.view_is) c.requires.asks
@@ -26,10 +27,13 @@ pub returns : goal.returns
 returns c =
     let u : World = the_view c.self.inside in
     let here : IsAt c.args.g.now c.args.i u c.index_mut-node.result.now =
-    at-index c.args.g.now c.args.i u c.args.self.now c.index_mut-node.result.now c.self.view_is c.requires.place c.index_mut-node.ensures.value
+    at-index c.args.g.now c.args.i u c.args.self.now c.index_mut-node.result.now c.self.view_is c.requires.place
+    c.index_mut-node.ensures.value
     in
     let v : World = kept_with u (set u.nodes c.args.i c.handle.new.self) c.handle.new.sent in
-    subst (λ (z : World). (x : Option Order) → at (λ n. Asks n x) (node_at c.args.g.now z) → IsDone (down_at x z (node_at c.args.g.now z)) c.args.acts.now c.handle.new.acts v gos.On)
+    subst (λ (z : World). (x : Option Order) → at (λ n. Asks n x) (node_at c.args.g.now z)
+    → IsDone (down_at x z (node_at c.args.g.now z)) c.args.acts.now c.handle.new.acts v gos.On)
     c.self.view_is
-    (λ x a. down-done u v c.args.g.now c.args.i c.index_mut-node.result.now c.handle.new.self c.handle.new.sent c.args.acts.now c.handle.new.acts x here a
+    (λ x a. down-done u v c.args.g.now c.args.i c.index_mut-node.result.now c.handle.new.self c.handle.new.sent c.args.acts.now
+    c.handle.new.acts x here a
     c.in_ok-handle.ensures.none c.in_ok-handle.ensures.node c.in_ok-handle.ensures.sent c.in_ok-handle.ensures.acts refl)

@@ -1,4 +1,4 @@
-use Rattle.std.proofs.Common.{◌≡◌, ℕ, ◌+◌, ◌^◌, ◌<◌, List, [], ◌∷◌, ◌++◌, length, sym, ap, subst, ◌∙◌, append_assoc, arith, length-append}
+use Rattle.std.proofs.Common.{◌≡◌, ◌+◌, ◌^◌, ◌<◌, [], ◌∷◌, ◌++◌, length, sym, ap, subst, ◌∙◌, append_assoc, arith, length-append}
 use Rattle.std.specs.List.{All}
 use Rattle.std.specs.Vec.Iter.{into_iter_items}
 use Rattle.ctl_core.specs.declared.acts.CtlAct.{CtlAct}
@@ -43,13 +43,16 @@ loop-act-preserved c =
     subst (λ (z : World). IsKept (2 ^ 62 + length c.loop-act.yielded) c.loop-act.self z) (sym world)
     (one-kept (2 ^ 62 + length c.loop-act.yielded) c.in-Some.act c.loop-act.self named given c.loop-act.invariant.few)
     in
-    let count : 2 ^ 62 + length c.loop-act.yielded + 1 ≡ 2 ^ 62 + length (c.loop-act.yielded ++ c.in-Some.act ∷ []) = omega (arith, length-append c.loop-act.yielded (c.in-Some.act ∷ [])) in
+    let count : 2 ^ 62 + length c.loop-act.yielded + 1 ≡ 2 ^ 62 + length (c.loop-act.yielded ++ c.in-Some.act ∷ []) = omega
+    (arith, length-append c.loop-act.yielded (c.in-Some.act ∷ [])) in
     record {
       rest = append_assoc c.loop-act.yielded (c.in-Some.act ∷ []) (into_iter_items c.next.new.self) ∙ whole;
       world = world ∙ ap (λ (z : World). (giving (c.in-Some.act ∷ []) z).world) c.loop-act.invariant.world ∙ sym more.world;
       acts = c.in_ok-give_act.ensures.acts ∙ ap (λ z. z ++ (giving (c.in-Some.act ∷ []) c.loop-act.self).acts) c.loop-act.invariant.acts
           ∙ append_assoc c.args.acts.now (giving c.loop-act.yielded c.args.self.now).acts (giving (c.in-Some.act ∷ []) c.loop-act.self).acts
-          ∙ ap (λ z. c.args.acts.now ++ z) (ap (λ (z : World). (giving c.loop-act.yielded c.args.self.now).acts ++ (giving (c.in-Some.act ∷ []) z).acts) c.loop-act.invariant.world ∙ sym more.acts);
+          ∙ ap (λ z. c.args.acts.now ++ z)
+          (ap (λ (z : World). (giving c.loop-act.yielded c.args.self.now).acts ++ (giving (c.in-Some.act ∷ []) z).acts)
+          c.loop-act.invariant.world ∙ sym more.acts);
       alike = alike-trans c.args.self.now.nodes c.loop-act.self.nodes c.give_act.new.self.nodes c.loop-act.invariant.alike kept.alike;
       back = alike-trans c.give_act.new.self.nodes c.loop-act.self.nodes c.args.self.now.nodes kept.back c.loop-act.invariant.back;
       few = subst (λ z. All (λ n. n.orders < z) c.give_act.new.self.nodes) count kept.few;

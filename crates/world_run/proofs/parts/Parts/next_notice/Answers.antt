@@ -1,6 +1,5 @@
-use Rattle.std.proofs.Common.{◌≡◌, Option, Result, IfOk, refl, set, subst}
+use Rattle.std.proofs.Common.{◌≡◌, Option, IfOk, refl, set, subst}
 use Rattle.ikeless_tree.specs.declared.order.Notice.{Notice}
-use Rattle.world_steps.specs.Nodes.{Node}
 use Rattle.world_steps.specs.Worlds.{World, node_at}
 use Rattle.world_steps.specs.Conditions.{Notices, at}
 use Rattle.world_run.specs.Sessions.{notice_heard}
@@ -17,6 +16,8 @@ returns c =
     at-index c.args.g.now c.args.i u c.args.self.now c.index_mut-node.result.now c.self.view_is c.requires c.index_mut-node.ensures.value
     in
     let v : World = kept_with u (set u.nodes c.args.i c.hear_notice.new.self) u.sent in
-    subst (λ (z : World). (x : Option Notice) → at (λ n. Notices n z x) (node_at c.args.g.now z) → IfOk c.hear_notice.result (λ y. (y ≡ x) × (v ≡ notice_heard x c.args.g.now z)))
+    subst (λ (z : World). (x : Option Notice) → at (λ n. Notices n z x) (node_at c.args.g.now z)
+    → IfOk c.hear_notice.result (λ y. (y ≡ x) × (v ≡ notice_heard x c.args.g.now z)))
     c.self.view_is
-    (some-notice u v c.args.g.now c.args.i c.index_mut-node.result.now c.hear_notice.new.self c.hear_notice.result here c.hear_notice.ensures.none c.hear_notice.ensures.some refl)
+    (some-notice u v c.args.g.now c.args.i c.index_mut-node.result.now c.hear_notice.new.self c.hear_notice.result here
+    c.hear_notice.ensures.none c.hear_notice.ensures.some refl)

@@ -1,4 +1,4 @@
-use Rattle.std.proofs.Common.{◌≡◌, ◌+◌, ◌<◌, ◌++◌, [], ◌∷◌, length, Option, Some, None, IfOk, get_or, refl, sym, ap, subst, ◌∙◌, arith}
+use Rattle.std.proofs.Common.{◌≡◌, ◌<◌, ◌++◌, [], ◌∷◌, length, Option, Some, None, IfOk, get_or, refl, sym, ap, subst, ◌∙◌, arith}
 use Rattle.ikeless_tree.specs.declared.order.Notice.{Notice}
 use Rattle.hist_acts.specs.declared.act.Act.TheVariants as acts
 use Rattle.ctl_core.specs.declared.acts.CtlEvent.TheVariants as told
@@ -9,7 +9,6 @@ use Rattle.world_steps.specs.Conditions.{Notices, at}
 use Rattle.world_run.specs.declared.go.Go.TheVariants as gos
 use Rattle.world_run.specs.Sessions.{notice_heard}
 use Rattle.world_run.specs.Taken.{IsDone}
-use Rattle.world_run.specs.contracts.parts.Parts.{the_view}
 use Rattle.world_run.proofs.Counts.{few-room}
 use Rattle.world_run.proofs.Done.{none-done, ok-map}
 use Rattle.world_run.proofs.Heard.{IsNoticeHeard, notice-changed, notice-few, notice-gives, notice-heard, notice-here, notice-within}
@@ -21,7 +20,8 @@ index-requires c =
     let w : World = c.args.self.now in
     let v : World = c.next_notice.new.self in
     let h : IsNoticeHeard w v c.args.g c.args.i c.in-Some.notice =
-    notice-heard w v c.args.g c.args.i c.in_ok-next_notice.field-0 c.in-Some.notice c.requires.place c.in_ok-next_notice.ensures c.in-Some.is c.requires.notices
+    notice-heard w v c.args.g c.args.i c.in_ok-next_notice.field-0 c.in-Some.notice c.requires.place c.in_ok-next_notice.ensures
+    c.in-Some.is c.requires.notices
     in
     let within : c.args.i < length v.nodes = notice-within w v c.args.g c.args.i c.in-Some.notice h in
     let here : c.args.i < length c.self.inside.nodes.items = subst (λ (z : World). c.args.i < length z.nodes) (sym c.self.view_is) within in
@@ -32,7 +32,8 @@ control-requires-clause-gives c =
     let w : World = c.args.self.now in
     let v : World = c.next_notice.new.self in
     let h : IsNoticeHeard w v c.args.g c.args.i c.in-Some.notice =
-    notice-heard w v c.args.g c.args.i c.in_ok-next_notice.field-0 c.in-Some.notice c.requires.place c.in_ok-next_notice.ensures c.in-Some.is c.requires.notices
+    notice-heard w v c.args.g c.args.i c.in_ok-next_notice.field-0 c.in-Some.notice c.requires.place c.in_ok-next_notice.ensures
+    c.in-Some.is c.requires.notices
     in
     notice-gives w v c.args.g c.args.i c.in-Some.notice h
 
@@ -41,7 +42,8 @@ control-requires-clause-named c =
     let w : World = c.args.self.now in
     let v : World = c.next_notice.new.self in
     let h : IsNoticeHeard w v c.args.g c.args.i c.in-Some.notice =
-    notice-heard w v c.args.g c.args.i c.in_ok-next_notice.field-0 c.in-Some.notice c.requires.place c.in_ok-next_notice.ensures c.in-Some.is c.requires.notices
+    notice-heard w v c.args.g c.args.i c.in_ok-next_notice.field-0 c.in-Some.notice c.requires.place c.in_ok-next_notice.ensures
+    c.in-Some.is c.requires.notices
     in
     named-on w v (notice-changed w v c.args.g c.args.i c.in-Some.notice h) c.requires.named
 
@@ -50,7 +52,8 @@ control-requires-clause-few c =
     let w : World = c.args.self.now in
     let v : World = c.next_notice.new.self in
     let h : IsNoticeHeard w v c.args.g c.args.i c.in-Some.notice =
-    notice-heard w v c.args.g c.args.i c.in_ok-next_notice.field-0 c.in-Some.notice c.requires.place c.in_ok-next_notice.ensures c.in-Some.is c.requires.notices
+    notice-heard w v c.args.g c.args.i c.in_ok-next_notice.field-0 c.in-Some.notice c.requires.place c.in_ok-next_notice.ensures
+    c.in-Some.is c.requires.notices
     in
     notice-few w v c.args.g c.args.i c.in-Some.notice h (few-room w c.requires.room)
 
@@ -67,7 +70,8 @@ returns-in_ok-tell_notice-in-Some c = λ x a.
     let w : World = c.args.self.now in
     let v : World = c.next_notice.new.self in
     let h : IsNoticeHeard w v c.args.g c.args.i c.in-Some.notice =
-    notice-heard w v c.args.g c.args.i c.in_ok-next_notice.field-0 c.in-Some.notice c.requires.place c.in_ok-next_notice.ensures c.in-Some.is c.requires.notices
+    notice-heard w v c.args.g c.args.i c.in_ok-next_notice.field-0 c.in-Some.notice c.requires.place c.in_ok-next_notice.ensures
+    c.in-Some.is c.requires.notices
     in
     let same : x ≡ Some c.in-Some.notice = sym ((c.in_ok-next_notice.ensures x a).0) ∙ c.in-Some.is in
     let node : c.index.result.now ≡ heard_notice h.gateway =
@@ -75,9 +79,14 @@ returns-in_ok-tell_notice-in-Some c = λ x a.
     (c.index.ensures ∙ ap (λ (z : World). get_or z.nodes c.args.i c.index.result.now) c.self.view_is)
     in
     let told-of : c.tell_notice.new.acts ≡ c.args.acts.now ++ acts.Heard c.args.g h.gateway.pipe.openings c.in-Some.notice ∷ [] =
-    c.in_ok-tell_notice-in-Some.ensures ∙ ap (λ (x : Node). c.args.acts.now ++ acts.Heard c.args.g x.pipe.openings c.in-Some.notice ∷ []) node
+    c.in_ok-tell_notice-in-Some.ensures
+    ∙ ap (λ (x : Node). c.args.acts.now ++ acts.Heard c.args.g x.pipe.openings c.in-Some.notice ∷ []) node
     in
-    subst (λ (z : Option Notice). IfOk c.control.result (λ go. IsDone (note_at z w (node_at c.args.g w)) c.args.acts.now c.control.new.acts c.control.new.self go)) (sym same)
-    (ok-map (λ go. IsDone (controlled (told.Noticed c.args.i c.in-Some.notice) v) c.tell_notice.new.acts c.control.new.acts c.control.new.self go)
-    (λ go. IsDone (note_at (Some c.in-Some.notice) w (node_at c.args.g w)) c.args.acts.now c.control.new.acts c.control.new.self go) c.control.result c.control.ensures
-    (λ go d. note-done w v c.control.new.self c.args.g c.args.i h.gateway c.in-Some.notice c.args.acts.now c.tell_notice.new.acts c.control.new.acts go h.here h.world told-of d))
+    subst (λ (z : Option Notice). IfOk c.control.result
+    (λ go. IsDone (note_at z w (node_at c.args.g w)) c.args.acts.now c.control.new.acts c.control.new.self go)) (sym same)
+    (ok-map (λ go. IsDone
+    (controlled (told.Noticed c.args.i c.in-Some.notice) v) c.tell_notice.new.acts c.control.new.acts c.control.new.self go)
+    (λ go. IsDone (note_at (Some c.in-Some.notice) w (node_at c.args.g w)) c.args.acts.now c.control.new.acts c.control.new.self go)
+    c.control.result c.control.ensures
+    (λ go d. note-done w v c.control.new.self c.args.g c.args.i h.gateway c.in-Some.notice c.args.acts.now c.tell_notice.new.acts
+    c.control.new.acts go h.here h.world told-of d))

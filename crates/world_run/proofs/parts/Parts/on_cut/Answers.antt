@@ -14,7 +14,8 @@ use Rattle.world_run.proofs.parts.Parts.on_cut.Goals as goal
 pub returns-in-None : goal.returns-in-None
 returns-in-None c =
     let w : World = c.args.self.now in
-    let none : node_at c.args.g w ≡ None = unplaced c.args.g (the_view c.self.inside) w c.deref.result.now c.in-None.ensures c.deref.ensures.value c.self.view_is in
+    let none : node_at c.args.g w ≡ None = unplaced c.args.g
+    (the_view c.self.inside) w c.deref.result.now c.in-None.ensures c.deref.ensures.value c.self.view_is in
     subst (λ (z : Option Node). IsDone (cut_at w z) c.args.acts.now c.args.acts.now w gos.On) (sym none)
     (none-done w w c.args.acts.now c.args.acts.now gos.On refl refl refl)
 

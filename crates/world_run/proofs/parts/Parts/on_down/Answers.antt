@@ -18,5 +18,6 @@ nothing (Some y) w xs = none-done w w xs xs gos.On refl refl refl
 pub returns-in-None : goal.returns-in-None
 returns-in-None c = λ x a.
     let w : World = c.args.self.now in
-    let none : node_at c.args.g w ≡ None = unplaced c.args.g (the_view c.self.inside) w c.deref.result.now c.in-None.ensures c.deref.ensures.value c.self.view_is in
+    let none : node_at c.args.g w ≡ None = unplaced c.args.g
+    (the_view c.self.inside) w c.deref.result.now c.in-None.ensures c.deref.ensures.value c.self.view_is in
     subst (λ (z : Option Node). IsDone (down_at x w z) c.args.acts.now c.args.acts.now w gos.On) (sym none) (nothing x w c.args.acts.now)

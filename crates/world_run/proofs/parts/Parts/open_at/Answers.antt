@@ -28,12 +28,15 @@ control-requires-clause-gives c =
     let here : IsAt c.args.g c.args.i u c.index_mut-node.result.now =
     at-index c.args.g c.args.i u c.args.self.now c.index_mut-node.result.now c.self.view_is c.requires.place c.index_mut-node.ensures.value
     in
-    let facts : IsOpenedIn c.args.g c.index_mut-node.result.now c.open_session.new.node c.args.acts.now c.open_session.new.acts c.in_ok-open_session.field-0 = c.in_ok-open_session.ensures in
+    let facts : IsOpenedIn c.args.g c.index_mut-node.result.now c.open_session.new.node c.args.acts.now c.open_session.new.acts
+    c.in_ok-open_session.field-0 = c.in_ok-open_session.ensures in
     let v : World = kept_with u (set u.nodes c.args.i c.open_session.new.node) u.sent in
-    let seen : c.index_mut-node.result.now.pipe.is_open ≡ false = not-true (c.index_mut-node.result.now.pipe.is_open) (sym facts.did ∙ c.if-branch.true) in
+    let seen : c.index_mut-node.result.now.pipe.is_open ≡ false = not-true (c.index_mut-node.result.now.pipe.is_open)
+    (sym facts.did ∙ c.if-branch.true) in
     let node : c.open_session.new.node ≡ opened c.index_mut-node.result.now = facts.node seen in
     let changed : IsChanged u v =
-    changed-by u c.args.g c.args.i c.index_mut-node.result.now c.open_session.new.node here (ap (λ (z : Node). z.name) node) (ap (λ (z : Node). z.config) node)
+    changed-by u c.args.g c.args.i c.index_mut-node.result.now c.open_session.new.node here (ap (λ (z : Node). z.name) node)
+    (ap (λ (z : Node). z.config) node)
     in
     gives-on (told.Opened c.args.i) u v changed (subst (Gives (told.Opened c.args.i)) (sym c.self.view_is) c.requires.gives)
 
@@ -44,12 +47,15 @@ control-requires-clause-named c =
     let here : IsAt c.args.g c.args.i u c.index_mut-node.result.now =
     at-index c.args.g c.args.i u c.args.self.now c.index_mut-node.result.now c.self.view_is c.requires.place c.index_mut-node.ensures.value
     in
-    let facts : IsOpenedIn c.args.g c.index_mut-node.result.now c.open_session.new.node c.args.acts.now c.open_session.new.acts c.in_ok-open_session.field-0 = c.in_ok-open_session.ensures in
+    let facts : IsOpenedIn c.args.g c.index_mut-node.result.now c.open_session.new.node c.args.acts.now c.open_session.new.acts
+    c.in_ok-open_session.field-0 = c.in_ok-open_session.ensures in
     let v : World = kept_with u (set u.nodes c.args.i c.open_session.new.node) u.sent in
-    let seen : c.index_mut-node.result.now.pipe.is_open ≡ false = not-true (c.index_mut-node.result.now.pipe.is_open) (sym facts.did ∙ c.if-branch.true) in
+    let seen : c.index_mut-node.result.now.pipe.is_open ≡ false = not-true (c.index_mut-node.result.now.pipe.is_open)
+    (sym facts.did ∙ c.if-branch.true) in
     let node : c.open_session.new.node ≡ opened c.index_mut-node.result.now = facts.node seen in
     let changed : IsChanged u v =
-    changed-by u c.args.g c.args.i c.index_mut-node.result.now c.open_session.new.node here (ap (λ (z : Node). z.name) node) (ap (λ (z : Node). z.config) node)
+    changed-by u c.args.g c.args.i c.index_mut-node.result.now c.open_session.new.node here (ap (λ (z : Node). z.name) node)
+    (ap (λ (z : Node). z.config) node)
     in
     named-on u v changed (subst AreNamed (sym c.self.view_is) c.requires.named)
 
@@ -60,17 +66,23 @@ returns-then-branch c =
     let here : IsAt c.args.g c.args.i u c.index_mut-node.result.now =
     at-index c.args.g c.args.i u c.args.self.now c.index_mut-node.result.now c.self.view_is c.requires.place c.index_mut-node.ensures.value
     in
-    let facts : IsOpenedIn c.args.g c.index_mut-node.result.now c.open_session.new.node c.args.acts.now c.open_session.new.acts c.in_ok-open_session.field-0 = c.in_ok-open_session.ensures in
+    let facts : IsOpenedIn c.args.g c.index_mut-node.result.now c.open_session.new.node c.args.acts.now c.open_session.new.acts
+    c.in_ok-open_session.field-0 = c.in_ok-open_session.ensures in
     let v : World = kept_with u (set u.nodes c.args.i c.open_session.new.node) u.sent in
-    let seen : c.index_mut-node.result.now.pipe.is_open ≡ false = not-true (c.index_mut-node.result.now.pipe.is_open) (sym facts.did ∙ c.if-branch.true) in
+    let seen : c.index_mut-node.result.now.pipe.is_open ≡ false = not-true (c.index_mut-node.result.now.pipe.is_open)
+    (sym facts.did ∙ c.if-branch.true) in
     let node : c.open_session.new.node ≡ opened c.index_mut-node.result.now = facts.node seen in
     let put : v ≡ with_node (opened c.index_mut-node.result.now) u =
-    ap (λ z. kept_with u (set u.nodes c.args.i z) u.sent) node ∙ placed-is c.args.g c.args.i u c.index_mut-node.result.now (opened c.index_mut-node.result.now) here refl
+    ap (λ z. kept_with u (set u.nodes c.args.i z) u.sent) node
+    ∙ placed-is c.args.g c.args.i u c.index_mut-node.result.now (opened c.index_mut-node.result.now) here refl
     in
-    subst (λ (z : World). IfOk c.control.result (λ go. IsDone (open_at z (node_at c.args.g z)) c.args.acts.now c.control.new.acts c.control.new.self go)) c.self.view_is
+    subst (λ (z : World). IfOk c.control.result
+    (λ go. IsDone (open_at z (node_at c.args.g z)) c.args.acts.now c.control.new.acts c.control.new.self go)) c.self.view_is
     (ok-map (λ go. IsDone (controlled (told.Opened c.args.i) v) c.open_session.new.acts c.control.new.acts c.control.new.self go)
-    (λ go. IsDone (open_at u (node_at c.args.g u)) c.args.acts.now c.control.new.acts c.control.new.self go) c.control.result c.control.ensures
-    (λ go d. open-done u v c.control.new.self c.args.g c.args.i c.index_mut-node.result.now c.args.acts.now c.open_session.new.acts c.control.new.acts go here seen put (facts.acts seen) d))
+    (λ go. IsDone (open_at u (node_at c.args.g u)) c.args.acts.now c.control.new.acts c.control.new.self go) c.control.result
+    c.control.ensures
+    (λ go d. open-done u v c.control.new.self c.args.g c.args.i c.index_mut-node.result.now c.args.acts.now c.open_session.new.acts
+    c.control.new.acts go here seen put (facts.acts seen) d))
 
 pub returns-else-branch : goal.returns-else-branch
 returns-else-branch c =
@@ -79,9 +91,12 @@ returns-else-branch c =
     let here : IsAt c.args.g c.args.i u c.index_mut-node.result.now =
     at-index c.args.g c.args.i u c.args.self.now c.index_mut-node.result.now c.self.view_is c.requires.place c.index_mut-node.ensures.value
     in
-    let facts : IsOpenedIn c.args.g c.index_mut-node.result.now c.open_session.new.node c.args.acts.now c.open_session.new.acts c.in_ok-open_session.field-0 = c.in_ok-open_session.ensures in
+    let facts : IsOpenedIn c.args.g c.index_mut-node.result.now c.open_session.new.node c.args.acts.now c.open_session.new.acts
+    c.in_ok-open_session.field-0 = c.in_ok-open_session.ensures in
     let v : World = kept_with u (set u.nodes c.args.i c.open_session.new.node) u.sent in
-    let seen : c.index_mut-node.result.now.pipe.is_open ≡ true = not-false (c.index_mut-node.result.now.pipe.is_open) (sym facts.did ∙ c.if-branch.false) in
+    let seen : c.index_mut-node.result.now.pipe.is_open ≡ true = not-false (c.index_mut-node.result.now.pipe.is_open)
+    (sym facts.did ∙ c.if-branch.false) in
     subst (λ (z : World). IsDone (open_at z (node_at c.args.g z)) c.args.acts.now c.open_session.new.acts v gos.On) c.self.view_is
-    (open-already u v c.args.g c.args.i c.index_mut-node.result.now c.args.acts.now c.open_session.new.acts gos.On here seen refl (facts.none seen)
+    (open-already u v c.args.g c.args.i c.index_mut-node.result.now c.args.acts.now c.open_session.new.acts gos.On here seen refl
+    (facts.none seen)
     (same-world u v c.args.g c.args.i c.index_mut-node.result.now c.open_session.new.node here (facts.same seen) refl))

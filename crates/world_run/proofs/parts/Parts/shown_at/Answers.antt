@@ -1,4 +1,4 @@
-use Rattle.std.proofs.Common.{◌≡◌, List, [], ℕ, Option, Some, None, Result, Ok, Err, IfOk, refl, sym, ap, subst, ◌∙◌}
+use Rattle.std.proofs.Common.{◌≡◌, [], Option, None, IfOk, refl, sym, ap, subst, ◌∙◌}
 use Rattle.ikeless_tree.specs.declared.order.Lane.{Lane}
 use Rattle.ikeless_tree.specs.declared.order.Lane.TheVariants as lanes
 use Rattle.hist_wire.specs.Wire.{first_octets}
@@ -20,7 +20,8 @@ nothing lanes.Note = refl
 pub returns-in-None : goal.returns-in-None
 returns-in-None c =
     let w : World = c.args.self.now in
-    let none : node_at c.args.g.now w ≡ None = unplaced c.args.g.now (the_view c.self.inside) w c.deref.result.now c.in-None.ensures c.deref.ensures.value c.self.view_is in
+    let none : node_at c.args.g.now w ≡ None = unplaced c.args.g.now
+    (the_view c.self.inside) w c.deref.result.now c.in-None.ensures c.deref.ensures.value c.self.view_is in
     c.new.ensures ∙ nothing c.args.lane ∙ ap (λ z. first_octets c.args.lane (pipe_of z)) (sym none)
 
 pub returns-in-Some : goal.returns-in-Some
@@ -30,7 +31,9 @@ returns-in-Some c =
     let place : IsPlace c.args.g.now c.in-Some.i w =
     placed-found c.args.g.now c.in-Some.i u w c.deref.result.now c.in-Some.ensures c.deref.ensures.value c.self.view_is
     in
-    let here : IsAt c.args.g.now c.in-Some.i u c.index.result.now = at-index c.args.g.now c.in-Some.i u w c.index.result.now c.self.view_is place c.index.ensures in
+    let here : IsAt c.args.g.now c.in-Some.i u c.index.result.now = at-index c.args.g.now c.in-Some.i u w c.index.result.now
+    c.self.view_is place c.index.ensures in
     subst (λ (z : World). IfOk c.shown.result (λ o. o ≡ first_octets c.args.lane (pipe_of (node_at c.args.g.now z)))) c.self.view_is
-    (ok-map (λ o. o ≡ first_octets c.args.lane c.index.result.now.pipe) (λ o. o ≡ first_octets c.args.lane (pipe_of (node_at c.args.g.now u))) c.shown.result c.shown.ensures
+    (ok-map (λ o. o ≡ first_octets c.args.lane c.index.result.now.pipe)
+    (λ o. o ≡ first_octets c.args.lane (pipe_of (node_at c.args.g.now u))) c.shown.result c.shown.ensures
     (λ o e. e ∙ ap (λ (z : Option Node). first_octets c.args.lane (pipe_of z)) (sym here.node)))
