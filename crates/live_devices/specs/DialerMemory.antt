@@ -1,0 +1,34 @@
+-- What a dialer in memory tells of each peer.
+use Rattle.std.specs.Prelude.{ℕ, Bool, false, List, Option, Some, None, slice_get}
+use Rattle.live_devices.specs.Dialers.{PeerHeld}
+use Rattle.live_devices.specs.PeerMemory.{peer_held}
+use Rattle.live_devices.specs.declared.peer_memory.MemoryPeer.{MemoryPeer}
+
+abbrev pub held_of : Option MemoryPeer → Option PeerHeld
+held_of None = None
+held_of (Some p) = Some (peer_held p)
+
+abbrev pub up_of : Option MemoryPeer → Bool
+up_of None = false
+up_of (Some p) = p.is_up
+
+abbrev pub faults_of : Option MemoryPeer → ℕ
+faults_of None = 0
+faults_of (Some p) = p.tally.faults
+
+abbrev pub failed_of : Option MemoryPeer → Option Bool
+failed_of None = None
+failed_of (Some p) = Some p.tally.failed
+
+-- what is told of the peer with this number
+abbrev pub held_at : List MemoryPeer → ℕ → Option PeerHeld
+held_at peers g = held_of (slice_get peers g)
+
+abbrev pub up_at : List MemoryPeer → ℕ → Bool
+up_at peers g = up_of (slice_get peers g)
+
+abbrev pub faults_at : List MemoryPeer → ℕ → ℕ
+faults_at peers g = faults_of (slice_get peers g)
+
+abbrev pub failed_at : List MemoryPeer → ℕ → Option Bool
+failed_at peers g = failed_of (slice_get peers g)

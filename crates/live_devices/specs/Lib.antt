@@ -1,0 +1,13 @@
+pub mod Tallies
+pub mod Comings
+pub mod Wires
+pub mod WireMemory
+pub mod Clocks
+pub mod Streams
+pub mod StreamMemory
+pub mod Docks
+pub mod DockMemory
+pub mod Dialers
+pub mod PeerMemory
+pub mod DialerMemory
+pub mod DialerFaulty
