@@ -41,3 +41,6 @@ turns-preserved g c =
       source = omega (arith, c.turns.invariant.source, c.in-Ok.ensures.cause.later);
       sink = sink-on _ _ _ _ _ _ _ c.turns.invariant.sink c.in-Ok-take_piece.ensures.sink;
     }
+
+pub returns-then-n-eq0-clause-last : goal.returns-then-n-eq0-clause-last
+returns-then-n-eq0-clause-last g c = rw c.at_end.ensures.no_read_fault c.in-Ok.ensures.outcome
