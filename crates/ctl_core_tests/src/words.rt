@@ -23,6 +23,7 @@ const HOUR: Limits = Limits {
     idle: 0,
 };
 
+/// Whether a word of a line is this text.
 pub fn is(word: &[u8], text: &str) -> bool {
     word == text.as_bytes()
 }

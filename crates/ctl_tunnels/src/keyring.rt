@@ -12,7 +12,7 @@ use std::marker::Model;
 
 const MOST_KEYS: usize = 1048576;
 
-// The last four octets of keying material.
+/// The salt: the last four octets of keying material (RFC 4106, section 4).
 #[derive(Clone, Copy, Debug, PartialEq, Eq)]
 pub struct Salt {
     first: u8,

@@ -33,7 +33,7 @@ pub fn boot(alloc: Global, config: Config) -> Result<Gateway, NoMemory> {
     Gateway::booted(alloc, config)
 }
 
-// What is read, if the text stands for it.
+/// What is read, if the text stands for it.
 pub fn known<T: Drop>(read: Result<T, OrMemory<LineFault>>) -> Result<Option<T>, NoMemory> {
     match read {
         Ok(value) => Ok(Some(value)),
@@ -42,6 +42,7 @@ pub fn known<T: Drop>(read: Result<T, OrMemory<LineFault>>) -> Result<Option<T>,
     }
 }
 
+/// The request that puts the list of policies written in these words, if they write one that passes.
 pub fn list_asked(alloc: Global, words: &[&[u8]]) -> Result<Option<Ask>, NoMemory>
     ensures { IfOk result (λ a. IfSome a IsAsk) }
 {
@@ -54,6 +55,7 @@ pub fn list_asked(alloc: Global, words: &[&[u8]]) -> Result<Option<Ask>, NoMemor
     }
 }
 
+/// The request that puts the half written in this word, if it writes one that passes.
 pub fn half_asked(alloc: Global, word: &[u8]) -> Result<Option<Ask>, NoMemory>
     ensures { IfOk result (λ a. IfSome a IsAsk) }
 {
