@@ -3,3 +3,4 @@ pub mod Replied
 pub mod Histories
 pub mod Shows
 pub mod Shown
+pub mod NoticeText

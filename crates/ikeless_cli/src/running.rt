@@ -9,6 +9,9 @@ use script_lines::{put_acts, read_event, read_header};
 use std::alloc::Global;
 use world_run::{Go, World};
 
+// Room for the text of most blocks.
+const BLOCK_ROOM: usize = 1024;
+
 /// The world of a script whose header was read, and the number of events that it took.
 #[derive(Drop)]
 pub struct Running {
@@ -48,7 +51,7 @@ fn arrival(alloc: Global, acts: &Acts) -> Result<Octets, NoMemory>
 fn told(alloc: Global, acts: &Acts, go: Go) -> Result<Block, NoMemory>
     ensures { IfOk result (λ b. (b.text.items ≡ text_of acts.now) × (b.forged ≡ forged_of acts.now go)) }
 {
-    let mut text = Vec::new(alloc);
+    let mut text = Vec::with_capacity(alloc, BLOCK_ROOM)?;
     put_acts(&mut text, acts)?;
     let forged = match go {
         Go::On => None,

@@ -1,5 +1,5 @@
 -- Where halves are found, and lists without one.
-use Rattle.std.proofs.Common.{◌≡◌, ℕ, zero, suc, ◌+◌, ◌<◌, ◌≤◌, ◌==◌, map, take, get_or, not, ◌&&◌, ◌||◌, Bool, true, false, List, [], ◌∷◌, ◌++◌, length, cond, nat_lt, Option, Some, None, option_and_then, position, find, slice_get, refl, sym, ap, ◌∙◌, if◌then◌else◌, arith}
+use Rattle.std.proofs.Common.{◌≡◌, ℕ, zero, suc, ◌+◌, ◌<◌, ◌≤◌, ◌==◌, map, take, get_or, not, ◌&&◌, ◌||◌, Bool, true, false, List, [], ◌∷◌, ◌++◌, length, cond, nat_lt, Option, Some, None, option_and_then, position, find, slice_get, is_some, refl, sym, ap, ◌∙◌, if◌then◌else◌, arith}
 use Rattle.std.specs.List.{list_any, remove, position_or_len}
 use Rattle.std.specs.Str.{bytes_eq}
 use Rattle.std.specs.Option.{option_map}
@@ -13,8 +13,10 @@ use Rattle.ip_packet.specs.View.{Packet}
 use Rattle.ikeless_tree.specs.Half.{is_inbound}
 use Rattle.ikeless_tree.specs.declared.sad.SadEntry.{SadEntry}
 use Rattle.sad_store.specs.declared.half.Half.{Half}
-use Rattle.sad_store.specs.Halves.{fresh, entries_of, has_half_named, is_half_named, is_half_of_spi, halves_without, names_of, may_seal, newer_half, later_place, newest_half, newest_place}
+use Rattle.sad_store.specs.Halves.{fresh, entries_of, has_half_named, is_half_named, is_half_of_spi, is_spi_taken, halves_without, names_of, may_seal, newer_half, later_place, newest_half, newest_place}
 use Rattle.sad_store.specs.Kept.{are_names_apart, IsKept, reqid_key, spi_key}
+use Rattle.sad_store.specs.Columns.{are_keys_apart, is_among, is_key, last_place, later}
+use Rattle.sad_store.proofs.ColumnLemmas.{last-any, last-first}
 
 -- ---- names
 
@@ -141,23 +143,23 @@ names-end : (xs : List Half) (x : Half) → names_of (xs ++ x ∷ []) ≡ names_
 names-end [] x = refl
 names-end (y ∷ xs) x = ap (λ ns. y.entry.name ∷ ns) (names-end xs x)
 
-keys-end : (f : SadEntry → ℕ) (xs : List Half) (x : Half) → map f (entries_of (xs ++ x ∷ [])) ≡ map f (entries_of xs) ++ f x.entry ∷ []
+keys-end : (f : SadEntry → Option ℕ) (xs : List Half) (x : Half) → map f (entries_of (xs ++ x ∷ [])) ≡ map f (entries_of xs) ++ f x.entry ∷ []
 keys-end f [] x = refl
 keys-end f (y ∷ xs) x = ap (λ ks. f y.entry ∷ ks) (keys-end f xs x)
 
-pub kept-end : (xs : List Half) (spis reqids : List ℕ) (now : ℕ) (e : SadEntry) → IsKept xs spis reqids → has_half_named e.name xs ≡ false →
-    IsKept (xs ++ fresh now e ∷ []) (spis ++ spi_key e ∷ []) (reqids ++ e.reqid ∷ [])
+pub kept-end : (xs : List Half) (spis reqids : List (Option ℕ)) (now : ℕ) (e : SadEntry) → IsKept xs spis reqids → has_half_named e.name xs ≡ false →
+    IsKept (xs ++ fresh now e ∷ []) (spis ++ spi_key e ∷ []) (reqids ++ reqid_key e ∷ [])
 kept-end xs spis reqids now e kept new = record {
   apart = ap are_names_apart (names-end xs (fresh now e)) ∙ apart-end e.name (names_of xs) (names-any e.name xs ∙ new) kept.apart;
   spis = ap (λ ks. ks ++ spi_key e ∷ []) kept.spis ∙ sym (keys-end spi_key xs (fresh now e));
-  reqids = ap (λ ks. ks ++ e.reqid ∷ []) kept.reqids ∙ sym (keys-end reqid_key xs (fresh now e));
+  reqids = ap (λ ks. ks ++ reqid_key e ∷ []) kept.reqids ∙ sym (keys-end reqid_key xs (fresh now e));
 }
 
 names-entries : (xs : List Half) → names_of xs ≡ map (λ e. e.name) (entries_of xs)
 names-entries [] = refl
 names-entries (x ∷ xs) = ap (λ ns. x.entry.name ∷ ns) (names-entries xs)
 
-pub kept-same : (xs ys : List Half) (spis reqids : List ℕ) → entries_of ys ≡ entries_of xs → IsKept xs spis reqids → IsKept ys spis reqids
+pub kept-same : (xs ys : List Half) (spis reqids : List (Option ℕ)) → entries_of ys ≡ entries_of xs → IsKept xs spis reqids → IsKept ys spis reqids
 kept-same xs ys spis reqids same kept = record {
   apart = ap are_names_apart (names-entries ys ∙ (ap (map (λ (e : SadEntry). e.name)) same ∙ sym (names-entries xs))) ∙ kept.apart;
   spis = kept.spis ∙ ap (map spi_key) (sym same);
@@ -187,13 +189,13 @@ apart-without name (x ∷ xs) e =
     apart-by true own away ih = rw own ih
     apart-by false own away ih = rw (own, away) ih
 
-keys-without : (f : SadEntry → ℕ) (xs : List Half) (i : ℕ) → remove (map f (entries_of xs)) i ≡ map f (entries_of (remove xs i))
+keys-without : (f : SadEntry → Option ℕ) (xs : List Half) (i : ℕ) → remove (map f (entries_of xs)) i ≡ map f (entries_of (remove xs i))
 keys-without f [] zero = refl
 keys-without f [] (suc i) = refl
 keys-without f (x ∷ xs) zero = refl
 keys-without f (x ∷ xs) (suc i) = ap (λ ks. f x.entry ∷ ks) (keys-without f xs i)
 
-pub kept-without : (name : List ℕ) (xs : List Half) (spis reqids : List ℕ) (i : ℕ) → IsKept xs spis reqids → remove xs i ≡ halves_without name xs →
+pub kept-without : (name : List ℕ) (xs : List Half) (spis reqids : List (Option ℕ)) (i : ℕ) → IsKept xs spis reqids → remove xs i ≡ halves_without name xs →
     IsKept (halves_without name xs) (remove spis i) (remove reqids i)
 kept-without name xs spis reqids i kept e = record {
   apart = apart-without name xs kept.apart;
@@ -203,48 +205,122 @@ kept-without name xs spis reqids i kept e = record {
 
 -- ---- the column of SPIs
 
-key-is : (b : Bool) (own spi : ℕ) → ((if b then own + 1 else 0) == spi + 1) ≡ (b && (own == spi))
-key-is true own spi = grind (arith, nat_tests)
-key-is false own spi = grind (arith, nat_tests)
+key-is : (k spi : ℕ) (b : Bool) → is_key k (if b then Some spi else None) ≡ (b && (spi == k))
+key-is k spi true = refl
+key-is k spi false = refl
 
-spi-prefix : (spi : ℕ) (xs : List Half) → position_or_len (λ k. k == spi + 1) (map spi_key (entries_of xs)) ≡ position_or_len (is_half_of_spi spi) xs
+spi-prefix : (spi : ℕ) (xs : List Half) → position_or_len (is_key spi) (map spi_key (entries_of xs)) ≡ position_or_len (is_half_of_spi spi) xs
 spi-prefix spi [] = refl
 spi-prefix spi (x ∷ xs) =
-    ap (λ b. cond (not b) (1 + position_or_len (λ k. k == spi + 1) (map spi_key (entries_of xs))) 0) (key-is (is_inbound x.entry.name) x.entry.spi spi)
+    ap (λ b. cond (not b) (1 + position_or_len (is_key spi) (map spi_key (entries_of xs))) 0) (key-is spi x.entry.spi (is_inbound x.entry.name))
     ∙ ap (λ n. cond (not (is_half_of_spi spi x)) (1 + n) 0) (spi-prefix spi xs)
 
-keys-length : (f : SadEntry → ℕ) (xs : List Half) → length (map f (entries_of xs)) ≡ length xs
+keys-length : (f : SadEntry → Option ℕ) (xs : List Half) → length (map f (entries_of xs)) ≡ length xs
 keys-length f [] = refl
 keys-length f (x ∷ xs) = let ih = keys-length f xs in omega (arith, ih)
 
-pub spi-place : (spi : ℕ) (xs : List Half) → position (λ k. k == spi + 1) (map spi_key (entries_of xs)) ≡ position (is_half_of_spi spi) xs
+spi-place : (spi : ℕ) (xs : List Half) → position (is_key spi) (map spi_key (entries_of xs)) ≡ position (is_half_of_spi spi) xs
 spi-place spi xs =
     ap (λ n. cond (nat_lt n (length (map spi_key (entries_of xs)))) (Some n) None) (spi-prefix spi xs)
     ∙ ap (λ l. cond (nat_lt (position_or_len (is_half_of_spi spi) xs) l) (Some (position_or_len (is_half_of_spi spi) xs)) None) (keys-length spi_key xs)
 
-pub spi-any : (spi : ℕ) (xs : List Half) → list_any (λ k. k == spi + 1) (map spi_key (entries_of xs)) ≡ list_any (is_half_of_spi spi) xs
+spi-any : (spi : ℕ) (xs : List Half) → list_any (is_key spi) (map spi_key (entries_of xs)) ≡ list_any (is_half_of_spi spi) xs
 spi-any spi [] = refl
 spi-any spi (x ∷ xs) =
-    ap (λ b. b || list_any (λ k. k == spi + 1) (map spi_key (entries_of xs))) (key-is (is_inbound x.entry.name) x.entry.spi spi)
+    ap (λ b. b || list_any (is_key spi) (map spi_key (entries_of xs))) (key-is spi x.entry.spi (is_inbound x.entry.name))
     ∙ ap (λ b. is_half_of_spi spi x || b) (spi-any spi xs)
+
+-- where the half of an SPI is, and whether there is one, by the column
+pub spi-there : (spi : ℕ) (xs : List Half) (keys : List (Option ℕ)) → keys ≡ map spi_key (entries_of xs) → are_keys_apart keys ≡ true →
+    last_place spi keys ≡ position (is_half_of_spi spi) xs
+spi-there spi xs keys is apart = last-first spi keys apart ∙ (ap (position (is_key spi)) is ∙ spi-place spi xs)
+
+pub spi-taken : (spi : ℕ) (xs : List Half) (keys : List (Option ℕ)) → keys ≡ map spi_key (entries_of xs) → is_some (last_place spi keys) ≡ list_any (is_half_of_spi spi) xs
+spi-taken spi xs keys is = last-any spi keys ∙ (ap (list_any (is_key spi)) is ∙ spi-any spi xs)
+
+-- an SPI that no inbound half has stands nowhere in the column
+pub spi-new : (e : SadEntry) (xs : List Half) (keys : List (Option ℕ)) → keys ≡ map spi_key (entries_of xs) → is_spi_taken e xs ≡ false → is_among (spi_key e) keys ≡ false
+spi-new e xs keys is free = by (is_inbound e.name) free
+  where
+    by : (b : Bool) → (b && list_any (is_half_of_spi e.spi) xs) ≡ false → is_among (if b then Some e.spi else None) keys ≡ false
+    by true free = ap (list_any (is_key e.spi)) is ∙ (spi-any e.spi xs ∙ free)
+    by false free = refl
 
 -- ---- the column of reqids
 
-pub mapped-at : (f : Half → Bool) (xs : List Half) (i : ℕ) (d : Half) → i < length xs → option_map f (slice_get xs i) ≡ Some (f (get_or xs i d))
-mapped-at f [] i d e = absurd (omega arith)
-mapped-at f (x ∷ xs) zero d e = refl
-mapped-at f (x ∷ xs) (suc i) d e = mapped-at f xs i d (omega arith)
-
 -- a half with another reqid doesn't seal
-other-by : (a b c : Bool) → b ≡ false → (a && (b && c)) ≡ false
-other-by true b c e = ap (λ x. x && c) e
-other-by false b c e = refl
+seal-by : (r own : ℕ) (b c : Bool) → is_key r (if b then None else Some own) ≡ false → (not b && ((own == r) && c)) ≡ false
+seal-by r own true c e = refl
+seal-by r own false c e = rw e refl
 
-pub seal-other : (r : ℕ) (v : Packet) (xs : List Half) (i k : ℕ) → i < length xs → (get_or (map reqid_key (entries_of xs)) i k == r) ≡ false →
+pub seal-other : (r : ℕ) (v : Packet) (xs : List Half) (i : ℕ) → i < length xs → option_map (is_key r) (slice_get (map reqid_key (entries_of xs)) i) ≡ Some false →
     option_map (λ x. may_seal r v x.entry) (slice_get xs i) ≡ Some false
-seal-other r v [] i k e other = absurd (omega arith)
-seal-other r v (x ∷ xs) zero k e other = ap Some (other-by (not (is_inbound x.entry.name)) (x.entry.reqid == r) (holds_packet x.entry.selector Out v) other)
-seal-other r v (x ∷ xs) (suc i) k e other = seal-other r v xs i k (omega arith) other
+seal-other r v [] i e other = absurd (omega arith)
+seal-other r v (x ∷ xs) zero e other =
+    ap Some (seal-by r x.entry.reqid (is_inbound x.entry.name) (holds_packet x.entry.selector Out v) (some-same (is_key r (reqid_key x.entry)) false other))
+  where
+    some-same : (a b : Bool) → Some a ≡ Some b → a ≡ b
+    some-same a b e = cc
+seal-other r v (x ∷ xs) (suc i) e other = seal-other r v xs i (omega arith) other
+
+-- where no half has the reqid, none seals
+seal-none : (r : ℕ) (v : Packet) (x : Half) → is_key r (reqid_key x.entry) ≡ false → may_seal r v x.entry ≡ false
+seal-none r v x e = seal-by r x.entry.reqid (is_inbound x.entry.name) (holds_packet x.entry.selector Out v) e
+
+none-then : (n : ℕ) (b : Bool) → cond b (Some n) None ≡ None → b ≡ false
+none-then n true e = cc
+none-then n false e = refl
+
+none-later : (k : ℕ) (x place : Option ℕ) → later k x place ≡ None → (place ≡ None) × (is_key k x ≡ false)
+none-later k x (Some i) e = cc
+none-later k x None e = (refl, none-then 0 (is_key k x) e)
+
+pub newest-none : (r : ℕ) (v : Packet) (xs : List Half) → last_place r (map reqid_key (entries_of xs)) ≡ None → newest_place r v xs ≡ None
+newest-none r v [] e = refl
+newest-none r v (x ∷ xs) e =
+    let parts = none-later r (reqid_key x.entry) (last_place r (map reqid_key (entries_of xs))) e in
+    let ih = newest-none r v xs parts.0 in
+    let no = seal-none r v x parts.1 in
+    rw (ih, no) refl
+
+-- a last place is one later than among the rest, or the front where the rest has none
+data Later (k : ℕ) (x place : Option ℕ) (p : ℕ) : Type 0 where
+  Rest : (i : ℕ) → place ≡ Some i → p ≡ suc i → Later k x place p
+  Front : place ≡ None → p ≡ 0 → Later k x place p
+
+which-later : (k : ℕ) (x place : Option ℕ) (p : ℕ) → later k x place ≡ Some p → Later k x place p
+which-later k x (Some i) p e = let q : i + 1 ≡ p = cc in Rest i refl (omega (arith, q))
+which-later k x None p e = by (is_key k x) e
+  where
+    by : (b : Bool) → cond b (Some 0) None ≡ Some p → Later k x None p
+    by true e = let q : 0 ≡ p = cc in Front refl (omega (arith, q))
+    by false e = cc
+
+within-rest : (r : ℕ) (v : Packet) (x : Half) (xs : List Half) (p i : ℕ) → p ≡ suc i → (i < length xs) × (newest_place r v xs ≡ newest_place r v (take (i + 1) xs)) →
+    (p < length (x ∷ xs)) × (newest_place r v (x ∷ xs) ≡ newest_place r v (take (p + 1) (x ∷ xs)))
+within-rest r v x xs p i next ih =
+    let within = ih.0 in
+    let one : p + 1 ≡ suc (i + 1) = omega (arith, next) in
+    (omega (arith, next, within), rw one (ap (later_place r v x) ih.1))
+
+within-front : (r : ℕ) (v : Packet) (x : Half) (xs : List Half) (p : ℕ) → p ≡ 0 → newest_place r v xs ≡ None →
+    (p < length (x ∷ xs)) × (newest_place r v (x ∷ xs) ≡ newest_place r v (take (p + 1) (x ∷ xs)))
+within-front r v x xs p front none =
+    let one : p + 1 ≡ suc 0 = omega (arith, front) in
+    (omega (arith, front), rw one (ap (later_place r v x) none))
+
+-- no half after the last one with the reqid seals
+newest-by : (r : ℕ) (v : Packet) (x : Half) (xs : List Half) (p : ℕ) → Later r (reqid_key x.entry) (last_place r (map reqid_key (entries_of xs))) p →
+    ((i : ℕ) → last_place r (map reqid_key (entries_of xs)) ≡ Some i → (i < length xs) × (newest_place r v xs ≡ newest_place r v (take (i + 1) xs))) →
+    (p < length (x ∷ xs)) × (newest_place r v (x ∷ xs) ≡ newest_place r v (take (p + 1) (x ∷ xs)))
+newest-by r v x xs p (Rest i rest next) ih = within-rest r v x xs p i next (ih i rest)
+newest-by r v x xs p (Front none front) ih = within-front r v x xs p front (newest-none r v xs none)
+
+pub newest-within : (r : ℕ) (v : Packet) (xs : List Half) (p : ℕ) → last_place r (map reqid_key (entries_of xs)) ≡ Some p →
+    (p < length xs) × (newest_place r v xs ≡ newest_place r v (take (p + 1) xs))
+newest-within r v [] p e = cc
+newest-within r v (x ∷ xs) p e =
+    newest-by r v x xs p (which-later r (reqid_key x.entry) (last_place r (map reqid_key (entries_of xs))) p e) (λ i rest. newest-within r v xs i rest)
 
 take-last : (xs : List Half) (i : ℕ) (d : Half) → i < length xs → take (suc i) xs ≡ take i xs ++ get_or xs i d ∷ []
 take-last [] i d e = absurd (omega arith)

@@ -1,5 +1,6 @@
--- What the store keeps of its halves: their names are apart, and it has a column of the SPIs and one of the `reqid`s.
-use Rattle.std.specs.Prelude.{◌≡◌, ℕ, ◌+◌, not, ◌&&◌, Bool, true, List, [], ◌∷◌, map, if◌then◌else◌}
+-- What the store keeps of its halves: their names are apart, and it has a column of the SPIs of those that are inbound, no two of
+-- which are one, and a column of the `reqid`s of those that are outbound.
+use Rattle.std.specs.Prelude.{◌≡◌, ℕ, not, ◌&&◌, Bool, true, List, [], ◌∷◌, map, Option, Some, None, if◌then◌else◌}
 use Rattle.std.specs.List.{list_any}
 use Rattle.std.specs.Str.{bytes_eq}
 use Rattle.ikeless_tree.specs.Half.{is_inbound}
@@ -12,14 +13,15 @@ abbrev pub are_names_apart : List (List ℕ) → Bool
 are_names_apart [] = true
 are_names_apart (x ∷ xs) = not (list_any (λ y. bytes_eq y x) xs) && are_names_apart xs
 
--- one more than the SPI of an inbound half, or 0
-abbrev pub spi_key : SadEntry → ℕ
-spi_key e = if is_inbound e.name then e.spi + 1 else 0
+-- the SPI of an inbound half
+abbrev pub spi_key : SadEntry → Option ℕ
+spi_key e = if is_inbound e.name then Some e.spi else None
 
-abbrev pub reqid_key : SadEntry → ℕ
-reqid_key e = e.reqid
+-- the `reqid` of an outbound half
+abbrev pub reqid_key : SadEntry → Option ℕ
+reqid_key e = if is_inbound e.name then None else Some e.reqid
 
-pub record IsKept (xs : List Half) (keys ids : List ℕ) : Type 0 where
+pub record IsKept (xs : List Half) (spi_keys reqid_keys : List (Option ℕ)) : Type 0 where
   pub apart : are_names_apart (names_of xs) ≡ true
-  pub spis : keys ≡ map spi_key (entries_of xs)
-  pub reqids : ids ≡ map reqid_key (entries_of xs)
+  pub spis : spi_keys ≡ map spi_key (entries_of xs)
+  pub reqids : reqid_keys ≡ map reqid_key (entries_of xs)

@@ -1,12 +1,14 @@
 // Halves in a list.
-ghost use Rattle.std.specs.Prelude.{◌≡◌, ◌+◌, ◌<◌, ◌==◌, Some, length, position, map, slice_get};
+ghost use Rattle.std.specs.Prelude.{◌≡◌, ◌+◌, ◌<◌, Some, length, position, map, take, slice_get};
 ghost use Rattle.std.specs.Option.{option_map};
-ghost use Rattle.std.specs.List.{list_any};
 ghost use Rattle.ip_packet.specs.View.{seen};
 ghost use Rattle.ikeless_tree.specs.Half.{is_inbound};
 ghost use Rattle.sad_store.specs.Halves.{entries_of, halves_without, has_half_named, is_half_named, may_seal, newest_place};
-ghost use Rattle.sad_store.specs.Kept.{IsKept, reqid_key, spi_key};
+ghost use Rattle.sad_store.specs.Columns.{IsIndexed};
+ghost use Rattle.sad_store.specs.Kept.{reqid_key, spi_key};
+ghost use Rattle.sad_store.specs.Stored.{IsStored};
 
+use crate::column::KeyColumn;
 use crate::half::Half;
 use ikeless_tree::{Direction, SadEntry};
 use ikl_base::Name;
@@ -32,33 +34,26 @@ pub(crate) fn is_taken(halves: &[Half], name: &[u8]) -> bool
     halves.iter().any(|x| x.entry.name.as_slice() == name)
 }
 
-pub(crate) fn key_of(e: &SadEntry) -> u64
+// The SPI of an inbound half.
+pub(crate) fn spi_of(e: &SadEntry) -> Option<u64>
     ensures { result ≡ spi_key e.now }
 {
     if comes_in(&e.name) {
-        u64::from(e.spi) + 1
+        Some(u64::from(e.spi))
     } else {
-        0
+        None
     }
 }
 
-fn place_in(column: &[u64], key: u64) -> Option<usize>
-    ensures { result ≡ position (λ k. k == key) column.now }
+// The `reqid` of an outbound half.
+pub(crate) fn reqid_of(e: &SadEntry) -> Option<u64>
+    ensures { result ≡ reqid_key e.now }
 {
-    column.iter().position(|k| *k == key)
-}
-
-// Where the inbound half with this SPI is, by the column of SPIs.
-pub(crate) fn place_of_spi(spis: &[u64], spi: u32) -> Option<usize>
-    ensures { result ≡ position (λ k. k == spi + 1) spis.now }
-{
-    place_in(spis, u64::from(spi) + 1)
-}
-
-pub(crate) fn has_key(column: &[u64], key: u64) -> bool
-    ensures { result ≡ list_any (λ k. k == key) column.now }
-{
-    column.iter().any(|k| *k == key)
+    if comes_in(&e.name) {
+        None
+    } else {
+        Some(e.reqid)
+    }
 }
 
 fn seals(entry: &SadEntry, reqid: u64, v: &View) -> bool
@@ -67,25 +62,24 @@ fn seals(entry: &SadEntry, reqid: u64, v: &View) -> bool
     !comes_in(&entry.name) && entry.reqid == reqid && holds(&entry.selector, Direction::Out, v)
 }
 
-fn seals_at(halves: &[Half], reqids: &[u64], i: usize, reqid: u64, v: &View) -> bool
-    requires column { reqids.now ≡ map reqid_key (entries_of halves.now) }
+fn seals_at(halves: &[Half], reqids: &KeyColumn, i: usize, reqid: u64, v: &View) -> bool
+    requires column { reqids.now.keys.items ≡ map reqid_key (entries_of halves.now) }
     requires within { i < length halves.now }
-    requires in_column { i < length reqids.now }
+    requires in_column { i < length reqids.now.keys.items }
     ensures { option_map (λ x. may_seal reqid (seen v.now) x.entry) (slice_get halves.now i) ≡ Some result }
 {
-    if reqids[i] != reqid {
-        return false;
-    }
-    seals(&halves[i].entry, reqid, v)
+    reqids.is_at(i, reqid) && seals(&halves[i].entry, reqid, v)
 }
 
-// Where the newest such half is, by the column of `reqid`s.
-pub(crate) fn newest_of(halves: &[Half], reqids: &[u64], reqid: u64, v: &View) -> Option<usize>
-    requires column { reqids.now ≡ map reqid_key (entries_of halves.now) }
-    requires length { length reqids.now ≡ length halves.now }
+// The same, where no half after this place seals.
+fn newest_up_to(halves: &[Half], reqids: &KeyColumn, last: usize, reqid: u64, v: &View) -> Option<usize>
+    requires column { reqids.now.keys.items ≡ map reqid_key (entries_of halves.now) }
+    requires length { length reqids.now.keys.items ≡ length halves.now }
+    requires within { last < length halves.now }
+    requires none_later { newest_place reqid (seen v.now) halves.now ≡ newest_place reqid (seen v.now) (take (last + 1) halves.now) }
     ensures { result ≡ newest_place reqid (seen v.now) halves.now }
 {
-    let mut i = halves.len();
+    let mut i = last + 1;
     while i > 0 {
         i -= 1;
         if seals_at(halves, reqids, i, reqid, v) {
@@ -95,17 +89,30 @@ pub(crate) fn newest_of(halves: &[Half], reqids: &[u64], reqid: u64, v: &View) -
     None
 }
 
+// Where the newest such half is, by the column of `reqid`s.
+pub(crate) fn newest_of(halves: &[Half], reqids: &KeyColumn, reqid: u64, v: &View) -> Option<usize>
+    requires column { reqids.now.keys.items ≡ map reqid_key (entries_of halves.now) }
+    requires length { length reqids.now.keys.items ≡ length halves.now }
+    requires indexed { IsIndexed reqids.now.keys.items reqids.now.places }
+    ensures { result ≡ newest_place reqid (seen v.now) halves.now }
+{
+    match reqids.last(reqid) {
+        None => None,
+        Some(last) => newest_up_to(halves, reqids, last, reqid, v),
+    }
+}
+
 // Takes the half of this name out, and what the columns have of it. False where there is none.
 pub(crate) fn take_out(
     halves: &mut Vec<Half>,
-    spis: &mut Vec<u64>,
-    reqids: &mut Vec<u64>,
+    spis: &mut KeyColumn,
+    reqids: &mut KeyColumn,
     name: &Name,
 ) -> bool
-    requires kept { IsKept halves.old.items spis.old.items reqids.old.items }
-    requires spis { length spis.old.items ≡ length halves.old.items }
-    requires reqids { length reqids.old.items ≡ length halves.old.items }
-    ensures kept { IsKept halves.new.items spis.new.items reqids.new.items }
+    requires stored { IsStored halves.old.items spis.old reqids.old }
+    requires spis { length spis.old.keys.items ≡ length halves.old.items }
+    requires reqids { length reqids.old.keys.items ≡ length halves.old.items }
+    ensures stored { IsStored halves.new.items spis.new reqids.new }
     ensures found { result ≡ has_half_named name.now halves.old.items }
     ensures halves { halves.new.items ≡ halves_without name.now halves.old.items }
 {

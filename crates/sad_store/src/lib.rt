@@ -2,6 +2,7 @@
 #![tactic(auto)]
 
 mod change;
+mod column;
 mod fault;
 mod find;
 mod half;

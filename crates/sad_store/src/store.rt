@@ -2,12 +2,13 @@ ghost use Rattle.std.specs.Prelude.{◌≡◌, ◌+◌, ◌<◌, ◌++◌, ◌�
 ghost use Rattle.std.specs.Option.{option_map};
 ghost use Rattle.ip_packet.specs.View.{seen};
 ghost use Rattle.ikeless_tree.specs.Check.{sad_fault};
-ghost use Rattle.sad_store.specs.Halves.{fresh, has_half_named, names_of};
-ghost use Rattle.sad_store.specs.Kept.{IsKept};
+ghost use Rattle.sad_store.specs.Halves.{fresh, has_half_named, is_spi_taken, names_of};
+ghost use Rattle.sad_store.specs.Stored.{IsStored};
 
 use crate::change::{hush, mark_at, number, tell_overflow, tick_at, use_at};
 use crate::fault::InstallFault;
-use crate::find::{comes_in, has_key, is_taken, key_of, newest_of, place_of_spi, take_out};
+use crate::column::KeyColumn;
+use crate::find::{comes_in, is_taken, newest_of, reqid_of, spi_of, take_out};
 use crate::half::Half;
 use ikeless_tree::{Names, SadEntry};
 use ikl_base::{Duplicate, Name, NoMemory};
@@ -23,20 +24,20 @@ const MOST: usize = 4096;
 #[derive(Debug, Drop)]
 pub struct SadStore {
     halves: Vec<Half>,
-    spis: Vec<u64>,
-    reqids: Vec<u64>,
+    spis: KeyColumn,
+    reqids: KeyColumn,
 }
 
 impl Model for SadStore {
     ghost use Rattle.std.specs.Prelude.{List};
     ghost use Rattle.sad_store.specs.declared.half.Half.{Half};
-    ghost use Rattle.sad_store.specs.Kept.{IsKept};
+    ghost use Rattle.sad_store.specs.Stored.{IsStored};
 
     ghost Value = { List Half };
 
     ghost view = { λ s. s.halves.items };
 
-    ghost invariant = { λ s. IsKept s.halves.items s.spis.items s.reqids.items };
+    ghost invariant = { λ s. IsStored s.halves.items s.spis s.reqids };
 }
 
 // A half that is installed now, or the entry back.
@@ -73,34 +74,35 @@ fn push<T: Drop>(items: &mut Vec<T>, item: T)
 // Room for one more in each list.
 fn make_room(
     halves: &mut Vec<Half>,
-    spis: &mut Vec<u64>,
-    reqids: &mut Vec<u64>,
+    spis: &mut KeyColumn,
+    reqids: &mut KeyColumn,
 ) -> Result<(), NoMemory>
+    requires stored { IsStored halves.old.items spis.old reqids.old }
+    ensures stored { IsStored halves.new.items spis.new reqids.new }
     ensures halves { halves.new.items ≡ halves.old.items }
-    ensures spis { spis.new.items ≡ spis.old.items }
-    ensures reqids { reqids.new.items ≡ reqids.old.items }
     ensures more_halves { OnOk result (vec_len halves.new < vec_capacity halves.new) }
-    ensures more_spis { OnOk result (vec_len spis.new < vec_capacity spis.new) }
-    ensures more_reqids { OnOk result (vec_len reqids.new < vec_capacity reqids.new) }
+    ensures more_spis { OnOk result (vec_len spis.new.keys < vec_capacity spis.new.keys) }
+    ensures more_reqids { OnOk result (vec_len reqids.new.keys < vec_capacity reqids.new.keys) }
 {
     halves.reserve(1)?;
-    spis.reserve(1)?;
-    reqids.reserve(1)?;
+    spis.make_room()?;
+    reqids.make_room()?;
     Ok(())
 }
 
 // One more half that is installed now, or the entry back.
 fn add(
     halves: &mut Vec<Half>,
-    spis: &mut Vec<u64>,
-    reqids: &mut Vec<u64>,
+    spis: &mut KeyColumn,
+    reqids: &mut KeyColumn,
     e: SadEntry,
     now: u32,
 ) -> Result<(), SadEntry>
     requires sound { sad_fault e ≡ None }
-    requires kept { IsKept halves.old.items spis.old.items reqids.old.items }
+    requires stored { IsStored halves.old.items spis.old reqids.old }
     requires free { has_half_named e.name halves.old.items ≡ false }
-    ensures kept { IsKept halves.new.items spis.new.items reqids.new.items }
+    requires alone { is_spi_taken e halves.old.items ≡ false }
+    ensures stored { IsStored halves.new.items spis.new reqids.new }
     ensures ok { OnOk result (halves.new.items ≡ halves.old.items ++ fresh now e ∷ []) }
     ensures err { OnErr result (halves.new.items ≡ halves.old.items) }
     ensures given { IfErr result (λ given. given ≡ e) }
@@ -111,8 +113,8 @@ fn add(
     match begin(*halves.allocator(), e, now) {
         Err(e) => Err(e),
         Ok(half) => {
-            push(spis, key_of(&half.entry));
-            push(reqids, half.entry.reqid);
+            spis.push(spi_of(&half.entry));
+            reqids.push(reqid_of(&half.entry));
             push(halves, half);
             Ok(())
         }
@@ -142,8 +144,8 @@ impl SadStore {
     {
         SadStore {
             halves: Vec::new(alloc),
-            spis: Vec::new(alloc),
-            reqids: Vec::new(alloc),
+            spis: KeyColumn::new(alloc),
+            reqids: KeyColumn::new(alloc),
         }
     }
 
@@ -151,7 +153,7 @@ impl SadStore {
     fn has_spi_of(&self, e: &SadEntry) -> bool
         ensures { result ≡ is_spi_taken e.now self.now }
     {
-        comes_in(&e.name) && has_key(&self.spis, u64::from(e.spi) + 1)
+        comes_in(&e.name) && self.spis.last(u64::from(e.spi)).is_some()
     }
 
     /// Installs a half, as the last one, at this clock.
@@ -201,7 +203,7 @@ impl SadStore {
         ensures place { result ≡ position (is_half_of_spi spi) self.now }
         ensures half { option_and_then (slice_get self.now) result ≡ half_by_spi spi self.now }
     {
-        place_of_spi(&self.spis, spi)
+        self.spis.last(u64::from(spi))
     }
 
     /// The half at this place in the order of installation.

@@ -1,27 +1,22 @@
-use Rattle.std.proofs.Common.{◌≡◌, ◌<◌, ◌+◌, ◌-◌, ℕ, true, false, Some, length, sym, ap, ◌∙◌, arith}
+use Rattle.std.proofs.Common.{◌≡◌, ℕ, List, Option, Some, None, map, sym, ap, ◌∙◌}
 use Rattle.ip_packet.specs.View.{seen}
-use Rattle.sad_store.proofs.PlaceLemmas.{newest-back}
+use Rattle.sad_store.specs.Columns.{last_place}
+use Rattle.sad_store.specs.Halves.{entries_of}
+use Rattle.sad_store.specs.Kept.{reqid_key}
+use Rattle.sad_store.proofs.PlaceLemmas.{newest-none, newest-within}
 use Rattle.sad_store.proofs.find.newest_of.Goals as goal
 
-pub loop-i-preserved : goal.loop-i-preserved
-loop-i-preserved c =
-    let i : ℕ = c.loop-i.i in
-    let j : ℕ = i - 1 in
-    let front = c.loop-i.invariant.front in
-    let some = c.loop-i-test.true in
-    let next : j + 1 ≡ i = omega arith in
-    let within : j < length c.args.halves.now = omega arith in
-    record {
-      front = omega arith;
-      rest = newest-back c.args.reqid (seen c.args.v.now) c.args.halves.now i j false next within c.loop-i.invariant.rest (c.seals_at.ensures ∙ ap Some c.if-seals_at.false);
-    }
+pub returns-in-None : goal.returns-in-None
+returns-in-None c =
+    let last = ap (λ ks. last_place c.args.reqid ks) (sym c.requires.column) ∙ (sym c.last.ensures ∙ c.in-None.is) in
+    sym (newest-none c.args.reqid (seen c.args.v.now) c.args.halves.now last)
 
-pub returns-then-seals_at : goal.returns-then-seals_at
-returns-then-seals_at c =
-    let i : ℕ = c.loop-i.i in
-    let j : ℕ = i - 1 in
-    let front = c.loop-i.invariant.front in
-    let some = c.loop-i-test.true in
-    let next : j + 1 ≡ i = omega arith in
-    let within : j < length c.args.halves.now = omega arith in
-    sym (newest-back c.args.reqid (seen c.args.v.now) c.args.halves.now i j true next within c.loop-i.invariant.rest (c.seals_at.ensures ∙ ap Some c.if-seals_at.true))
+pub newest_up_to-requires-clause-within : goal.newest_up_to-requires-clause-within
+newest_up_to-requires-clause-within c =
+    let last = ap (λ ks. last_place c.args.reqid ks) (sym c.requires.column) ∙ (sym c.last.ensures ∙ c.in-Some.is) in
+    (newest-within c.args.reqid (seen c.args.v.now) c.args.halves.now c.in-Some.last last).0
+
+pub newest_up_to-requires-clause-none_later : goal.newest_up_to-requires-clause-none_later
+newest_up_to-requires-clause-none_later c =
+    let last = ap (λ ks. last_place c.args.reqid ks) (sym c.requires.column) ∙ (sym c.last.ensures ∙ c.in-Some.is) in
+    (newest-within c.args.reqid (seen c.args.v.now) c.args.halves.now c.in-Some.last last).1

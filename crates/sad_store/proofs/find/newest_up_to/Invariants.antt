@@ -1,7 +1,7 @@
 use Rattle.std.proofs.Common.{◌≡◌, ◌≤◌, take, length}
 use Rattle.ip_packet.specs.View.{seen}
 use Rattle.sad_store.specs.Halves.{newest_place}
-use Rattle.sad_store.proofs.find.newest_of.Given as goal
+use Rattle.sad_store.proofs.find.newest_up_to.Given as goal
 
 abbrev pub invariant-loop-i : goal.invariant-loop-i
 invariant-loop-i l = record {
