@@ -3,8 +3,10 @@ ghost use Rattle.std.specs.Prelude.{◌≡◌, ◌++◌, Ok, IfOk, OnOk, OnErr};
 ghost use Rattle.ikeless_tree.specs.declared.order.Order.{Order};
 ghost use Rattle.reply_table.specs.Order.{ask_of};
 ghost use Rattle.reply_table.specs.Reply.{reply};
-ghost use Rattle.gw_requests.specs.Requests.{IsAnswered, handled};
+ghost use Rattle.reply_table.specs.declared.ask.Ask.{Ask};
+ghost use Rattle.gw_requests.specs.Requests.{CanTell, IsAnswered, handled};
 ghost use Rattle.gw_tables.specs.Kept.{session_taken, tree_of};
+ghost use Rattle.gw_tables.specs.Sound.{IsSound};
 ghost use Rattle.gw_packets.specs.Change.{Fits, planned};
 ghost use Rattle.gw_packets.specs.Outbound.{let_in};
 ghost use Rattle.gw_packets.specs.Inbound.{arrive as arrived};
@@ -69,14 +71,17 @@ impl Gateway {
     /// One event: appends what the gateway does. Want of memory changes nothing.
     ///
     /// A request that was read speaks of entries without a fault. One that wasn't has a fault whose path, if any, is UTF-8. The
-    /// response that carries the reply to an order is read as its answer.
+    /// response that carries the reply to an order is read as its answer, and every reply can be written.
     pub fn step(&mut self, e: GwEvent, acts: &mut GwActs) -> Result<(), NoMemory>
         requires { IsEvent (seen e) }
         ensures acts { OnOk result (acts.new ≡ acts.old ++ (stepped self.old.config (seen e.entry) self.old.kept).acts) }
         ensures state { OnOk result (self.new ≡ with_kept (stepped self.old.config (seen e.entry) self.old.kept).kept self.old) }
         ensures err { OnErr result ((self.new ≡ self.old) × (acts.new ≡ acts.old)) }
         ensures response { (o : Order) → seen e.entry ≡ Handle (Ok (ask_of o)) → OnOk result (IsAnswered o (reply (tree_of self.old.kept) (ask_of o))) }
+        ensures tree { (ask : Ask) → seen e.entry ≡ Handle (Ok ask) → OnOk result (CanTell (tree_of self.old.kept)) }
+        ensures sound { IsSound self.old.kept }
     {
+        self.tables.are_sound();
         match e {
             GwEvent::Let(octets) => self.let_in(octets, acts),
             GwEvent::Arrive(octets) => self.arrive(octets, acts),

@@ -3,6 +3,8 @@ use Rattle.std.specs.Prelude.{◌≡◌, List, [], ◌∷◌, ◌++◌, None, Re
 use Rattle.ikeless_tree.specs.Check.{spd_fault, sad_fault}
 use Rattle.ikeless_tree.specs.declared.entry.SpdEntry.{SpdEntry}
 use Rattle.ikeless_tree.specs.declared.order.Order.{Order}
+use Rattle.ikeless_tree.specs.declared.sad.Tree.{Tree}
+use Rattle.ikeless_tree.specs.Typed.{IsTypedTree}
 use Rattle.sad_store.specs.Install.{install_fault}
 use Rattle.reply_table.specs.declared.ask.Ask.{Ask}
 use Rattle.reply_table.specs.declared.ask.Change.{Change}
@@ -12,6 +14,7 @@ use Rattle.rc_request.specs.Asks.{IsAsk}
 use Rattle.rc_request.specs.declared.error.RcError.{RcError}
 use Rattle.rc_answer.specs.Answers.{answer_of}
 use Rattle.rc_resource.specs.Laws.{answer_by}
+use Rattle.rc_resource.specs.Lists.{IsTree}
 use Rattle.rc_resource.specs.Messages.{reply_message}
 use Rattle.rc_resource.specs.Replies.{reply_of, refusal}
 use Rattle.gw_tables.specs.Kept.{Kept, kept_after, tree_of}
@@ -44,6 +47,11 @@ MayChange list (changes.Put e) k = (sad_fault e ≡ None) × (install_fault e k.
 MayChange list (changes.Gone name) k = Unit {0}
 
 -- ---- a request
+
+-- the databases have no fault, and their numbers are those of their types, so every reply about them can be written
+pub record CanTell (t : Tree) : Type 0 where
+  pub sound : IsTree t
+  pub typed : IsTypedTree t
 
 -- the response that carries the reply to an order is read as the answer
 abbrev pub IsAnswered : Order → table.Outcome → Type 0

@@ -5,15 +5,16 @@ ghost use Rattle.sad_store.specs.Install.{install_fault};
 ghost use Rattle.rc_request.specs.Asks.{IsAsk};
 ghost use Rattle.rc_resource.specs.Replies.{refusal};
 ghost use Rattle.ikeless_tree.specs.declared.order.Order.{Order};
+ghost use Rattle.reply_table.specs.declared.ask.Ask.{Ask as Asked};
 ghost use Rattle.reply_table.specs.Order.{ask_of};
 ghost use Rattle.reply_table.specs.Reply.{reply as table_reply};
 ghost use Rattle.gw_tables.specs.Kept.{installed, kept_after, removed, tree_of, with_list};
-ghost use Rattle.gw_requests.specs.Requests.{IsAnswered, IsRequest, MayChange, acts_of_change, answered, handled};
+ghost use Rattle.gw_requests.specs.Requests.{CanTell, IsAnswered, IsRequest, MayChange, acts_of_change, answered, handled};
 ghost use Rattle.gw_requests.specs.declared.act.GwAct.TheVariants as done;
 
 use crate::act::{GwAct, GwActs, copy_change};
 use gw_tables::Tables;
-use ikeless_tree::{Entries, SadEntry};
+use ikeless_tree::{Entries, SadEntry, policies_fit, rows_fit};
 use ikl_base::{Duplicate, ListOf, Name, NoMemory};
 use rc_resource::{Ask, Change, RcError, Reply, apply, error_reply};
 use reply_table::changes_fit;
@@ -169,8 +170,11 @@ fn answer(alloc: Global, tables: &mut Tables, ask: &Ask, acts: &mut GwActs) -> R
     ensures state { OnOk result (tables.new ≡ (answered (table_reply (tree_of tables.old) ask.now) tables.old).kept) }
     ensures err { OnErr result ((tables.new ≡ tables.old) × (acts.new ≡ acts.old)) }
     ensures response { (o : Order) → ask.now ≡ ask_of o → OnOk result (IsAnswered o (table_reply (tree_of tables.old) ask.now)) }
+    ensures tree { OnOk result (CanTell (tree_of tables.old)) }
 {
     let mut tree = tables.tree()?;
+    policies_fit(&tree.spd);
+    rows_fit(&tree.sad);
     let reply = apply(alloc, &mut tree, ask)?;
     changes_fit();
     commit(alloc, tables, tree.spd, reply, acts)
@@ -189,7 +193,7 @@ fn refuse(alloc: Global, e: &RcError, acts: &mut GwActs) -> Result<(), NoMemory>
 /// Does a request at a gateway: appends what it changes, and then its reply. Want of memory changes nothing.
 ///
 /// A request that was read speaks of entries without a fault. One that wasn't has a fault whose path, if any, is UTF-8. The
-/// response that carries the reply to an order is read as its answer.
+/// response that carries the reply to an order is read as its answer, and every reply can be written.
 pub fn handle(
     alloc: Global,
     tables: &mut Tables,
@@ -201,6 +205,7 @@ pub fn handle(
     ensures state { OnOk result (tables.new ≡ (handled request tables.old).kept) }
     ensures err { OnErr result ((tables.new ≡ tables.old) × (acts.new ≡ acts.old)) }
     ensures response { (o : Order) → request ≡ Ok (ask_of o) → OnOk result (IsAnswered o (table_reply (tree_of tables.old) (ask_of o))) }
+    ensures tree { (ask : Asked) → request ≡ Ok ask → OnOk result (CanTell (tree_of tables.old)) }
 {
     match request {
         Ok(ask) => answer(alloc, tables, &ask, acts),

@@ -173,4 +173,4 @@ last-first k (x ∷ xs) e =
     let parts = and-parts (not (is_among x xs)) (are_keys_apart xs) e in
     ap (later k x) (last-first k xs parts.1)
     ∙ first-by k x (position_or_len (is_key k) xs) (length xs) (is_key k x) refl
-      (λ own. sym (any-within (is_key k) xs) ∙ among-key k x xs own (not-true (is_among x xs) parts.0))
+    (λ own. sym (any-within (is_key k) xs) ∙ among-key k x xs own (not-true (is_among x xs) parts.0))

@@ -72,7 +72,13 @@ fn seals_at(halves: &[Half], reqids: &KeyColumn, i: usize, reqid: u64, v: &View)
 }
 
 // The same, where no half after this place seals.
-fn newest_up_to(halves: &[Half], reqids: &KeyColumn, last: usize, reqid: u64, v: &View) -> Option<usize>
+fn newest_up_to(
+    halves: &[Half],
+    reqids: &KeyColumn,
+    last: usize,
+    reqid: u64,
+    v: &View,
+) -> Option<usize>
     requires column { reqids.now.keys.items ≡ map reqid_key (entries_of halves.now) }
     requires length { length reqids.now.keys.items ≡ length halves.now }
     requires within { last < length halves.now }

@@ -6,8 +6,8 @@ ghost use Rattle.sad_store.specs.Halves.{fresh, has_half_named, is_spi_taken, na
 ghost use Rattle.sad_store.specs.Stored.{IsStored};
 
 use crate::change::{hush, mark_at, number, tell_overflow, tick_at, use_at};
-use crate::fault::InstallFault;
 use crate::column::KeyColumn;
+use crate::fault::InstallFault;
 use crate::find::{comes_in, is_taken, newest_of, reqid_of, spi_of, take_out};
 use crate::half::Half;
 use ikeless_tree::{Names, SadEntry};
