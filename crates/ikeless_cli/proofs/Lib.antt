@@ -5,3 +5,4 @@ pub mod Taking
 pub mod Going
 pub mod Ends
 pub mod Whole
+pub mod Drilling

@@ -3,3 +3,4 @@ pub mod Run
 pub mod Reader
 pub mod Words
 pub mod Exit
+pub mod Drill

@@ -1,10 +1,12 @@
 //! The commands: what each reads, does and writes, over any devices.
 #![tactic(auto)]
 
+mod drill;
 mod reader;
 mod replay;
 mod running;
 mod status;
 
+pub use drill::run_drill;
 pub use replay::run_replay;
 pub use status::{exit_number, name_of, reason_of};

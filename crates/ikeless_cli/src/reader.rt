@@ -22,8 +22,8 @@ pub struct Reader {
     pub whole: u64,
 }
 
-// Writes all of a piece.
-fn write_all<K: Sink>(output: &mut K, piece: &[u8]) -> Result<(), Failed>
+/// Writes all of a piece.
+pub fn write_all<K: Sink>(output: &mut K, piece: &[u8]) -> Result<(), Failed>
     ensures ok { OnOk result (Gains (K.written output.old) (K.written output.new) piece.now) }
     ensures err { OnErr result ((part more : List ℕ) × (part ++ more ≡ piece.now) × Gains (K.written output.old) (K.written output.new) part) }
     ensures cause { HasCause (K.faults output.old) (K.faults output.new) result }

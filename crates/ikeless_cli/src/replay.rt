@@ -87,8 +87,8 @@ fn are_replay(words: &[String]) -> bool
     }
 }
 
-// Reads a script to its end, and writes its transcript.
-fn run<S: Source, K: Sink>(alloc: Global, input: &mut S, output: &mut K) -> Status
+/// Reads a script to its end, and writes its transcript.
+pub fn run<S: Source, K: Sink>(alloc: Global, input: &mut S, output: &mut K) -> Status
     ensures ran { (octets written : List ℕ) × Loses (S.left input.old) (S.left input.new) octets
         × Gains (K.written output.old) (K.written output.new) written × Ran result (S.left input.new) octets written }
     ensures source { is_read_fault result ≡ true → HasRisen (S.faults input.old) (S.faults input.new) }

@@ -1,0 +1,3 @@
+pub mod DrawnLemmas
+pub mod Counts
+pub mod Transcripts

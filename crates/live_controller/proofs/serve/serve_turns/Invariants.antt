@@ -1,0 +1,12 @@
+use Rattle.std.proofs.Common.{◌≡◌, true, false, length}
+use Rattle.live_controller.specs.Desks.{Serves}
+use Rattle.live_controller.specs.Endings.{AcceptTells}
+use Rattle.live_controller.proofs.serve.serve_turns.Given as goal
+
+abbrev pub invariant-turns : goal.invariant-turns
+invariant-turns g l = record {
+  serves : Serves l.desk (g.L.Dialer.peers l.dialer) (g.L.Dialer.is_up l.dialer);
+  taken : l.session.is_there ≡ true → g.D.Dock.is_taken l.commands ≡ true;
+  tells : AcceptTells (g.D.Dock.accept_faults l.initial.commands) (g.D.Dock.accept_faults l.commands) (g.D.Dock.accept_failed l.initial.commands) (g.D.Dock.accept_failed l.commands) false;
+  room : length l.buf ≡ 65536;
+}

@@ -1,0 +1,5 @@
+pub mod Standing
+pub mod Streams
+pub mod Links
+pub mod Desks
+pub mod Endings

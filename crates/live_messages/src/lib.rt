@@ -1,0 +1,8 @@
+//! The messages of a session that comes in as octets, one after another.
+#![tactic(auto)]
+
+mod feed;
+mod laws;
+
+pub use feed::{Brought, feed_next};
+pub use laws::readers_hold;

@@ -1,0 +1,80 @@
+// Calls of docks and dialers in one thread.
+ghost use Rattle.std.specs.Prelude.{◌≡◌, ◌<◌, IfOk, true, false};
+
+use ikl_base::Failed;
+use live_devices::{Dialer, Dock};
+
+/// The most octets that a call of a test reads.
+pub const ROOM: usize = 16;
+
+/// Whether a dialer's first peer and a dock have a session now. The first dial connects, and only then the dock can
+/// welcome it.
+pub fn joined<D: Dock, L: Dialer>(dock: &mut D, dialer: &mut L) -> Result<bool, Failed>
+    requires known { 0 < L.peers dialer.old }
+    requires down { L.is_up dialer.old 0 ≡ false }
+    ensures taken { IfOk result (λ both. both ≡ true → D.is_taken dock.new ≡ true) }
+    ensures up { IfOk result (λ both. both ≡ true → L.is_up dialer.new 0 ≡ true) }
+    ensures peers { L.peers dialer.new ≡ L.peers dialer.old }
+{
+    if dialer.dial(0).is_ok() || !dock.accept()? {
+        return Ok(false);
+    }
+    dialer.dial(0)?;
+    Ok(true)
+}
+
+/// What comes next in a dock's session. Where nothing waits, the dock waits in its accept.
+pub fn heard<D: Dock>(dock: &mut D, buf: &mut [u8; ROOM]) -> Result<Option<usize>, Failed>
+    requires { D.is_taken dock.old ≡ true }
+    ensures { D.is_taken dock.new ≡ true }
+{
+    let first = dock.read(buf)?;
+    if first.is_some() {
+        return Ok(first);
+    }
+    dock.accept()?;
+    dock.read(buf)
+}
+
+/// Whether a dial of a dialer's first peer fails.
+pub fn is_refused<L: Dialer>(dialer: &mut L) -> bool
+    requires known { 0 < L.peers dialer.old }
+    requires down { L.is_up dialer.old 0 ≡ false }
+    ensures down { result ≡ true → L.is_up dialer.new 0 ≡ false }
+    ensures peers { L.peers dialer.new ≡ L.peers dialer.old }
+{
+    match dialer.dial(0) {
+        Ok(()) => false,
+        Err(_) => true,
+    }
+}
+
+/// Whether a session waits. A connection may still be on its way when a call that made it returns.
+pub fn accepts<D: Dock>(dock: &mut D) -> Result<bool, Failed>
+    ensures { IfOk result (λ taken. taken ≡ true → D.is_taken dock.new ≡ true) }
+{
+    if dock.accept()? {
+        return Ok(true);
+    }
+    dock.accept()
+}
+
+fn is_idle_turn<D: Dock>(dock: &mut D, buf: &mut [u8; ROOM]) -> Result<bool, Failed>
+    requires { D.is_taken dock.old ≡ true }
+    ensures { D.is_taken dock.new ≡ true }
+{
+    let taken = dock.accept()?;
+    let came = dock.read(buf)?;
+    Ok(!taken && came.is_none())
+}
+
+/// Whether neither a session nor an octet comes in three turns.
+pub fn is_idle<D: Dock>(dock: &mut D, buf: &mut [u8; ROOM]) -> Result<bool, Failed>
+    requires { D.is_taken dock.old ≡ true }
+    ensures { D.is_taken dock.new ≡ true }
+{
+    let first = is_idle_turn(dock, buf)?;
+    let second = is_idle_turn(dock, buf)?;
+    let third = is_idle_turn(dock, buf)?;
+    Ok(first && second && third)
+}

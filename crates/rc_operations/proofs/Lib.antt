@@ -1,0 +1,5 @@
+pub mod Sound
+pub mod Pointers
+pub mod Refusals
+pub mod Requests
+pub mod Telling
