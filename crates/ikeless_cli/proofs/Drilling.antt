@@ -1,7 +1,6 @@
 -- What is counted of the transcript of a script, and the run of the drill's.
-use Rattle.std.proofs.Common.{◌≡◌, ◌≢◌, ◌<◌, ◌≤◌, ℕ, ◌+◌, ◌^◌, Bool, true, false, List, [], ◌∷◌, ◌++◌, length, ◌⊎◌, Option, Some, None, Result, Ok, Err, inl, inr, refl, sym, ap, ◌∙◌, subst, arith, length-append}
+use Rattle.std.proofs.Common.{◌≡◌, ◌<◌, ◌≤◌, ℕ, ◌^◌, true, false, List, [], ◌∷◌, ◌++◌, length, Option, Some, None, Ok, refl, sym, ap, ◌∙◌, subst, arith, length-append}
 use Rattle.std.specs.List.{All}
-use Rattle.ikl_base.specs.Outside.{Gains}
 use Rattle.ikl_base.specs.declared.status.Status.{Status}
 use Rattle.ikl_base.specs.declared.status.Status.TheVariants as statuses
 use Rattle.ikeless_tree.specs.declared.command.Peer.{Peer}
@@ -17,14 +16,12 @@ use Rattle.line_words.specs.Spelling.{are_spelled}
 use Rattle.script_lines.specs.Spelling.{IsActUnder, IsAct}
 use Rattle.script_lines.specs.Text.{text_of}
 use Rattle.acts_spell.specs.Spelled.{IsSpelled, IsSpelledHeader}
-use Rattle.ikl_base.specs.declared.status.LineFault.{LineFault}
 use Rattle.drill_script.specs.declared.tallying.Tally.{Tally}
 use Rattle.drill_script.specs.Script.{script_of}
 use Rattle.drill_script.specs.Tallies.{summary_text, tally_of, tally_of_text}
-use Rattle.ikl_base.specs.Outside.{HasRisen}
-use Rattle.ikeless_cli.specs.Drill.{DrillWrote, IsDrilled, wants_memory}
+use Rattle.ikeless_cli.specs.Drill.{IsDrilled, wants_memory}
 use Rattle.ikeless_cli.specs.Exit.{number_of}
-use Rattle.ikeless_cli.specs.Run.{IsHistoryOf, IsWritten, Ran, is_read_fault, is_write_fault}
+use Rattle.ikeless_cli.specs.Run.{IsHistoryOf, IsWritten, Ran, is_read_fault}
 use Rattle.ikeless_cli.specs.Script.{IsScript, Taken, joined}
 use Rattle.ikeless_cli.proofs.Lines.{AreLinesOf-length}
 
@@ -93,24 +90,3 @@ is-drilled one all acts n script octets rest text written line status exit tally
           ∙ ap (λ (x : ℕ). summary_text n tally x) number
           ∙ ap (λ (x : Tally). summary_text n x (number_of status)) (counted ∙ ap tally_of_text (grew ∙ whole) ∙ taken-counts one all acts octets ran.0 ran.1 ran.2);
     }
-
--- ---- what was written
-
-abbrev pub IsEither : Status → Type 0
-IsEither status = (status ≡ statuses.Done) ⊎ (status ≡ statuses.WriteFault)
-
-pub wrote : (status : Status) (stated : Result ℕ LineFault) (n : ℕ) (line : List ℕ) (old new : Option (List ℕ)) → stated ≡ Ok n → IsDrilled n line → IsEither status
-    → (status ≡ statuses.Done → Gains old new line) → (status ≡ statuses.WriteFault → (part more : List ℕ) × (part ++ more ≡ line) × Gains old new part)
-    → DrillWrote status stated old new
-wrote status stated n line old new is drilled (inl done) gains part =
-    let P : Status → Type 0 = λ s. DrillWrote s stated old new in
-    subst P (sym done) (n, line, is, drilled, gains done)
-wrote status stated n line old new is drilled (inr fault) gains part =
-    let P : Status → Type 0 = λ s. DrillWrote s stated old new in
-    let w = part fault in
-    subst P (sym fault) (n, w.0, w.1, is, subst (IsDrilled n) (sym w.2) drilled, w.3)
-
-pub done-or-memory : (status : Status) (before now : ℕ) → IsEither status → (is_write_fault status ≡ true → HasRisen before now) → (HasRisen before now → ⊥)
-    → (status ≡ statuses.Done) ⊎ (status ≡ statuses.NoMemory)
-done-or-memory status before now (inl done) risen calm = inl done
-done-or-memory status before now (inr fault) risen calm = absurd (calm (risen (ap is_write_fault fault)))

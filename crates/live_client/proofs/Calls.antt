@@ -1,12 +1,10 @@
 -- A whole call: what was written before the first read, and what the count of faults tells.
-use Rattle.std.proofs.Common.{◌≡◌, ◌≢◌, ◌≤◌, ℕ, Bool, true, false, List, inl, inr, Option, Some, None, Result, Ok, Err, IsErr, IsOk, refl, sym, ◌∙◌, subst, arith}
-use Rattle.std.specs.Prelude.{IfSome}
-use Rattle.ikl_base.specs.Outside.{HasRisen}
+use Rattle.std.proofs.Common.{◌≡◌, ℕ, Bool, List, inl, Option, Result, Ok, Err, sym, ◌∙◌, subst}
 use Rattle.live_devices.specs.Dialers.{Becomes, PeerHeld, StaysBut, dialled, hung_up, wrote}
 use Rattle.rc_operations.specs.declared.told.Told.{Told}
 use Rattle.live_client.specs.declared.fault.AskFault.{AskFault}
 use Rattle.live_client.specs.declared.fault.AskFault.TheVariants as faults
-use Rattle.live_client.specs.Asking.{Asks, CallTells, Called, Calls, Conversed, LinkTells, Replied, is_link}
+use Rattle.live_client.specs.Asking.{CallTells, Called, Conversed, LinkTells, Replied, is_link}
 
 pub conversed : (request : List ℕ) (up asked last : Option PeerHeld) (turns : ℕ) (r : Result Told AskFault) → Becomes (wrote request) up asked
     → Replied asked turns last r → Conversed request up turns last r

@@ -1,5 +1,5 @@
 -- One read after another.
-use Rattle.std.proofs.Common.{◌≡◌, ◌⊎◌, ◌+◌, ◌<◌, ◌≤◌, ◌++◌, ℕ, zero, suc, min, List, [], length, take, inl, inr, Option, Some, None, Result, Ok, Err, refl, sym, ◌∙◌, ap, subst, arith, length-take}
+use Rattle.std.proofs.Common.{◌≡◌, ◌⊎◌, ◌+◌, ◌<◌, ◌≤◌, ◌++◌, ℕ, zero, suc, min, List, length, take, inl, inr, Option, Some, None, Result, Ok, Err, refl, sym, ◌∙◌, ap, subst, arith, length-take}
 use Rattle.live_devices.specs.Dialers.{PeerHeld, Reads}
 use Rattle.rc_http.specs.declared.message.Kind.TheVariants.{Response}
 use Rattle.rc_http.specs.Feeding.{Feeding}
@@ -7,8 +7,8 @@ use Rattle.rc_http.specs.Looks.{Looks, Waits}
 use Rattle.rc_operations.specs.declared.told.Told.{Told}
 use Rattle.live_client.specs.declared.fault.AskFault.{AskFault}
 use Rattle.live_client.specs.declared.fault.AskFault.TheVariants as faults
-use Rattle.live_client.specs.Asking.{Answered, Brings, CutOff, Finds, FindsEnd, FindsNone, Gave, Goes, Misread, Replied, begins, goes}
-use Rattle.live_client.specs.Replies.{IsBad, IsTold, IsWaiting, Takes}
+use Rattle.live_client.specs.Asking.{Brings, CutOff, Finds, FindsEnd, Gave, Goes, Misread, Replied, goes}
+use Rattle.live_client.specs.Replies.{IsBad, IsWaiting, Takes}
 
 -- ---- one read
 

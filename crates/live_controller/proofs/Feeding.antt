@@ -1,11 +1,9 @@
 -- What the next octets of a stream bring.
-use Rattle.std.proofs.Common.{◌≡◌, ◌+◌, ◌<◌, ◌≤◌, ◌++◌, nat_le, ℕ, zero, suc, Bool, true, false, List, [], length, take, Option, Some, None, Result, Ok, Err, refl, sym, ◌∙◌, subst, arith, append-nil, if◌then◌else◌}
-use Rattle.std.proofs.lemmas.List.{take-append-le}
+use Rattle.std.proofs.Common.{◌≡◌, ◌+◌, ◌<◌, ◌++◌, nat_le, ℕ, zero, suc, Bool, true, false, List, [], length, take, Option, Some, None, Result, Ok, Err, refl, sym, ◌∙◌, subst, arith, if◌then◌else◌}
 use Rattle.std.proofs.lemmas.Grind.{common_steps}
 use Rattle.ikeless_tree.specs.declared.order.Notice.{Notice}
 use Rattle.ikl_base.specs.declared.fault.OrMemory.{OrMemory}
 use Rattle.ikl_base.specs.declared.fault.OrMemory.TheVariants as failures
-use Rattle.rc_http.specs.declared.feeder.Fed.{Fed}
 use Rattle.rc_http.specs.declared.feeder.Fed.TheVariants.{NoneYet, Whole}
 use Rattle.rc_http.specs.declared.message.HttpFault.{HttpFault}
 use Rattle.rc_http.specs.declared.message.HttpMessage.{HttpMessage}
@@ -23,7 +21,7 @@ use Rattle.notice_lines.proofs.Cuts.{ends_parts}
 use Rattle.notice_lines.proofs.Ends.{end_none, end_some}
 use Rattle.live_controller.specs.declared.messages.Brought.TheVariants as brought
 use Rattle.live_controller.specs.declared.notices.Noted.TheVariants as noted
-use Rattle.live_controller.specs.Streams.{Brings, IsNoted, IsPart, IsWaiting, IsWhole, Notes}
+use Rattle.live_controller.specs.Streams.{Brings, IsPart, IsWaiting, Notes}
 
 -- ---- messages
 
@@ -95,7 +93,7 @@ pub whole_fed : (kind : Kind) (f after : Feeding) (piece : List ℕ) (m : HttpMe
     → FeedGives f.kind f.octets piece after (Ok (Whole m taken)) → Fed_whole kind f after piece m taken
 whole_fed kind f after piece m taken w gives =
     let looks : Looks kind (f.octets ++ piece) (Gives m (length f.octets + taken)) =
-        fed_as kind f (f.octets ++ piece) (Gives m (length f.octets + taken)) w.kind gives.1 in
+    fed_as kind f (f.octets ++ piece) (Gives m (length f.octets + taken)) w.kind gives.1 in
     let K : Kind → Type 0 = λ k. after ≡ fresh k in
     let is : after ≡ fresh kind = subst K w.kind gives.2 in
     let P : Feeding → Type 0 = λ x. x.octets ≡ [] in

@@ -1,5 +1,5 @@
 -- What is ordered at an event has no fault, and is for a known peer.
-use Rattle.std.proofs.Common.{◌≡◌, ℕ, ◌+◌, ◌<◌, ◌≤◌, Bool, true, false, List, [], ◌∷◌, ◌++◌, length, Option, Some, None, inl, refl, sym, subst, if◌then◌else◌}
+use Rattle.std.proofs.Common.{◌≡◌, ℕ, ◌+◌, ◌≤◌, Bool, true, false, List, [], ◌∷◌, ◌++◌, length, Option, Some, None, inl, refl, sym, subst, if◌then◌else◌}
 use Rattle.std.specs.Prelude.{All}
 use Rattle.std.proofs.lemmas.List.Elements.{All-cons, All-nil}
 use Rattle.ikeless_tree.specs.Check.{is_sad_name, sad_fault, spd_fault}
@@ -8,7 +8,6 @@ use Rattle.ikeless_tree.specs.declared.command.Peer.{Peer}
 use Rattle.ikeless_tree.specs.declared.command.Refusal.{Refusal}
 use Rattle.ikeless_tree.specs.declared.entry.SpdEntry.{SpdEntry}
 use Rattle.ikeless_tree.specs.declared.order.Answer.{Answer}
-use Rattle.hist_acts.specs.Past.{after}
 use Rattle.hist_controller.specs.Acts.{Association, ControllerOrder, Read, Policy, PutIn, PutOut, RemoveIn, RemoveOut, PlacedCommand, ControllerAct, Opened, Cut, Answered, Heard, Ordered, Accepted, Refused, ControllerEvent, Told, Opens, Cuts, Answers, Notices}
 use Rattle.hist_controller.specs.Clauses.{ControllerMayActAll, IsControllerPast}
 use Rattle.hist_controller.specs.Entries.{OneFamily, SoundCommands}

@@ -1,5 +1,5 @@
 -- The controller with its links, and the dialer that it works with.
-use Rattle.std.specs.Prelude.{◌≡◌, ℕ, ◌<◌, ◌≤◌, Bool, true, false, length}
+use Rattle.std.specs.Prelude.{◌≡◌, ℕ, ◌<◌, ◌≤◌, Bool, false, length}
 use Rattle.live_controller.specs.declared.desk.Desk.{Desk}
 use Rattle.live_controller.specs.Links.{up_at}
 use Rattle.live_controller.specs.Standing.{IsStanding}

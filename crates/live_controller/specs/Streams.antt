@@ -1,7 +1,6 @@
 -- What comes on the streams of a session, as octets in any pieces.
 use Rattle.std.specs.Prelude.{◌≡◌, ◌+◌, ◌<◌, ◌≤◌, ℕ, List, [], ◌++◌, length, take, None}
 use Rattle.ikeless_tree.specs.declared.order.Notice.{Notice}
-use Rattle.rc_http.specs.declared.message.HttpFault.{HttpFault}
 use Rattle.rc_http.specs.declared.message.HttpMessage.{HttpMessage}
 use Rattle.rc_http.specs.declared.message.Kind.{Kind}
 use Rattle.rc_http.specs.Feeding.{Feeding}

@@ -10,6 +10,8 @@ mod clocks;
 #[cfg(test)]
 mod commands;
 #[cfg(test)]
+mod ends;
+#[cfg(test)]
 mod pairs;
 #[cfg(test)]
 mod ports;

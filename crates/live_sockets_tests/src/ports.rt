@@ -1,23 +1,42 @@
-// Ports of this machine that no socket has.
+// Ports of this machine, and connections to them.
 use std::io;
-use std::net::{Net, SocketAddr, TcpListener, TcpStream, UdpSocket};
+use std::io::{ErrorKind, Read};
+use std::net::{Net, SocketAddr, TcpListener, TcpStream};
+use std::time::Duration;
 
-fn any_port() -> SocketAddr {
-    SocketAddr::from(([127, 0, 0, 1], 0))
+/// This port of this machine; any that no socket has for 0.
+pub fn here(port: u16) -> SocketAddr {
+    SocketAddr::from(([127, 0, 0, 1], port))
 }
 
-/// Two ports for connections.
+/// Two ports for connections that no socket has.
 pub fn two_tcp_ports<R: Net<Listener = TcpListener, Stream = TcpStream>>(
     net: &R,
 ) -> io::Result<(u16, u16)> {
-    let first = net.bind(any_port())?;
-    let second = net.bind(any_port())?;
+    let first = net.bind(here(0))?;
+    let second = net.bind(here(0))?;
     Ok((first.local_addr()?.port(), second.local_addr()?.port()))
 }
 
-/// Two ports for datagrams.
+/// Two ports for datagrams that no socket has.
 pub fn two_udp_ports<R: Net>(net: &R) -> io::Result<(u16, u16)> {
-    let first: UdpSocket = net.bind_udp(any_port())?;
-    let second: UdpSocket = net.bind_udp(any_port())?;
+    let first = net.bind_udp(here(0))?;
+    let second = net.bind_udp(here(0))?;
     Ok((first.local_addr()?.port(), second.local_addr()?.port()))
+}
+
+/// A connection to a port, of which a read waits a tenth of a second.
+pub fn connected<R: Net<Stream = TcpStream>>(net: &R, port: u16) -> io::Result<TcpStream> {
+    let stream = net.connect(here(port))?;
+    stream.set_read_timeout(Some(Duration::from_millis(100)))?;
+    Ok(stream)
+}
+
+/// Whether the other end has closed a stream on which nothing came.
+pub fn is_closed(mut stream: &TcpStream) -> bool {
+    let mut octet = [0u8; 1];
+    match stream.read(&mut octet) {
+        Ok(n) => n == 0,
+        Err(e) => e.kind() != ErrorKind::WouldBlock,
+    }
 }

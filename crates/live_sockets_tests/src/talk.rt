@@ -1,4 +1,4 @@
-// Calls of docks and dialers in one thread.
+// Calls of a dock and a dialer, both in one thread.
 ghost use Rattle.std.specs.Prelude.{◌≡◌, ◌<◌, IfOk, true, false};
 
 use ikl_base::Failed;
@@ -34,6 +34,74 @@ pub fn heard<D: Dock>(dock: &mut D, buf: &mut [u8; ROOM]) -> Result<Option<usize
     }
     dock.accept()?;
     dock.read(buf)
+}
+
+/// Whether what a dialer writes reaches a dock that heard nothing before.
+pub fn hears_order<D: Dock, L: Dialer>(
+    dock: &mut D,
+    dialer: &mut L,
+    buf: &mut [u8; ROOM],
+) -> Result<bool, Failed>
+    requires known { 0 < L.peers dialer.old }
+    requires taken { D.is_taken dock.old ≡ true }
+    requires up { L.is_up dialer.old 0 ≡ true }
+    ensures taken { D.is_taken dock.new ≡ true }
+    ensures up { L.is_up dialer.new 0 ≡ true }
+    ensures peers { L.peers dialer.new ≡ L.peers dialer.old }
+{
+    let before = dock.read(buf)?;
+    dialer.write(0, b"order")?;
+    let came = heard(dock, buf)?;
+    Ok(before.is_none() && came == Some(5) && buf.starts_with(b"order"))
+}
+
+/// Whether what a dock writes on both streams reaches a dialer.
+pub fn hears_answer<D: Dock, L: Dialer>(
+    dock: &mut D,
+    dialer: &mut L,
+    buf: &mut [u8; ROOM],
+) -> Result<bool, Failed>
+    requires known { 0 < L.peers dialer.old }
+    requires taken { D.is_taken dock.old ≡ true }
+    requires up { L.is_up dialer.old 0 ≡ true }
+{
+    dock.write(b"answer")?;
+    dock.write_notice(b"note")?;
+    dock.accept()?;
+    let answer = dialer.read(0, buf)?;
+    let note = dialer.read_notice(0, buf)?;
+    Ok(answer == Some(6) && note == Some(4) && buf.starts_with(b"note"))
+}
+
+/// Whether a dialer reads the reply to what a dock no longer reads, and then the end.
+pub fn hears_last_reply<D: Dock, L: Dialer>(
+    dock: &mut D,
+    dialer: &mut L,
+    buf: &mut [u8; ROOM],
+) -> Result<bool, Failed>
+    requires known { 0 < L.peers dialer.old }
+    requires taken { D.is_taken dock.old ≡ true }
+    requires up { L.is_up dialer.old 0 ≡ true }
+{
+    dialer.write(0, b"unread")?;
+    dock.write(b"400")?;
+    dock.accept()?;
+    dock.accept()?;
+    let reply = dialer.read(0, buf)?;
+    let end = dialer.read(0, buf)?;
+    Ok(reply == Some(3) && end == Some(0))
+}
+
+/// Whether a dialer's session was dropped.
+pub fn is_dropped<L: Dialer>(dialer: &mut L, buf: &mut [u8; ROOM]) -> bool
+    requires known { 0 < L.peers dialer.old }
+    requires up { L.is_up dialer.old 0 ≡ true }
+{
+    match dialer.read(0, buf) {
+        Ok(Some(n)) => n == 0,
+        Ok(None) => false,
+        Err(_) => true,
+    }
 }
 
 /// Whether a dial of a dialer's first peer fails.

@@ -104,7 +104,7 @@ fn with_wires<'a>(command: Command<'a>, alloc: Global) -> Result<Command<'a>, Al
     )
 }
 
-// The words of `gateway`.
+/// The words of `gateway`.
 #[tactic(auto, unfolding(crate::specs::Apps::gateway_app))]
 pub fn gateway_command<'a>(alloc: Global) -> Result<Command<'a>, AllocError>
     ensures { IfOk result (λ c. app_of c ≡ gateway_app) }
@@ -126,7 +126,7 @@ pub fn gateway_command<'a>(alloc: Global) -> Result<Command<'a>, AllocError>
     )
 }
 
-// The words of `controller`.
+/// The words of `controller`.
 #[tactic(auto, unfolding(crate::specs::Apps::controller_app))]
 pub fn controller_command<'a>(alloc: Global) -> Result<Command<'a>, AllocError>
     ensures { IfOk result (λ c. app_of c ≡ controller_app) }
@@ -141,7 +141,7 @@ pub fn controller_command<'a>(alloc: Global) -> Result<Command<'a>, AllocError>
     with_peers(command, alloc)
 }
 
-// The words of `client`.
+/// The words of `client`.
 #[tactic(auto, unfolding(crate::specs::Apps::client_app))]
 pub fn client_command<'a>(alloc: Global) -> Result<Command<'a>, AllocError>
     ensures { IfOk result (λ c. app_of c ≡ client_app) }
@@ -161,7 +161,7 @@ pub fn client_command<'a>(alloc: Global) -> Result<Command<'a>, AllocError>
     with_rest(command, alloc)
 }
 
-// The words of `drill`.
+/// The words of `drill`.
 #[tactic(auto, unfolding(crate::specs::Apps::drill_app))]
 pub fn drill_command<'a>(alloc: Global) -> Result<Command<'a>, AllocError>
     ensures { IfOk result (λ c. app_of c ≡ drill_app) }

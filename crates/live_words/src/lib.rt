@@ -9,6 +9,7 @@ mod gateway;
 mod matching;
 mod values;
 
+pub use apps::{client_command, controller_command, drill_command, gateway_command};
 pub use client::{ClientWords, read_client_words};
 pub use controller::{ControllerWords, Link, Links, read_controller_words};
 pub use drill::read_drill_words;

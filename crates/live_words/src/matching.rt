@@ -12,7 +12,7 @@ use ikl_base::{LineFault, OrMemory};
 #[derive(Clone, Copy, Debug, PartialEq, Eq)]
 pub struct BadWords;
 
-// Whether the first word is the name of a command.
+/// Whether the first word is the name of a command.
 pub fn begin_with(words: &[String], name: &[u8]) -> bool
     ensures { result ≡ begins_with name.now words.now }
 {
@@ -22,7 +22,7 @@ pub fn begin_with(words: &[String], name: &[u8]) -> bool
     }
 }
 
-// Matches the words after the first.
+/// Matches the words after the first.
 pub fn match_words<'a>(
     command: Command<'a>,
     words: &'a [String],
@@ -39,14 +39,14 @@ pub fn match_words<'a>(
     }
 }
 
-// The value of an argument.
+/// The value of an argument.
 pub fn text_at<'a>(matches: &ArgMatches<'a>, name: &str) -> Option<&'a str>
     ensures { option_map (λ s. s.now) result ≡ first_of name.now (rows_of (found_of matches.now)) }
 {
     matches.get_str(name)
 }
 
-// The values of an argument that has several.
+/// The values of an argument that has several.
 pub fn texts_at<'m, 'a>(matches: &'m ArgMatches<'a>, name: &str) -> Option<&'m [&'a str]>
     ensures { option_map (λ s. texts s.now) result ≡ all_of name.now (rows_of (found_of matches.now)) }
 {

@@ -9,7 +9,7 @@ use ikl_base::{Addr, LineFault};
 use line_words::{u16_from, u32_from, u64_from};
 use yang_values::read_address;
 
-// A port from 1 to 65,535.
+/// A port from 1 to 65,535.
 pub fn port(word: &[u8]) -> Result<u16, LineFault>
     ensures { result ≡ port_of word.now }
 {
@@ -38,7 +38,7 @@ fn address(word: &[u8]) -> Result<Addr, LineFault>
     }
 }
 
-// The port that an option says.
+/// The port that an option says.
 pub fn port_named(matches: &ArgMatches<'_>, name: &str) -> Result<u16, LineFault>
     ensures { result ≡ port_at name.now (rows_of (found_of matches.now)) }
 {
@@ -48,7 +48,7 @@ pub fn port_named(matches: &ArgMatches<'_>, name: &str) -> Result<u16, LineFault
     }
 }
 
-// The number from 1 that an option says.
+/// The number from 1 that an option says.
 pub fn count_named(matches: &ArgMatches<'_>, name: &str) -> Result<u64, LineFault>
     ensures { result ≡ count_at name.now (rows_of (found_of matches.now)) }
 {
@@ -58,7 +58,7 @@ pub fn count_named(matches: &ArgMatches<'_>, name: &str) -> Result<u64, LineFaul
     }
 }
 
-// The address that an option says.
+/// The address that an option says.
 pub fn address_named(matches: &ArgMatches<'_>, name: &str) -> Result<Addr, LineFault>
     ensures { result ≡ address_at name.now (rows_of (found_of matches.now)) }
 {
@@ -68,7 +68,7 @@ pub fn address_named(matches: &ArgMatches<'_>, name: &str) -> Result<Addr, LineF
     }
 }
 
-// The number that a word says.
+/// The number that a word says.
 pub fn number_named(matches: &ArgMatches<'_>, name: &str) -> Result<u64, LineFault>
     ensures { result ≡ wide_at name.now (rows_of (found_of matches.now)) }
 {

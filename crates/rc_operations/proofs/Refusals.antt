@@ -25,7 +25,7 @@ use Rattle.text_bounds.proofs.Errors.{Allowed, IsShort, Plain, refusal_writable,
 use Rattle.text_bounds.proofs.Fields.{IsPlainStatus, done_writable}
 use Rattle.text_bounds.proofs.Refusals.{sound_fault}
 use Rattle.text_bounds.proofs.Pointers.{IsGood}
-use Rattle.rc_operations.specs.Operations.{by_method, by_operation, commanded, operation_at, requested, unless_query}
+use Rattle.rc_operations.specs.Operations.{by_operation, commanded, operation_at, requested, unless_query}
 use Rattle.rc_operations.specs.Replies.{command_error, command_reply, IsAnswerable}
 use Rattle.rc_operations.proofs.Pointers.{good_command}
 

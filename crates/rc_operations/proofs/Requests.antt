@@ -1,5 +1,5 @@
 -- The request of a command can be written, and is read as that command.
-use Rattle.std.proofs.Common.{◌≡◌, ◌≤◌, true, IsTrue, codes, length, Ok, refl, ap, arith}
+use Rattle.std.proofs.Common.{◌≡◌, ◌≤◌, IsTrue, codes, length, Ok, refl, ap, arith}
 use Rattle.ikeless_tree.specs.declared.command.Command.{Command}
 use Rattle.ikeless_tree.specs.declared.command.Command.TheVariants as commands
 use Rattle.json_codec.specs.Bodies.{command_of}

@@ -1,6 +1,6 @@
 -- Commands as operations of the module ikl-control of this project (RFC 8040 section 3.6): which request gives which command, or
 -- its first fault: the path, the method, a query, then the body; and the request that is written for a command.
-use Rattle.std.specs.Prelude.{◌≡◌, ℕ, ◌≤◌, List, [], ◌++◌, length, codes, if◌then◌else◌, Option, Some, None, Result, Ok, Err}
+use Rattle.std.specs.Prelude.{ℕ, ◌≤◌, List, ◌++◌, length, codes, if◌then◌else◌, Option, Some, None, Result, Ok, Err}
 use Rattle.std.specs.Str.{bytes_eq}
 use Rattle.serde_json.specs.Written.{compact_text}
 use Rattle.ikeless_tree.specs.declared.command.Command.{Command}

@@ -1,6 +1,6 @@
 -- Replies to commands, of this project: 204 where one is accepted, else the error of its refusal (RFC 8040 section 7); and what a
 -- client is told by them.
-use Rattle.std.specs.Prelude.{◌≡◌, ℕ, ◌==◌, nat_le, List, [], length, if◌then◌else◌, Option, Some, None, Result, Ok, Err, IfSome, IsUtf8}
+use Rattle.std.specs.Prelude.{ℕ, ◌==◌, nat_le, List, length, if◌then◌else◌, Option, Some, None, Result, Ok, Err, IfSome, IsUtf8}
 use Rattle.ikl_base.specs.declared.fault.OrMemory.{OrMemory}
 use Rattle.ikl_base.specs.declared.fault.OrMemory.TheVariants as failures
 use Rattle.ikeless_tree.specs.declared.command.Refusal.{Refusal}

@@ -1,4 +1,4 @@
-use Rattle.std.proofs.Common.{◌≡◌, ◌<◌, ℕ, List, length, refl, sym, ◌∙◌, subst, arith}
+use Rattle.std.proofs.Common.{ℕ, List, refl, sym, ◌∙◌, subst, arith}
 use Rattle.live_client.specs.Asking.{Gave, begins}
 use Rattle.live_client.proofs.Turns.{gave_more, replied_fault, replied_told}
 use Rattle.live_client.proofs.ask.await_reply.Goals as goal

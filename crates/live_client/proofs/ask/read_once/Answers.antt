@@ -1,4 +1,4 @@
-use Rattle.std.proofs.Common.{◌≡◌, ◌≤◌, length, arith}
+use Rattle.std.proofs.Common.{◌≡◌, length, arith}
 use Rattle.live_client.proofs.Turns.{brings_some}
 use Rattle.live_client.proofs.ask.read_once.Goals as goal
 

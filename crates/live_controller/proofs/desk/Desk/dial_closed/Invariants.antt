@@ -1,4 +1,4 @@
-use Rattle.std.proofs.Common.{◌≡◌, length}
+use Rattle.std.proofs.Common.{◌≡◌}
 use Rattle.live_controller.specs.Desks.{Serves}
 use Rattle.live_controller.proofs.desk.Desk.dial_closed.Given as goal
 

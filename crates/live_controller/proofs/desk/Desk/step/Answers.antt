@@ -38,6 +38,6 @@ returns-clause-given c =
       out_name = c.orders_without_fault.ensures.out_name;
     } in
     let are : c.step.new.acts ≡ (stepped c.args.self.now.controller c.args.e).acts =
-        c.in_ok-step.ensures.acts ∙ ap (λ z. z ++ (stepped c.args.self.now.controller c.args.e).acts) c.new-acts.ensures in
+    c.in_ok-step.ensures.acts ∙ ap (λ z. z ++ (stepped c.args.self.now.controller c.args.e).acts) c.new-acts.ensures in
     subst (λ z. All (IsGiven c.args.self.now.peers) z) (sym are)
     (step-given laws faultless c.args.self.now.peers c.args.self.now.controller c.args.e c.requires.desk.standing c.requires.event)
