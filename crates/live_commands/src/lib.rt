@@ -1,0 +1,12 @@
+//! The commands `gateway`, `controller` and `client`: each reads its words, and then serves or asks over any devices.
+#![tactic(auto)]
+
+mod client;
+mod controller;
+mod gateway;
+mod line;
+mod output;
+
+pub use client::run_client;
+pub use controller::run_controller;
+pub use gateway::run_gateway;
