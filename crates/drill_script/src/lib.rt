@@ -13,6 +13,3 @@ pub use laws::lines_count_acts;
 pub use script::write_drill;
 pub use summary::write_summary;
 pub use tallying::{Tally, count_lines};
-
-#[cfg(test)]
-mod tests;

@@ -15,6 +15,3 @@ pub use controller::{ControllerWords, Link, Links, read_controller_words};
 pub use drill::read_drill_words;
 pub use gateway::{GatewayWords, read_gateway_words};
 pub use matching::BadWords;
-
-#[cfg(test)]
-mod tests;

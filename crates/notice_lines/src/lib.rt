@@ -8,8 +8,6 @@ mod laws;
 mod line;
 mod moment;
 mod reader;
-#[cfg(test)]
-mod tests;
 mod write;
 
 pub use fault::NoticeFault;

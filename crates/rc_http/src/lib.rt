@@ -7,8 +7,6 @@ mod head;
 mod laws;
 mod message;
 mod place;
-#[cfg(test)]
-mod tests;
 mod values;
 mod write;
 

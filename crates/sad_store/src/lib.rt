@@ -11,6 +11,3 @@ mod store;
 pub use fault::InstallFault;
 pub use half::Half;
 pub use store::SadStore;
-
-#[cfg(test)]
-mod tests;

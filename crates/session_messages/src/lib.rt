@@ -5,8 +5,6 @@ mod line;
 mod message;
 mod request;
 mod response;
-#[cfg(test)]
-mod tests;
 
 pub use line::{read_line, write_line};
 pub use request::{read_ask, write_order};

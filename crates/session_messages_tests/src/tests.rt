@@ -1,7 +1,7 @@
-use crate::{read_ask, read_line, read_reply, write_line, write_order, write_reply};
 use ikeless_tree::{Answer, Entries, Limits, Notice, Order, Rows, Tree, names_half};
 use ikl_base::{Addr, Name, NoMemory, Octets};
 use rc_resource::{Ask, RcError, apply};
+use session_messages::{read_ask, read_line, read_reply, write_line, write_order, write_reply};
 use std::alloc::Global;
 use std::test::Fail;
 use text_bounds::{orders_can_be_written, replies_can_be_written};

@@ -1,4 +1,4 @@
-use super::*;
+use ikeless_tree::*;
 use ikl_base::{Addr, Duplicate, ListOf, Name, NoMemory, Octets, Prefix};
 use std::alloc::Global;
 use std::test::Fail;

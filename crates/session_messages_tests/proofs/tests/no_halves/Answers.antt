@@ -1,6 +1,6 @@
 use Rattle.rc_resource.proofs.RuleLemmas.{empty_keeps}
 use Rattle.session_messages.proofs.NoEntries.{reply_sent}
-use Rattle.session_messages.proofs.tests.no_halves.Goals as goal
+use Rattle.session_messages_tests.proofs.tests.no_halves.Goals as goal
 
 pub apply-requires : goal.apply-requires
 apply-requires c = empty_keeps _ c.new.ensures c.new-2.ensures

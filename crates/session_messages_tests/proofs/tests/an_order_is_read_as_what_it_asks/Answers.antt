@@ -2,7 +2,7 @@ use Rattle.std.proofs.Common.{[], ◌∷◌}
 use Rattle.ikl_base.specs.declared.address.Addr.{Addr}
 use Rattle.ikl_base.specs.declared.address.Addr.TheVariants.{V4}
 use Rattle.ikeless_tree.specs.declared.order.Order.TheVariants as orders
-use Rattle.session_messages.proofs.tests.an_order_is_read_as_what_it_asks.Goals as goal
+use Rattle.session_messages_tests.proofs.tests.an_order_is_read_as_what_it_asks.Goals as goal
 
 abbrev host : Addr
 host = V4 (192 ∷ 0 ∷ 2 ∷ 1 ∷ [])

@@ -1,4 +1,4 @@
-use super::*;
+use drill_script::*;
 use ikl_base::NoMemory;
 use std::alloc::Global;
 use std::process::Abort;

@@ -1,8 +1,8 @@
 // Words that are a command's and words that aren't, and what they say.
-use super::*;
 use gw_packets::Config;
 use ikeless_tree::{Command, Direction};
 use ikl_base::{Addr, NoMemory, OrMemory};
+use live_words::*;
 use std::alloc::Global;
 use std::process::Abort;
 use std::test::Fail;

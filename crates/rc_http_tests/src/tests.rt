@@ -4,9 +4,9 @@ ghost use Rattle.http_header.specs.HeaderMap.{append};
 ghost use Rattle.http_header.specs.Token.{lowercase};
 ghost use Rattle.rc_http.specs.Written.{IsWritableRequest, IsWritableResponse};
 
-use super::*;
 use http_header::{HeaderMap, HeaderName, HeaderValue};
 use ikl_base::{NoMemory, Octets, OrMemory};
+use rc_http::*;
 use std::alloc::Global;
 use std::process::Abort;
 use std::test::Fail;

@@ -1,10 +1,9 @@
-use crate::fault::InstallFault;
-use crate::store::SadStore;
 use ikeless_tree::{Df, Limits, SadEntry, Selector, check_sad};
 use ikl_base::{Addr, ListOf, Name, NoMemory, Octets, Prefix};
 use ip_packet::view;
 use life_count::LifeEvent;
 use replay_win::Verdict;
+use sad_store::{InstallFault, SadStore};
 use std::alloc::Global;
 use std::test::Fail;
 

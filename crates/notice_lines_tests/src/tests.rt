@@ -1,6 +1,6 @@
-use crate::{Heard, LineReader, NoticeFault, write_notice};
 use ikeless_tree::{Limits, Notice};
 use ikl_base::{Name, NoMemory, Octets, OrMemory};
+use notice_lines::{Heard, LineReader, NoticeFault, write_notice};
 use std::alloc::Global;
 use std::test::Fail;
 

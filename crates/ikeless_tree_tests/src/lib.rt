@@ -1,0 +1,5 @@
+//! Tests of `ikeless_tree`, which stand here so that it is proved once alone: each proof with tests proves the crate anew.
+#![tactic(auto)]
+
+#[cfg(test)]
+mod tests;
