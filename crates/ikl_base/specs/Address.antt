@@ -38,10 +38,12 @@ abbrev pub are_zero_from : ℕ → List ℕ → Bool
 are_zero_from bits [] = true
 are_zero_from bits (x ∷ xs) = (x % 2 ^ (8 - bits) == 0) && are_zero_from (bits - 8) xs
 
+-- an address has no host bits: every bit from this one on, counted from the first, is zero
 abbrev pub is_clear_from : ℕ → Addr → Bool
 is_clear_from bits (V4 octets) = are_zero_from bits octets
 is_clear_from bits (V6 octets) = are_zero_from bits octets
 
+-- the address with its host bits, those from this one on, set to zero
 abbrev pub address_cleared : ℕ → Addr → Addr
 address_cleared bits (V4 octets) = V4 (cleared_from bits octets)
 address_cleared bits (V6 octets) = V6 (cleared_from bits octets)

@@ -27,6 +27,7 @@ pub record ReadGave (old new : Option (List ℕ)) (n : ℕ) (buf : List ℕ) : T
   -- 0 for a buffer that isn't empty is the end
   pub end : n ≡ 0 → 0 < length buf → AtEnd old
 
+-- what a read answers: so many octets into the front of the buffer, or a fault that takes none of what is told
 abbrev pub ReadGives : {E : Type 0} → Option (List ℕ) → Option (List ℕ) → Result ℕ E → List ℕ → Type 0
 ReadGives old new r buf = MatchResult r (λ n. ReadGave old new n buf) (λ _. Loses old new [])
 
@@ -36,6 +37,7 @@ pub record WriteTook (old new : Option (List ℕ)) (n : ℕ) (buf : List ℕ) : 
   pub octets : Gains old new (take n buf)
   pub some : 0 < length buf → 0 < n
 
+-- what a write answers: so many octets taken from the front of the piece, or a fault that may have taken a front of it
 abbrev pub WriteTakes : {E : Type 0} → Option (List ℕ) → Option (List ℕ) → Result ℕ E → List ℕ → Type 0
 WriteTakes old new r buf = MatchResult r (λ n. WriteTook old new n buf) (λ _. (n : ℕ) × (n ≤ length buf) × Gains old new (take n buf))
 

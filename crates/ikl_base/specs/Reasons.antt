@@ -4,10 +4,12 @@ use Rattle.std.specs.Str.{bytes_eq}
 use Rattle.ikl_base.specs.declared.status.LineFault.{LineFault}
 use Rattle.ikl_base.specs.declared.status.LineFault.TheVariants as faults
 
+-- every reason, once
 abbrev pub all_reasons : List LineFault
 all_reasons =
     faults.Long ∷ faults.End ∷ faults.Octet ∷ faults.Header ∷ faults.Word ∷ faults.Count ∷ faults.Gateway ∷ faults.Number ∷ faults.Hex ∷ faults.Prefix ∷ faults.Limits ∷ faults.Entry ∷ faults.Mode ∷ []
 
+-- the word that stands for a reason where a refused line is reported
 abbrev pub reason_text : LineFault → List ℕ
 reason_text faults.Long = codes "long"
 reason_text faults.End = codes "end"

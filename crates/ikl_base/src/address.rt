@@ -1,3 +1,4 @@
+// Addresses of both families and their prefixes.
 ghost use Rattle.std.specs.Prelude.{◌≡◌, ◌-◌, ◌%◌, ◌^◌, ◌<◌, ◌≤◌, ◌↔◌, IsTrue, length, All};
 ghost use Rattle.ikl_base.specs.Address.{bits_of, IsAddress, is_clear_from, cleared_from, address_cleared, is_one_family, AreOneFamily, is_same_address};
 

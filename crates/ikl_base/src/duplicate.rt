@@ -1,3 +1,4 @@
+// Copies that ask for memory.
 ghost use Rattle.std.specs.Prelude.{◌≡◌, IfOk};
 
 use crate::fault::NoMemory;

@@ -1,4 +1,7 @@
 //! Octets, names, addresses, the status of a command and the traits of the outside.
+//!
+//! `specs/Address.antt` has the bits of addresses and prefixes (RFC 4291, RFC 4632), `specs/Outside.antt` what a read gives and a
+//! write takes, and `specs/Answers.antt` what a call answers that may run out of memory.
 #![tactic(auto)]
 
 mod address;

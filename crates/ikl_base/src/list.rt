@@ -1,3 +1,4 @@
+// Lists of values, which grow where there is memory for it.
 ghost use Rattle.std.specs.Prelude.{◌≡◌, List, ℕ, length, slice_get, OnOk, OnErr, ◌++◌, ◌∷◌, []};
 ghost use Rattle.std.specs.Option.{option_copied};
 

@@ -1,3 +1,4 @@
+// Octets and names.
 ghost use Rattle.std.specs.Prelude.{◌≡◌, List, ℕ, IfOk, []};
 
 use crate::duplicate::Duplicate;

@@ -1,3 +1,4 @@
+// How a command ended, and why a line is refused.
 ghost use Rattle.std.specs.Prelude.{◌≡◌, Some, ℕ, List, IfSome};
 ghost use Rattle.ikl_base.specs.Reasons.{reason_text, reason_of};
 
