@@ -19,6 +19,7 @@ use Rattle.yang_values.specs.declared.value.BadValue.TheVariants.{Form, Range}
 abbrev pub dotted : List ℕ → List ℕ
 dotted octets = join_with_byte 46 (map decimal octets)
 
+-- the ASCII dot, which parts the numbers of an IPv4 address
 abbrev pub is_dot : ℕ → Bool
 is_dot c = c == 46
 
@@ -26,6 +27,7 @@ is_dot c = c == 46
 abbrev pub is_quad : List (List ℕ) → Bool
 is_quad parts = length parts == 4 && list_all is_number parts
 
+-- the decimal digits write a number up to 255
 abbrev pub fits_octet : List ℕ → Bool
 fits_octet t = nat_le (digits_value 10 t) 255
 
@@ -44,6 +46,7 @@ groups_of [] = []
 groups_of (high ∷ []) = high ∷ []
 groups_of (high ∷ low ∷ rest) = (high * 256 + low) ∷ groups_of rest
 
+-- each group of 16 bits as two octets, the higher first
 abbrev pub octets_of : List ℕ → List ℕ
 octets_of [] = []
 octets_of (group ∷ rest) = (group / 256) ∷ (group % 256) ∷ octets_of rest
@@ -132,10 +135,12 @@ unfoldable pub address_text : Addr → List ℕ
 address_text (V4 octets) = dotted octets
 address_text (V6 octets) = groups_text (groups_of octets)
 
+-- the IPv4 address of these octets, if the text had them
 abbrev pub v4_of : Result (List ℕ) BadValue → Result Addr BadValue
 v4_of (Ok octets) = Ok (V4 octets)
 v4_of (Err e) = Err e
 
+-- the IPv6 address of eight groups; a text that has no such groups is misspelt
 abbrev pub v6_of : Option (List ℕ) → Result Addr BadValue
 v6_of (Some groups) = Ok (V6 (octets_of groups))
 v6_of None = Err Form

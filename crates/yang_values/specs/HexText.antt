@@ -41,6 +41,7 @@ hex_colons octets = join_with_byte 58 (map pair_text octets)
 abbrev pub pair_of : List ℕ → Option ℕ
 pair_of t = hex_number 2 2 t
 
+-- the ASCII colon, which parts the pairs of a `hex-string` and the groups of an IPv6 address
 abbrev pub is_colon : ℕ → Bool
 is_colon c = c == 58
 

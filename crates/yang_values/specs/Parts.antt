@@ -14,6 +14,7 @@ parts_in is_mark None = []
 parts_in is_mark (Some t) = slice_split is_mark t
 
 infixl 10 ◌>>=◌
+-- goes on with the value, where there is one
 abbrev pub ◌>>=◌ : {A B : Type 0} → Option A → (A → Option B) → Option B
 o >>= f = option_and_then f o
 

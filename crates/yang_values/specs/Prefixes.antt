@@ -20,6 +20,7 @@ use Rattle.yang_values.specs.declared.value.BadValue.TheVariants.{Form, Range}
 unfoldable pub prefix_text : Prefix → List ℕ
 prefix_text p = address_text p.addr ++ 47 ∷ decimal p.len
 
+-- the ASCII slash, which stands before a length
 abbrev pub is_slash : ℕ → Bool
 is_slash c = c == 47
 
@@ -53,6 +54,7 @@ prefix_from (Ok a) t = with_length a t
 prefix_from (Err Form) t = Err Form
 prefix_from (Err Range) t = if is_number t then Err Range else Err Form
 
+-- the prefix of the texts before and after the first slash; a text without a slash is misspelt
 abbrev pub prefix_of_cut : Option (List ℕ × List ℕ) → Result Prefix BadValue
 prefix_of_cut None = Err Form
 prefix_of_cut (Some p) = prefix_from (address_of p.0) p.1

@@ -1,4 +1,6 @@
 //! Values of YANG as text (RFC 7951, RFC 6991): numbers, hex, addresses, prefixes and ports.
+//!
+//! `specs/Numbers.antt`, `HexText`, `Addresses` and `Prefixes` have the definitions: which spellings are read, and the canonical text.
 #![tactic(auto)]
 
 mod address;

@@ -1,3 +1,4 @@
+// Texts of values and their faults, in tables.
 use super::*;
 use ikl_base::{NoMemory, Octets, OrMemory};
 use std::alloc::Global;
