@@ -4,6 +4,8 @@
 //!
 //! The crate has definitions and laws, and no code that runs: each function is a law, stated by its
 //! contract.
+//!
+//! `specs/Poly.antt` has the definitions, `specs/Laws.antt` what the laws say.
 #![tactic(auto)]
 
 ghost use Rattle.gf_poly.specs.Laws.{HornerLaw, ProductsFit, RemaindersFit, RemaindersDivide, ProductsAssociate, ProductsCommute, ProductsDistribute, OneIsUnit};
