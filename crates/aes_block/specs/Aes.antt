@@ -14,6 +14,7 @@ unfoldable pub inverse_below : ℕ → ℕ → ℕ
 inverse_below zero b = 0
 inverse_below (suc n) b = let rest = inverse_below n b in cond (times b n == 1) n rest
 
+-- the multiplicative inverse of an octet in GF(2^8); that of 0 is 0 (FIPS 197 section 4.2)
 unfoldable pub inverse : ℕ → ℕ
 inverse b = inverse_below 256 b
 
@@ -22,6 +23,7 @@ abbrev pub affine_bit : ℕ → ℕ → ℕ
 affine_bit b i = (bit_at b i + bit_at b ((i + 4) % 8) + bit_at b ((i + 5) % 8) + bit_at b ((i + 6) % 8)
     + bit_at b ((i + 7) % 8) + bit_at 0x63 i) % 2
 
+-- the S-box: the inverse of an octet under the affine map (section 5.1.1)
 unfoldable pub s_box : ℕ → ℕ
 s_box b = from_bits (affine_bit (inverse b)) 8
 
@@ -37,9 +39,11 @@ block f = map (λ k. f (k % 4) (k / 4)) (range_with_len 0 16)
 abbrev pub square : List ℕ → List ℕ
 square s = block (λ r c. slice_index (to_be_bytes w32 (slice_index s c)) r)
 
+-- SubBytes: the S-box on each octet of a block (section 5.1.1)
 abbrev pub sub_octets : List ℕ → List ℕ
 sub_octets b = block (λ r c. s_box (octet b r c))
 
+-- ShiftRows: row r is rotated left by r places (section 5.1.2)
 abbrev pub shift_rows : List ℕ → List ℕ
 shift_rows b = block (λ r c. octet b r ((c + r) % 4))
 
@@ -57,12 +61,15 @@ mix_word w = map (λ r.
 abbrev pub contribution : ℕ → ℕ → List ℕ
 contribution k x = map (λ r. times (slice_index (matrix r) k) (s_box x)) (range_with_len 0 4)
 
+-- the octets of column c, from row 0 to row 3
 abbrev pub column : List ℕ → ℕ → List ℕ
 column b c = map (λ r. octet b r c) (range_with_len 0 4)
 
+-- MixColumns: each column is multiplied by the matrix (section 5.1.3)
 abbrev pub mix_columns : List ℕ → List ℕ
 mix_columns b = block (λ r c. slice_index (mix_word (column b c)) r)
 
+-- the sum of two words, octet by octet
 abbrev pub add_words : List ℕ → List ℕ → List ℕ
 add_words v w = map (λ k. bit_xor (slice_index v k) (slice_index w k)) (range_with_len 0 4)
 
@@ -81,12 +88,15 @@ cipher ws n b = add_key ws n (shift_rows (sub_octets (after_rounds ws b (n - 1))
 
 -- ---- the key schedule
 
+-- SubWord: the S-box on each octet of a word (section 5.2)
 abbrev pub sub_word : List ℕ → List ℕ
 sub_word w = map (λ k. s_box (slice_index w k)) (range_with_len 0 4)
 
+-- RotWord: the octets of a word rotated left by one place (section 5.2)
 abbrev pub rotate_word : List ℕ → List ℕ
 rotate_word w = map (λ k. slice_index w ((k + 1) % 4)) (range_with_len 0 4)
 
+-- x to the power i, the first octet of a word of Rcon; i counts from 0 (section 5.2)
 abbrev pub round_constant : ℕ → ℕ
 round_constant i = power 8 0x1b 2 i
 
@@ -100,9 +110,11 @@ turned n i t = cond (i % n == 0)
 abbrev pub next_word : ℕ → List (List ℕ) → ℕ → List ℕ
 next_word n ws i = add_words (slice_index_or ws (i - n) []) (turned n i (slice_index_or ws (i - 1) []))
 
+-- word i of a key: its octets 4 i to 4 i + 3
 abbrev pub key_word : List ℕ → ℕ → List ℕ
 key_word k i = map (λ j. slice_index k (4 * i + j)) (range_with_len 0 4)
 
+-- the first words of the schedule are those of the key
 unfoldable pub first_words : List ℕ → ℕ → List (List ℕ)
 first_words k zero = []
 first_words k (suc i) = first_words k i ++ key_word k i ∷ []

@@ -1,4 +1,6 @@
 //! The AES block cipher (FIPS 197), with keys of 16 and 32 octets.
+//!
+//! `specs/Aes.antt` has the definition, over lists of octets: `aes`.
 #![tactic(auto)]
 
 ghost use Rattle.std.specs.Prelude.{◌≡◌, ℕ, ◌<◌};
