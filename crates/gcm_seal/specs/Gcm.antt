@@ -26,12 +26,15 @@ unfoldable pub blocks : List ℕ → ℕ → List ℕ
 blocks xs zero = []
 blocks xs (suc n) = blocks xs n ++ block_at xs n ∷ []
 
+-- all blocks of the octets, the last filled up with zeros; no octets have no block
 abbrev pub all_blocks : List ℕ → List ℕ
 all_blocks xs = blocks xs ((length xs + 15) / 16)
 
+-- the last block that is hashed: how many bits the additional data and the sealed text have, each in 64 bits (section 7.1)
 abbrev pub lengths : List ℕ → List ℕ → List ℕ
 lengths aad c = to_be_bytes w64 (8 * length aad) ++ to_be_bytes w64 (8 * length c)
 
+-- GHASH under the key h: over the additional data, the sealed text, and the block of their lengths (section 6.4)
 unfoldable pub ghash : ℕ → List ℕ → List ℕ → ℕ
 ghash h aad c = power_sum 128 0x87 h (all_blocks aad ++ all_blocks c ++ block_at (lengths aad c) 0 ∷ [])
 
@@ -43,6 +46,7 @@ counter nonce i = nonce ++ to_be_bytes w32 (1 + i)
 abbrev pub stream : (List ℕ → List ℕ) → List ℕ → ℕ → ℕ
 stream e nonce k = slice_index (e (counter nonce (k / 16 + 1))) (k % 16)
 
+-- GCTR from J 1 on: the sum of each octet and that of the stream at its place, which seals a text and opens it (section 6.5)
 unfoldable pub sealed : (List ℕ → List ℕ) → List ℕ → List ℕ → List ℕ
 sealed e nonce p = map (λ k. bit_xor (slice_index p k) (stream e nonce k)) (range_with_len 0 (length p))
 
@@ -54,6 +58,7 @@ add_blocks a b = map (λ j. bit_xor (slice_index a j) (slice_index b j)) (range_
 unfoldable pub hash_key : (List ℕ → List ℕ) → ℕ
 hash_key e = element (slice_index (e (map (λ _. 0) (range_with_len 0 16))))
 
+-- the authentication tag of 16 octets of a sealed text and its additional data (section 7.1)
 unfoldable pub tag_of : (List ℕ → List ℕ) → List ℕ → List ℕ → List ℕ → List ℕ
 tag_of e nonce aad c = add_blocks (e (counter nonce 0)) (block_of (ghash (hash_key e) aad c))
 
