@@ -41,6 +41,7 @@ NoInner x = (next : ℕ) (p : List ℕ) → ¬ Inner x next p
 
 -- ---- the whole (RFC 4303, section 2)
 
+-- how many octets ESP of a packet of n octets has: SPI, number, IV, text with the least padding, and an ICV of 16 octets
 abbrev pub esp_len : ℕ → ℕ
 esp_len n = 34 + n + pad_len n
 
@@ -56,18 +57,23 @@ esp k s next p =
 
 -- ---- the fields of ESP octets b
 
+-- the SPI: the first four octets
 abbrev pub spi_of : List ℕ → ℕ
 spi_of b = from_be_bytes w32 (take 4 b)
 
+-- the sequence number: the four octets behind the SPI
 abbrev pub seq_of : List ℕ → ℕ
 seq_of b = from_be_bytes w32 (slice_range b 4 8)
 
+-- the IV: the eight octets behind the sequence number
 abbrev pub iv_of : List ℕ → List ℕ
 iv_of b = slice_range b 8 16
 
+-- what stands between the IV and the ICV: the sealed text, or the opened one once it was opened in place
 abbrev pub text_of : List ℕ → List ℕ
 text_of b = slice_range b 16 (length b - 16)
 
+-- the ICV: the last 16 octets
 abbrev pub icv_of : List ℕ → List ℕ
 icv_of b = drop (length b - 16) b
 
@@ -85,5 +91,6 @@ with_text b x = take 16 b ++ x ++ icv_of b
 abbrev pub EspOpensWith : Keying → List ℕ → List ℕ → List ℕ → Type 0
 EspOpensWith k aad b x = (34 ≤ length b) × Opens k.cipher (k.salt ++ iv_of b) aad (text_of b) (icv_of b) x
 
+-- b opens to x: its ICV is right under the SPI and the number that stand in it
 abbrev pub EspOpens : Keying → List ℕ → List ℕ → Type 0
 EspOpens k b x = EspOpensWith k (aad_of b) b x

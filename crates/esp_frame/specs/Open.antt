@@ -17,6 +17,7 @@ opened k b =
     if nat_le 34 (length b) && bytes_eq (icv_of b) (tag_of k.cipher (k.salt ++ iv_of b) (aad_of b) (text_of b))
     then Some (sealed k.cipher (k.salt ++ iv_of b) (text_of b)) else None
 
+-- the packet in an opened text with its next header, which says what it is: 4 for IPv4, 41 for IPv6, 59 for a dummy
 pub record InnerPacket : Type 0 where
   pub next : ℕ
   pub octets : List ℕ
@@ -31,10 +32,12 @@ inner_packet x =
 
 -- ---- `open`
 
+-- the answer for an opened text: where its packet stands, from octet 16 on, or that the padding is wrong
 abbrev pub by_packet : Option InnerPacket → Result Opened OpenFault
 by_packet None = Err Padding
 by_packet (Some p) = Ok (record { next = p.next; start = 16; end = 16 + length p.octets })
 
+-- the answer where b opens to this text, or to none since it is too short or its ICV is wrong
 abbrev pub by_text : List ℕ → Option (List ℕ) → Result Opened OpenFault
 by_text b None = Err (if nat_lt (length b) 34 then Short else Tag)
 by_text b (Some x) = by_packet (inner_packet x)
@@ -43,6 +46,7 @@ by_text b (Some x) = by_packet (inner_packet x)
 abbrev pub open_result : Keying → List ℕ → Result Opened OpenFault
 open_result k b = by_text b (opened k b)
 
+-- the octets with the opened text in the place of the sealed one, or as they came where they don't open
 abbrev pub left_by : List ℕ → Option (List ℕ) → List ℕ
 left_by b None = b
 left_by b (Some x) = with_text b x
