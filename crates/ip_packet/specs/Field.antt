@@ -20,9 +20,11 @@ number_at o i = 256 * slice_index o i + slice_index o (i + 1)
 abbrev pub with_number : List ℕ → ℕ → ℕ → List ℕ
 with_number o i n = slice_set (slice_set o i (n / 256)) (i + 1) (n % 256)
 
+-- the IPv4 address in the four octets from this one on
 abbrev pub address_4_at : List ℕ → ℕ → Addr
 address_4_at o i = V4 (take 4 (drop i o))
 
+-- the IPv6 address in the 16 octets from this one on
 abbrev pub address_6_at : List ℕ → ℕ → Addr
 address_6_at o i = V6 (take 16 (drop i o))
 

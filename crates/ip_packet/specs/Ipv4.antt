@@ -20,6 +20,7 @@ words_sum (a ∷ b ∷ o) = 256 * a + b + words_sum o
 abbrev pub add_back : ℕ → ℕ → ℕ
 add_back a b = (a + b) % 65536 + (a + b) / 65536
 
+-- the ones' complement sum of words of two octets; a last single octet is the higher one of its word
 abbrev pub ones_sum : List ℕ → ℕ
 ones_sum [] = 0
 ones_sum (a ∷ []) = add_back (256 * a) 0

@@ -24,9 +24,11 @@ header_4 o addresses sum =
     69 ∷ 0 ∷ ((o.payload + 20) / 256) ∷ ((o.payload + 20) % 256) ∷ (o.id / 256) ∷ (o.id % 256) ∷ (if o.df then 64 else 0) ∷ 0
     ∷ 64 ∷ 50 ∷ (sum / 256) ∷ (sum % 256) ∷ addresses
 
+-- the 40 octets of an IPv6 header before the payload
 abbrev pub header_6 : Outer → List ℕ → List ℕ
 header_6 o addresses = 96 ∷ 0 ∷ 0 ∷ 0 ∷ (o.payload / 256) ∷ (o.payload % 256) ∷ 50 ∷ 64 ∷ addresses
 
+-- the header from a source to a destination of one family, an IPv4 one with its checksum; two families have none
 abbrev pub header_between : Outer → Addr → Addr → List ℕ
 header_between o (V4 src) (V4 dst) = header_4 o (src ++ dst) (sum_for (header_4 o (src ++ dst) 0))
 header_between o (V4 src) (V6 dst) = []

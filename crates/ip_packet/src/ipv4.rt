@@ -1,3 +1,4 @@
+// IPv4 packets, read, and the sums of their headers.
 ghost use Rattle.std.specs.Prelude.{◌≡◌, ◌≤◌, length, MatchResult, IfOk, Ok, Err};
 ghost use Rattle.ip_packet.specs.Ipv4.{words_sum, sum_for};
 ghost use Rattle.ip_packet.specs.View.{seen, view_of_4};

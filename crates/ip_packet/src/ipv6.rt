@@ -1,3 +1,4 @@
+// IPv6 packets, read behind their extension headers.
 ghost use Rattle.std.specs.Prelude.{◌≡◌, ◌≤◌, length, MatchResult, IfOk, Ok, Err, IsTrue};
 ghost use Rattle.ip_packet.specs.Ipv6.{is_extension, upper_of};
 ghost use Rattle.ip_packet.specs.View.{seen, view_of_6};

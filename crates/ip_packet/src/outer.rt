@@ -1,3 +1,4 @@
+// The header before sealed octets.
 ghost use Rattle.std.specs.Prelude.{◌≡◌, ◌+◌, ◌^◌, ◌<◌, ◌≤◌, ◌++◌, ℕ, List, length, drop, IsTrue, Ok, if◌then◌else◌};
 ghost use Rattle.ip_packet.specs.View.{view_of};
 ghost use Rattle.ip_packet.specs.Field.{number_at};

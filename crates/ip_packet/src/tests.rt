@@ -1,3 +1,4 @@
+// Packets of both versions that are read, and octets that are none.
 use crate::laws::{extension_headers, header_sums, sealed_view, ttl_keeps_view};
 use crate::outer::{Outer, header_len, write_outer};
 use crate::packet::NotPacket;

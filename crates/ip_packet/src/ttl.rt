@@ -1,3 +1,4 @@
+// Another time to live or hop limit.
 ghost use Rattle.std.specs.Prelude.{◌≡◌, ◌≤◌, length};
 ghost use Rattle.ip_packet.specs.Ipv4.{header_length};
 ghost use Rattle.ip_packet.specs.Ttl.{with_ttl, with_ttl_4};
