@@ -10,6 +10,7 @@ is_bit_set words k = bit_at (slice_index words (k / 64 % length words)) (k % 64)
 abbrev pub is_one_word : ℕ → ℕ → ℕ → Bool
 is_one_word n a b = a / 64 % n == b / 64 % n
 
+-- among so many words two numbers have one bit, though they may differ by a multiple of all the bits
 abbrev pub is_one_bit : ℕ → ℕ → ℕ → Bool
 is_one_bit n a b = is_one_word n a b && (a % 64 == b % 64)
 

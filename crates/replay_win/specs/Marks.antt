@@ -4,6 +4,7 @@ use Rattle.std.specs.List.{list_any, range_with_len}
 use Rattle.replay_win.specs.declared.verdict.Verdict.{Verdict}
 use Rattle.replay_win.specs.declared.verdict.Verdict.TheVariants.{Fresh, Old, Seen, Zero}
 
+-- the number is one of these
 abbrev pub is_among : ℕ → List ℕ → Bool
 is_among s xs = list_any (λ k. s == k) xs
 
@@ -34,6 +35,7 @@ pub record Marks : Type 0 where
 abbrev pub spanned : ℕ → ℕ → (ℕ → Bool) → List ℕ
 spanned size top test = filter test (range_with_len (top + 1 - size) size)
 
+-- a window of this size before any number: nothing is marked
 abbrev pub no_marks : ℕ → Marks
 no_marks size = record { size = size; top = 0; inside = [] }
 

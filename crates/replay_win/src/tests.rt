@@ -1,3 +1,4 @@
+// Numbers that are marked, and the verdicts on others.
 use crate::laws::verdicts;
 use crate::verdict::Verdict;
 use crate::window::Window;

@@ -1,3 +1,4 @@
+// The window as a bitmap.
 ghost use Rattle.std.specs.Prelude.{◌≡◌, ◌≤◌, IfOk};
 
 use crate::bitmap::{holds, mark_bit};
