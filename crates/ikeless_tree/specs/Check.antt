@@ -15,6 +15,7 @@ use Rattle.ikeless_tree.specs.declared.reply.Feature.TheVariants as features
 abbrev pub is_word_octet : ℕ → Bool
 is_word_octet b = (nat_le 65 b && nat_le b 90) || (nat_le 97 b && nat_le b 122) || (nat_le 48 b && nat_le b 57) || (b == 46) || (b == 95) || (b == 45)
 
+-- letters, digits, dot, underscore, dash and slash
 abbrev pub is_path_octet : ℕ → Bool
 is_path_octet b = is_word_octet b || (b == 47)
 
@@ -26,6 +27,7 @@ is_spd_name name = nat_le 1 (length name) && nat_le (length name) 64 && list_all
 abbrev pub is_serial : List ℕ → Bool
 is_serial text = nat_le 1 (length text) && nat_le (length text) 60 && list_all is_word_octet text
 
+-- the name is this direction with its slash, and then a serial
 abbrev pub has_front : List ℕ → List ℕ → Bool
 has_front front name = nat_le (length front) (length name) && (bytes_eq (take (length front) name) front && is_serial (drop (length front) name))
 
@@ -33,9 +35,11 @@ has_front front name = nat_le (length front) (length name) && (bytes_eq (take (l
 abbrev pub is_sad_name : List ℕ → Bool
 is_sad_name name = has_front (codes "in/") name || has_front (codes "out/") name
 
+-- the size of an anti-replay window in numbers: 32 to 4,096
 abbrev pub is_window : ℕ → Bool
 is_window size = nat_le 32 size && nat_le size 4096
 
+-- a range of ports that starts above its end
 abbrev pub is_empty_range : Range → Bool
 is_empty_range r = nat_lt r.end r.start
 
@@ -47,6 +51,7 @@ has_empty_range s = list_any is_empty_range s.local_ports || list_any is_empty_r
 abbrev pub has_many_ranges : Selector → Bool
 has_many_ranges s = nat_lt 8 (length s.local_ports) || nat_lt 8 (length s.remote_ports)
 
+-- the policy has this name
 abbrev pub is_named : List ℕ → SpdEntry → Bool
 is_named name e = bytes_eq e.name name
 
@@ -60,6 +65,7 @@ entry_fault before e =
     else if has_many_ranges e.selector then Some (faults.Unsupported features.Ports)
     else None
 
+-- the first fault, else that of the rest
 abbrev pub first_of : Option TreeFault → Option TreeFault → Option TreeFault
 first_of None rest = rest
 first_of (Some fault) rest = Some fault
@@ -73,6 +79,7 @@ entries_fault before (e ∷ es) = first_of (entry_fault before e) (entries_fault
 unfoldable pub spd_fault : List SpdEntry → Option TreeFault
 spd_fault list = if nat_lt 256 (length list) then Some faults.TooMany else entries_fault [] list
 
+-- lower case letters and digits
 abbrev pub is_gateway_octet : ℕ → Bool
 is_gateway_octet b = (nat_le 97 b && nat_le b 122) || (nat_le 48 b && nat_le b 57)
 

@@ -12,6 +12,7 @@ is_inbound name = bytes_eq (take 3 name) (codes "in/")
 abbrev pub in_half : List ℕ → List ℕ
 in_half serial = codes "in/" ++ serial
 
+-- the name of the outbound half of this serial
 abbrev pub out_half : List ℕ → List ℕ
 out_half serial = codes "out/" ++ serial
 
@@ -23,6 +24,7 @@ other_half name = if is_inbound name then out_half (drop 3 name) else in_half (d
 unfoldable pub in_name : ℕ → List ℕ
 in_name n = in_half (decimal n)
 
+-- the name of the outbound half of the association with this number
 unfoldable pub out_name : ℕ → List ℕ
 out_name n = out_half (decimal n)
 

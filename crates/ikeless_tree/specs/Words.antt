@@ -28,6 +28,7 @@ all_tags =
     tags.MalformedMessage ∷ tags.OperationNotSupported ∷ tags.TooBig ∷ tags.InvalidValue ∷ tags.UnknownElement
     ∷ tags.BadElement ∷ tags.ResourceDenied ∷ []
 
+-- the word of an error tag, as RFC 8040 section 7 spells it
 abbrev pub tag_text : Tag → List ℕ
 tag_text tags.MalformedMessage = codes "malformed-message"
 tag_text tags.OperationNotSupported = codes "operation-not-supported"
@@ -47,6 +48,7 @@ all_refusals =
     refusals.UnknownGateway ∷ refusals.SameGateway ∷ refusals.TunnelExists ∷ refusals.NoTunnel ∷ refusals.TunnelLimit
     ∷ refusals.KeySeen ∷ refusals.KeyLength ∷ refusals.KeyLimit ∷ []
 
+-- the word of the reason why a command is refused, as transcripts and error-app-tag have it
 abbrev pub refusal_text : Refusal → List ℕ
 refusal_text refusals.UnknownGateway = codes "unknown-gateway"
 refusal_text refusals.SameGateway = codes "same-gateway"
@@ -70,6 +72,7 @@ all_apps =
     ∷ apps.Refused refusals.TunnelExists ∷ apps.Refused refusals.NoTunnel ∷ apps.Refused refusals.TunnelLimit
     ∷ apps.Refused refusals.KeySeen ∷ apps.Refused refusals.KeyLength ∷ apps.Refused refusals.KeyLimit ∷ []
 
+-- the word of a fault, as error-app-tag has it (RFC 8040 section 7.1)
 abbrev pub app_text : App → List ℕ
 app_text apps.Form = codes "form"
 app_text apps.Chunked = codes "chunked"
@@ -101,6 +104,7 @@ all_drops =
     ∷ drops.NoSa ∷ drops.SeqLimit ∷ drops.Short ∷ drops.BadSpi ∷ drops.Zero ∷ drops.Old ∷ drops.Seen ∷ drops.Auth
     ∷ drops.Padding ∷ drops.Dummy ∷ drops.Inner ∷ drops.Selector ∷ []
 
+-- the word of the reason for a drop, as a transcript has it
 abbrev pub drop_text : DropWhy → List ℕ
 drop_text drops.Malformed = codes "malformed"
 drop_text drops.Fragment = codes "fragment"
@@ -130,6 +134,7 @@ abbrev pub all_ends : List GoneWhy
 all_ends =
     ends.Removed ∷ ends.Hard ∷ []
 
+-- the word of the reason why a half is gone, as a transcript has it
 abbrev pub gone_text : GoneWhy → List ℕ
 gone_text ends.Removed = codes "removed"
 gone_text ends.Hard = codes "hard"
@@ -143,6 +148,7 @@ abbrev pub all_actions : List Action
 all_actions =
     actions.Protect ∷ actions.Bypass ∷ actions.Discard ∷ []
 
+-- the word of a policy's action
 abbrev pub action_text : Action → List ℕ
 action_text actions.Protect = codes "protect"
 action_text actions.Bypass = codes "bypass"
@@ -157,6 +163,7 @@ abbrev pub all_directions : List Direction
 all_directions =
     directions.In ∷ directions.Out ∷ []
 
+-- the word of a direction in a line: from inside is `out`, from outside `in`
 abbrev pub direction_text : Direction → List ℕ
 direction_text directions.In = codes "in"
 direction_text directions.Out = codes "out"
@@ -179,6 +186,7 @@ abbrev pub all_dfs : List Df
 all_dfs =
     bits.Clear ∷ bits.Set ∷ bits.Copy ∷ []
 
+-- the word of the rule for the outer DF bit
 abbrev pub df_text : Df → List ℕ
 df_text bits.Clear = codes "clear"
 df_text bits.Set = codes "set"
@@ -193,6 +201,7 @@ abbrev pub all_lanes : List Lane
 all_lanes =
     lanes.Down ∷ lanes.Up ∷ lanes.Note ∷ []
 
+-- the word of a lane: requests go down, answers up, notices have their own
 abbrev pub lane_text : Lane → List ℕ
 lane_text lanes.Down = codes "down"
 lane_text lanes.Up = codes "up"

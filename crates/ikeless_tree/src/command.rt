@@ -1,3 +1,4 @@
+// Commands to the controller, and why it refuses one.
 use crate::entry::Entries;
 use crate::sad::Limits;
 use ikl_base::{Addr, Duplicate, ListOf, Name, NoMemory, Octets, Prefix};

@@ -1,3 +1,4 @@
+// Orders to a gateway, its answers and its notices.
 use crate::entry::{Entries, Selector};
 use crate::reply::Tag;
 use crate::sad::{Limits, SadEntry};

@@ -1,3 +1,4 @@
+// Tags of errors, and reasons for drops, ends and faults.
 use crate::command::Refusal;
 
 /// The error tags of a reply (RFC 8040 section 7).

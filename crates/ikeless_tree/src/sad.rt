@@ -1,3 +1,4 @@
+// Halves as entries of the SAD, with their limits and counts.
 use crate::entry::{Entries, Selector};
 use ikl_base::{Addr, Duplicate, ListOf, Name, NoMemory, Octets};
 
