@@ -1,3 +1,4 @@
+// Lists of policies and halves, each with its first fault or none.
 use ikeless_tree::*;
 use ikl_base::{Addr, Duplicate, ListOf, Name, NoMemory, Octets, Prefix};
 use std::alloc::Global;
