@@ -46,6 +46,7 @@ pub record Outcome : Type 0 where
   pub change : Change
   pub tree : Tree
 
+-- 200, with a body that shows this, and no change
 abbrev pub shows : Tree → Shown → Outcome
 shows t s = record { status = 200; tag = None; app = None; shown = s; names = []; location = Nowhere; change = changes.Nothing; tree = t }
 
@@ -53,9 +54,11 @@ shows t s = record { status = 200; tag = None; app = None; shown = s; names = []
 abbrev pub made : Location → Change → Tree → Outcome
 made l c t = record { status = 201; tag = None; app = None; shown = Nothing; names = []; location = l; change = c; tree = t }
 
+-- 204, for what replaced or removed an entry or a list: there is no body and no location
 abbrev pub done : Change → Tree → Outcome
 done c t = record { status = 204; tag = None; app = None; shown = Nothing; names = []; location = Nowhere; change = c; tree = t }
 
+-- a refusal with its status and error tags; it shows and changes nothing
 abbrev pub refused : ℕ → Tag → App → Tree → Outcome
 refused status tag app t =
     record { status = status; tag = Some tag; app = Some app; shown = Nothing; names = []; location = Nowhere; change = changes.Nothing; tree = t }
@@ -64,9 +67,11 @@ refused status tag app t =
 abbrev pub exists : Tree → Outcome
 exists t = refused 409 tags.ResourceDenied apps.Exists t
 
+-- an inbound half has the SPI of the one that is put
 abbrev pub spi_taken : Tree → Outcome
 spi_taken t = refused 409 tags.ResourceDenied apps.SpiTaken t
 
+-- the database has no room for one entry more
 abbrev pub full : Tree → Outcome
 full t = refused 409 tags.ResourceDenied apps.Full t
 
@@ -74,17 +79,21 @@ full t = refused 409 tags.ResourceDenied apps.Full t
 abbrev pub absent : Tree → Outcome
 absent t = refused 404 tags.InvalidValue apps.Absent t
 
+-- the policy that `point` names isn't there
 abbrev pub no_point : Tree → Outcome
 no_point t = refused 400 tags.InvalidValue apps.Point t
 
 -- ---- policies
 
+-- the databases with this list of policies
 abbrev pub with_spd : Tree → List SpdEntry → Tree
 with_spd t list = record { spd = list; sad = t.sad }
 
+-- some policy of the list has this name
 abbrev pub has_policy : List ℕ → List SpdEntry → Bool
 has_policy name list = list_any (is_named name) list
 
+-- the list has the 256 policies that a gateway may hold
 abbrev pub is_spd_full : List SpdEntry → Bool
 is_spd_full list = nat_le 256 (length list)
 
@@ -94,10 +103,12 @@ has_point (places.Before name) list = has_policy name list
 has_point (places.After name) list = has_policy name list
 has_point _ list = true
 
+-- the entry stands directly before the one of this name, or last where there is none
 abbrev pub put_before : List ℕ → SpdEntry → List SpdEntry → List SpdEntry
 put_before name e [] = e ∷ []
 put_before name e (x ∷ list) = if is_named name x then e ∷ x ∷ list else x ∷ put_before name e list
 
+-- the entry stands directly behind the one of this name, or last where there is none
 abbrev pub put_after : List ℕ → SpdEntry → List SpdEntry → List SpdEntry
 put_after name e [] = e ∷ []
 put_after name e (x ∷ list) = if is_named name x then x ∷ e ∷ list else x ∷ put_after name e list
@@ -113,9 +124,11 @@ put_at (places.After name) e list = put_after name e list
 abbrev pub replaced : SpdEntry → List SpdEntry → List SpdEntry
 replaced e list = map (λ x. if is_named e.name x then e else x) list
 
+-- the list without the policy of this name
 abbrev pub without_policy : List ℕ → List SpdEntry → List SpdEntry
 without_policy name list = filter (λ x. not (is_named name x)) list
 
+-- a new policy at its place: refused first for its name, then for room, then for its point
 abbrev pub post_spd : Tree → SpdEntry → Place → Outcome
 post_spd t e place =
     if has_policy e.name t.spd then exists t
@@ -123,27 +136,33 @@ post_spd t e place =
     else if not (has_point place t.spd) then no_point t
     else made (At_policy e.name) changes.Spd (with_spd t (put_at place e t.spd))
 
+-- a policy in the place of the one of its name, or behind all others where none has it and there is room
 abbrev pub put_spd_entry : Tree → SpdEntry → Outcome
 put_spd_entry t e =
     if has_policy e.name t.spd then done changes.Spd (with_spd t (replaced e t.spd))
     else if is_spd_full t.spd then full t
     else made (At_policy e.name) changes.Spd (with_spd t (t.spd ++ e ∷ []))
 
+-- the policy of this name is removed
 abbrev pub delete_spd_entry : Tree → List ℕ → Outcome
 delete_spd_entry t name = if has_policy name t.spd then done changes.Spd (with_spd t (without_policy name t.spd)) else absent t
 
+-- the policy that was asked for, or 404
 abbrev pub show_policy : Tree → Option SpdEntry → Outcome
 show_policy t None = absent t
 show_policy t (Some e) = shows t (Policy e)
 
 -- ---- associations
 
+-- the databases with these halves
 abbrev pub with_sad : Tree → List SadRow → Tree
 with_sad t rows = record { spd = t.spd; sad = rows }
 
+-- the half has this name
 abbrev pub is_row : List ℕ → SadRow → Bool
 is_row name r = bytes_eq r.entry.name name
 
+-- the names of the halves, in their order
 abbrev pub row_names : List SadRow → List (List ℕ)
 row_names rows = map (λ r. r.entry.name) rows
 
@@ -151,6 +170,7 @@ row_names rows = map (λ r. r.entry.name) rows
 abbrev pub has_spi : ℕ → List SadRow → Bool
 has_spi spi rows = list_any (λ r. is_inbound r.entry.name && (r.entry.spi == spi)) rows
 
+-- there are the 4,096 halves that a gateway may hold
 abbrev pub is_sad_full : List SadRow → Bool
 is_sad_full rows = nat_le 4096 (length rows)
 
@@ -158,12 +178,15 @@ is_sad_full rows = nat_le 4096 (length rows)
 abbrev pub no_counts : Limits
 no_counts = record { time = 0; bytes = 0; packets = 0; idle = 0 }
 
+-- a half directly after its installation: all counts are 0
 abbrev pub new_row : SadEntry → SadRow
 new_row e = record { entry = e; state = record { current = no_counts; top = 0 } }
 
+-- the halves without the one of this name
 abbrev pub without_row : List ℕ → List SadRow → List SadRow
 without_row name rows = filter (λ r. not (is_row name r)) rows
 
+-- a new half behind all others: refused first for its name, then for the SPI of an inbound one, then for room
 abbrev pub post_sad : Tree → SadEntry → Outcome
 post_sad t e =
     if list_any (is_row e.name) t.sad then exists t
@@ -171,13 +194,16 @@ post_sad t e =
     else if is_sad_full t.sad then full t
     else made (At_half e.name) (changes.Put e) (with_sad t (t.sad ++ new_row e ∷ []))
 
+-- the half of this name is removed
 abbrev pub delete_sad : Tree → List ℕ → Outcome
 delete_sad t name = if list_any (is_row name) t.sad then done (changes.Gone name) (with_sad t (without_row name t.sad)) else absent t
 
+-- the half that was asked for with its counts, or 404
 abbrev pub show_half : Tree → Option SadRow → Outcome
 show_half t None = absent t
 show_half t (Some r) = shows t (Half r)
 
+-- all halves with their counts, and their names
 abbrev pub get_sad : Tree → Outcome
 get_sad t = record { status = 200; tag = None; app = None; shown = Halves t.sad; names = row_names t.sad; location = Nowhere; change = changes.Nothing; tree = t }
 

@@ -1,3 +1,4 @@
+// What a request asks, and what its reply changes.
 use ikeless_tree::{Entries, SadEntry, SpdEntry};
 use ikl_base::Name;
 
