@@ -14,6 +14,7 @@ use Rattle.json_values.specs.declared.fault.Kind.TheVariants as kinds
 use Rattle.json_values.specs.declared.fault.Fault.{Fault}
 use Rattle.json_values.specs.declared.fault.CodecFault.{CodecFault}
 
+-- the error tag of a kind of fault (RFC 8040 section 7)
 abbrev pub tag_of : Kind → Tag
 tag_of kinds.Unknown = tags.UnknownElement
 tag_of kinds.Missing = tags.BadElement
@@ -23,6 +24,7 @@ tag_of kinds.Unsupported = tags.BadElement
 tag_of kinds.Name = tags.InvalidValue
 tag_of kinds.Full = tags.ResourceDenied
 
+-- the app tag of a kind of fault
 abbrev pub app_of : Kind → App
 app_of kinds.Unknown = apps.Unknown
 app_of kinds.Missing = apps.Missing
@@ -56,10 +58,12 @@ here kind = record { kind = kind; path = [] }
 abbrev pub deeper : List ℕ → List ℕ → List ℕ
 deeper name path = 47 ∷ name ++ path
 
+-- a fault found in the value of this member, or of the item with this index
 abbrev pub below : List ℕ → Fault → Fault
 below name f = record { kind = f.kind; path = deeper name f.path }
 
 infixl 10 ◌>>=◌
+-- goes on with what was read; the first fault ends the reading
 abbrev pub ◌>>=◌ : {A B E : Type 0} → Result A E → (A → Result B E) → Result B E
 (Ok x) >>= f = f x
 (Err e) >>= f = Err e
@@ -93,9 +97,11 @@ checked x (Some fault) = Err (here (tree_kind fault))
 abbrev pub no_json : CodecFault
 no_json = record { tag = tags.MalformedMessage; app = apps.Json; path = None }
 
+-- a fault of a body, with the tags and the pointer that the refusal has
 abbrev pub told_fault : Fault → CodecFault
 told_fault f = record { tag = tag_of f.kind; app = app_of f.kind; path = Some f.path }
 
+-- what was read, or its fault as the refusal has it
 abbrev pub told : {A : Type 0} → Result A Fault → Result A CodecFault
 told (Ok x) = Ok x
 told (Err f) = Err (told_fault f)

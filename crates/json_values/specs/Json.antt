@@ -50,12 +50,15 @@ Optional P absent (Some d) = P d
 
 -- ---- leaves
 
+-- the JSON number of n, which is in this range
 abbrev pub IsNumber : ℕ → ℕ → ℕ → Data → Type 0
 IsNumber least most n d = (d ≡ number (unsigned n)) × (least ≤ n) × (n ≤ most)
 
+-- a string that is this word
 abbrev pub IsWord : List ℕ → Data → Type 0
 IsWord word d = d ≡ string word
 
+-- the JSON value `false`
 abbrev pub IsFalse : Data → Type 0
 IsFalse d = d ≡ boolean false
 
@@ -63,33 +66,41 @@ IsFalse d = d ≡ boolean false
 abbrev pub IsWide : ℕ → Data → Type 0
 IsWide n d = (t : List ℕ) × (d ≡ string t) × (u64_of t ≡ Ok n)
 
+-- a string that spells this prefix (RFC 6991 section 4, `ip-prefix`)
 abbrev pub IsPrefix : Prefix → Data → Type 0
 IsPrefix p d = (t : List ℕ) × (d ≡ string t) × (prefix_of t ≡ Ok p)
 
+-- a string that spells this address (RFC 6991 section 4, `ip-address`)
 abbrev pub IsAddressText : Addr → Data → Type 0
 IsAddressText a d = (t : List ℕ) × (d ≡ string t) × (address_of t ≡ Ok a)
 
+-- a string of these octets in hex, in pairs with colons between them (RFC 6991 section 3, `hex-string`)
 abbrev pub IsHex : List ℕ → Data → Type 0
 IsHex octets d = (t : List ℕ) × (d ≡ string t) × (hex_of t ≡ Ok octets)
 
+-- the same of keying material: an AES key of 16 or 32 octets and a salt of 4 (RFC 4106 section 8.1)
 abbrev pub IsKey : List ℕ → Data → Type 0
 IsKey key d = IsHex key d × (is_key_length (length key) ≡ true)
 
+-- a string that is this name, whose octets and length this test allows
 abbrev pub IsName : (List ℕ → Bool) → List ℕ → Data → Type 0
 IsName is_name name d = (d ≡ string name) × (is_name name ≡ true)
 
+-- the number of an upper layer protocol, or `any`
 abbrev pub IsProtocol : Option ℕ → Data → Type 0
 IsProtocol None d = IsWord (codes "any") d
 IsProtocol (Some n) d = IsNumber 0 255 n d
 
 -- ---- lists
 
+-- as many items as values, each standing for the value at its place
 abbrev pub Each : {A : Type 0} → (A → Data → Type 0) → List A → Items → Type 0
 Each P [] no_items = Unit {0}
 Each P [] (item d ds) = ⊥
 Each P (x ∷ xs) no_items = ⊥
 Each P (x ∷ xs) (item d ds) = P x d × Each P xs ds
 
+-- a JSON array, whose items stand for these values in their order
 abbrev pub IsListOf : {A : Type 0} → (A → Data → Type 0) → List A → Data → Type 0
 IsListOf P xs d = (ds : Items) × (d ≡ array ds) × Each P xs ds
 
@@ -103,14 +114,17 @@ IsOnly name P d = HasOnly (name ∷ []) d × Needed P (get name d)
 
 -- ---- selectors
 
+-- a range of ports, both ends counted in
 pub record IsRange (r : Range) (d : Data) : Type 0 where
   pub members : HasOnly range_names d
   pub end : Needed (IsNumber 0 65535 r.end) (get (codes "end") d)
   pub start : Needed (IsNumber 0 65535 r.start) (get (codes "start") d)
 
+-- a list of ranges of ports
 abbrev pub ArePorts : List Range → Data → Type 0
 ArePorts rs d = IsListOf IsRange rs d
 
+-- `traffic-selector`: which packets a policy or a half holds; an absent protocol or list of ports stands for any
 pub record IsSelector (s : Selector) (d : Data) : Type 0 where
   pub members : HasOnly selector_names d
   pub proto : Optional (IsProtocol s.proto) (s.proto ≡ None) (get (codes "inner-protocol") d)
@@ -131,17 +145,20 @@ pub record IsSuite (d : Data) : Type 0 where
   pub overflow : Optional IsFalse (Unit {0}) (get (codes "seq-overflow") d)
   pub fragments : Optional IsFalse (Unit {0}) (get (codes "stateful-frag-check") d)
 
+-- `processing-info`: what is done with a packet; the action that an absent one stands for is `discard`
 pub record IsProcessing (x : Action) (d : Data) : Type 0 where
   pub members : HasOnly (codes "action" ∷ codes "ipsec-sa-cfg" ∷ []) d
   pub action : Optional (IsWord (action_text x)) (x ≡ actions.Discard) (get (codes "action") d)
   pub suite : Optional IsSuite (Unit {0}) (get (codes "ipsec-sa-cfg") d)
 
+-- `ipsec-policy-config` of a policy; an absent window has the size 64
 pub record IsPolicy (e : SpdEntry) (d : Data) : Type 0 where
   pub members : HasOnly (codes "anti-replay-window-size" ∷ codes "processing-info" ∷ codes "traffic-selector" ∷ []) d
   pub window : Optional (IsNumber 32 4096 e.window) (e.window ≡ 64) (get (codes "anti-replay-window-size") d)
   pub action : Optional (IsProcessing e.action) (e.action ≡ actions.Discard) (get (codes "processing-info") d)
   pub selector : Needed (IsSelector e.selector) (get (codes "traffic-selector") d)
 
+-- `spd-entry`: a policy with its direction, its name and its `reqid`, which is 0 where it is absent
 pub record IsSpdEntry (e : SpdEntry) (d : Data) : Type 0 where
   pub members : HasOnly (codes "direction" ∷ codes "ipsec-policy-config" ∷ codes "name" ∷ codes "reqid" ∷ []) d
   pub direction : Needed (IsWord (direction_word e.direction)) (get (codes "direction") d)
@@ -159,6 +176,7 @@ IsOneSpdEntry e d = IsOnly (codes "ietf-i2nsf-ikeless:spd-entry") (IsOne (IsSpdE
 
 -- ---- lifetimes
 
+-- the members of limits: octets, seconds idle, packets and seconds; an absent one is 0
 pub record HasLimits (l : Limits) (d : Data) : Type 0 where
   pub bytes : Optional (IsWide l.bytes) (l.bytes ≡ 0) (get (codes "bytes") d)
   pub idle : Optional (IsNumber 0 (2 ^ 32 - 1) l.idle) (l.idle ≡ 0) (get (codes "idle") d)
@@ -169,9 +187,11 @@ pub record HasLimits (l : Limits) (d : Data) : Type 0 where
 abbrev pub no_limits : Limits
 no_limits = record { time = 0; bytes = 0; packets = 0; idle = 0 }
 
+-- the object of limits, with no member besides
 abbrev pub IsLimits : Limits → Data → Type 0
 IsLimits l d = HasOnly limits_names d × HasLimits l d
 
+-- the object of soft limits, which may say besides that the half is then to be replaced
 pub record IsSoft (l : Limits) (d : Data) : Type 0 where
   pub members : HasOnly (codes "action" ∷ limits_names) d
   pub action : Optional (IsWord (codes "replace")) (Unit {0}) (get (codes "action") d)
@@ -183,17 +203,20 @@ pub record IsSoft (l : Limits) (d : Data) : Type 0 where
 abbrev pub IsAlgorithm : Data → Type 0
 IsAlgorithm d = d ≡ number (unsigned 20)
 
+-- `encryption`: the algorithm, which may be absent, and the keying material
 pub record IsEncryption (octets : List ℕ) (d : Data) : Type 0 where
   pub members : HasOnly (codes "encryption-algorithm" ∷ codes "key" ∷ []) d
   pub algorithm : Optional IsAlgorithm (Unit {0}) (get (codes "encryption-algorithm") d)
   pub key : Needed (IsKey octets) (get (codes "key") d)
 
+-- `tunnel`: its two ends, and where the outer DF bit comes from; `copy` where that is absent
 pub record IsTunnel (e : SadEntry) (d : Data) : Type 0 where
   pub members : HasOnly (codes "df-bit" ∷ codes "local" ∷ codes "remote" ∷ []) d
   pub df : Optional (IsWord (df_text e.df)) (e.df ≡ bits.Copy) (get (codes "df-bit") d)
   pub local : Needed (IsAddressText e.local) (get (codes "local") d)
   pub remote : Needed (IsAddressText e.remote) (get (codes "remote") d)
 
+-- `ipsec-sa-config` of a half; an absent window has the size 64, an absent lifetime no limits
 pub record IsHalfConfig (e : SadEntry) (d : Data) : Type 0 where
   pub members : HasOnly config_names d
   pub window : Optional (IsNumber 32 4096 e.window) (e.window ≡ 64) (get (codes "anti-replay-window-size") d)
@@ -208,6 +231,7 @@ pub record IsHalfConfig (e : SadEntry) (d : Data) : Type 0 where
   pub selector : Needed (IsSelector e.selector) (get (codes "traffic-selector") d)
   pub tunnel : Needed (IsTunnel e) (get (codes "tunnel") d)
 
+-- `sad-entry`: a half with its name and its `reqid`, which is 0 where it is absent
 pub record IsSadEntry (e : SadEntry) (d : Data) : Type 0 where
   pub members : HasOnly (codes "ipsec-sa-config" ∷ codes "name" ∷ codes "reqid" ∷ []) d
   pub config : Needed (IsHalfConfig e) (get (codes "ipsec-sa-config") d)
@@ -220,11 +244,13 @@ IsOneSadEntry e d = IsOnly (codes "ietf-i2nsf-ikeless:sad-entry") (IsOne (IsSadE
 
 -- ---- commands
 
+-- the input of `policy`: a gateway and the list that it is to have
 pub record IsListInput (name : List ℕ) (es : List SpdEntry) (d : Data) : Type 0 where
   pub members : HasOnly (codes "gateway" ∷ codes "spd-entry" ∷ []) d
   pub gateway : Needed (IsName is_gateway name) (get (codes "gateway") d)
   pub list : Needed (IsListOf IsSpdEntry es) (get (codes "spd-entry") d)
 
+-- the input of `tunnel`: both gateways with their prefixes, and what its halves are to have
 pub record IsTunnelInput (t : TunnelSpec) (d : Data) : Type 0 where
   pub members : HasOnly (codes "hard" ∷ codes "soft" ∷ tunnel_needs) d
   pub window : Needed (IsNumber 32 4096 t.window) (get (codes "anti-replay-window-size") d)
@@ -237,6 +263,7 @@ pub record IsTunnelInput (t : TunnelSpec) (d : Data) : Type 0 where
   pub second_prefix : Needed (IsPrefix t.second_prefix) (get (codes "second-prefix") d)
   pub soft : Optional (IsLimits t.soft) (t.soft ≡ no_limits) (get (codes "soft") d)
 
+-- the input of the operation of this name that gives the command
 abbrev pub IsInput : List ℕ → Command → Data → Type 0
 IsInput op (commands.Policy gateway list) d = (op ≡ codes "policy") × IsListInput gateway list d
 IsInput op (commands.Tunnel spec) d = (op ≡ codes "tunnel") × IsTunnelInput spec d

@@ -21,6 +21,7 @@ seen found = option_map (λ (v : Bor Value). view v.now) found
 abbrev pub names_in : List (Bor (List ℕ)) → List (List ℕ)
 names_in names = map (λ (name : Bor (List ℕ)). name.now) names
 
+-- the name is one of these
 abbrev pub is_among : List (List ℕ) → List ℕ → Bool
 is_among names key = list_any (bytes_eq key) names
 
@@ -29,9 +30,11 @@ abbrev pub has_unknown : List (List ℕ) → Members → Bool
 has_unknown names no_members = false
 has_unknown names (member key d ms) = not (is_among names key) || has_unknown names ms
 
+-- the object has no member of this name
 abbrev pub lacks : Data → List ℕ → Bool
 lacks d name = is_none (get name d)
 
+-- the members of an object are those allowed and needed; a value that is no object is misspelt
 abbrev pub shape_of : List (List ℕ) → List (List ℕ) → Data → Option Members → Result ⊤ Fault
 shape_of names needed d None = Err (here kinds.Form)
 shape_of names needed d (Some ms) =
@@ -44,6 +47,7 @@ shape_of names needed d (Some ms) =
 unfoldable pub shape : List (List ℕ) → List (List ℕ) → Data → Result ⊤ Fault
 shape names needed d = shape_of names needed d (as_object d)
 
+-- the value of a member that is needed
 abbrev pub needed_data : Option Data → Result Data Fault
 needed_data None = Err (here kinds.Missing)
 needed_data (Some d) = Ok d
@@ -57,10 +61,12 @@ unfoldable pub each_item : {A : Type 0} → (Data → Result A Fault) → ℕ �
 each_item f i no_items = Ok []
 each_item f i (item d ds) = within (decimal i) (f d) >>= (λ x. each_item f (i + 1) ds >>= (λ xs. Ok (x ∷ xs)))
 
+-- what is read of the items of a JSON array; another value is misspelt
 abbrev pub items_read : {A : Type 0} → (Data → Result A Fault) → Option Items → Result (List A) Fault
 items_read f None = Err (here kinds.Form)
 items_read f (Some ds) = each_item f 0 ds
 
+-- what is read of a JSON array of one item; a list of none or of more lacks that one
 abbrev pub one_read : {A : Type 0} → (Data → Result A Fault) → Option Items → Result A Fault
 one_read f None = Err (here kinds.Form)
 one_read f (Some no_items) = Err (here kinds.Missing)

@@ -19,6 +19,7 @@ count n = number (unsigned n)
 abbrev pub wide : ℕ → Data
 wide n = string (decimal n)
 
+-- a word of an enumeration, as a JSON string
 abbrev pub word : List ℕ → Data
 word text = string text
 
@@ -28,9 +29,11 @@ only name d = object (put name d no_members)
 
 -- ---- selectors
 
+-- a range of ports as an object of its ends
 abbrev pub range_data : Range → Data
 range_data r = object (put (codes "end") (count r.end) (put (codes "start") (count r.start) no_members))
 
+-- ranges of ports as the items of an array
 abbrev pub range_items : List Range → Items
 range_items rs = items_of (map range_data rs)
 
@@ -39,10 +42,12 @@ abbrev pub with_ports : List ℕ → List Range → Members → Members
 with_ports name [] ms = ms
 with_ports name (r ∷ rs) ms = put name (array (range_items (r ∷ rs))) ms
 
+-- the number of a protocol, or the word `any`
 abbrev pub proto_data : Option ℕ → Data
 proto_data None = word (codes "any")
 proto_data (Some n) = count n
 
+-- `traffic-selector`: which packets a policy or a half holds
 unfoldable pub selector_data : Selector → Data
 selector_data s = object (put (codes "inner-protocol") (proto_data s.proto)
     (with_ports (codes "local-ports") s.local_ports
@@ -52,20 +57,24 @@ selector_data s = object (put (codes "inner-protocol") (proto_data s.proto)
 
 -- ---- policies
 
+-- `ipsec-policy-config`: the window, the action and the selector of a policy
 unfoldable pub policy_data : SpdEntry → Data
 policy_data e = object (put (codes "anti-replay-window-size") (count e.window)
     (put (codes "processing-info") (only (codes "action") (word (action_text e.action)))
     (put (codes "traffic-selector") (selector_data e.selector) no_members)))
 
+-- `spd-entry`: a policy as an object
 unfoldable pub spd_entry_data : SpdEntry → Data
 spd_entry_data e = object (put (codes "direction") (word (direction_word e.direction))
     (put (codes "ipsec-policy-config") (policy_data e)
     (put (codes "name") (string e.name)
     (put (codes "reqid") (wide e.reqid) no_members))))
 
+-- policies as the items of an array
 abbrev pub spd_entry_items : List SpdEntry → Items
 spd_entry_items es = items_of (map spd_entry_data es)
 
+-- policies as an array
 abbrev pub spd_entries_data : List SpdEntry → Data
 spd_entries_data es = array (spd_entry_items es)
 
@@ -77,5 +86,6 @@ one_policy e = only (codes "ietf-i2nsf-ikeless:spd-entry") (spd_entries_data (e 
 abbrev pub all_policies : List SpdEntry → Data
 all_policies es = only (codes "ietf-i2nsf-ikeless:spd") (only (codes "spd-entry") (spd_entries_data es))
 
+-- the policy's name is one that is read again
 abbrev pub is_named_well : SpdEntry → Bool
 is_named_well e = is_spd_name e.name

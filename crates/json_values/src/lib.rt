@@ -1,5 +1,8 @@
 //! Values of JSON (RFC 7951) built and read: leaves, names, and the members that an object of the YANG module
 //! ietf-i2nsf-ikeless (RFC 9061) may have, with the fault of one that isn't right.
+//!
+//! `specs/Json.antt` has the definitions: which value stands for which policy, half or command. `specs/Leaves.antt` and
+//! `specs/Shapes.antt` say what is read of a value, `specs/Written.antt` what is written.
 #![tactic(auto)]
 
 mod build;
