@@ -31,25 +31,30 @@ window_in d = at_member (codes "anti-replay-window-size") (number_or 64 32 4096 
 abbrev pub reqid_in : Data → Result ℕ Fault
 reqid_in d = at_member (codes "reqid") (wide_or 0 (get (codes "reqid") d))
 
+-- the first three members of `ipsec-sa-cfg`, in the order of their names: what is asked for is supported
 unfoldable pub suite_front : Data → Result ⊤ Fault
 suite_front d =
     unset_in (codes "ext-seq-num") d >>= (λ a.
     word_in (codes "mode") (codes "tunnel") d >>= (λ b.
     unset_in (codes "pfp-flag") d))
 
+-- the last three members of `ipsec-sa-cfg`
 unfoldable pub suite_back : Data → Result ⊤ Fault
 suite_back d =
     word_in (codes "protocol-parameters") (codes "esp") d >>= (λ a.
     unset_in (codes "seq-overflow") d >>= (λ b.
     unset_in (codes "stateful-frag-check") d))
 
+-- `ipsec-sa-cfg` of a policy says no more than that it is ESP in tunnel mode
 unfoldable pub suite_in : Data → Result ⊤ Fault
 suite_in d = suite_shape d >>= (λ a. suite_front d >>= (λ b. suite_back d))
 
+-- the same of a member that may be absent
 abbrev pub suite_of : Option Data → Result ⊤ Fault
 suite_of None = Ok tt
 suite_of (Some d) = within (codes "ipsec-sa-cfg") (suite_in d)
 
+-- the action of `processing-info`
 unfoldable pub processing_in : Data → Result Action Fault
 processing_in d =
     processing_shape d >>= (λ done.
@@ -61,6 +66,7 @@ abbrev pub processing_of : Option Data → Result Action Fault
 processing_of None = Ok actions.Discard
 processing_of (Some d) = within (codes "processing-info") (processing_in d)
 
+-- the window, the action and the selector of `ipsec-policy-config`
 unfoldable pub policy_in : Data → Result PolicyConfig Fault
 policy_in d =
     policy_shape d >>= (λ done.
@@ -69,10 +75,12 @@ policy_in d =
     selector_of (get (codes "traffic-selector") d) >>= (λ selector.
     Ok (record { window = window; action = action; selector = selector })))))
 
+-- the same of a member that is needed
 abbrev pub policy_of : Option Data → Result PolicyConfig Fault
 policy_of None = Err (here kinds.Missing)
 policy_of (Some d) = within (codes "ipsec-policy-config") (policy_in d)
 
+-- the policy of a `spd-entry`; the first fault is found in the order of members
 unfoldable pub spd_entry_in : Data → Result SpdEntry Fault
 spd_entry_in d =
     spd_entry_shape d >>= (λ done.
@@ -86,13 +94,16 @@ spd_entry_in d =
 abbrev pub entries_in : Data → Result (List SpdEntry) Fault
 entries_in d = items_read spd_entry_in (as_array d)
 
+-- the policies of a member that is needed
 abbrev pub entries_of : Option Data → Result (List SpdEntry) Fault
 entries_of None = Err (here kinds.Missing)
 entries_of (Some d) = within (codes "spd-entry") (entries_in d)
 
+-- the policies of the container `spd`
 unfoldable pub database_in : Data → Result (List SpdEntry) Fault
 database_in d = only_in (codes "spd-entry") d >>= (λ list. within (codes "spd-entry") (entries_in list))
 
+-- the policies of a body, before they are looked at as a list
 unfoldable pub all_entries : Data → Result (List SpdEntry) Fault
 all_entries d = only_in (codes "ietf-i2nsf-ikeless:spd") d >>= (λ inner. within (codes "ietf-i2nsf-ikeless:spd") (database_in inner))
 
@@ -100,6 +111,7 @@ all_entries d = only_in (codes "ietf-i2nsf-ikeless:spd") d >>= (λ inner. within
 unfoldable pub spd_in : Data → Result (List SpdEntry) Fault
 spd_in d = all_entries d >>= (λ list. checked list (spd_fault list))
 
+-- the one policy of a body, before it is looked at as a list of one
 unfoldable pub one_entry : Data → Result SpdEntry Fault
 one_entry d = only_in (codes "ietf-i2nsf-ikeless:spd-entry") d >>= (λ list. within (codes "ietf-i2nsf-ikeless:spd-entry") (one_read spd_entry_in (as_array list)))
 

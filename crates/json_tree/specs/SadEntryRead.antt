@@ -26,15 +26,19 @@ use Rattle.json_tree.specs.PolicyRead.{unset_in, word_in, window_in, reqid_in}
 abbrev pub algorithm_in : Data → Result ⊤ Fault
 algorithm_in d = at_member (codes "encryption-algorithm") (fixed_number 20 (get (codes "encryption-algorithm") d))
 
+-- the keying material of a half
 abbrev pub key_in : Data → Result (List ℕ) Fault
 key_in d = at_member (codes "key") (key_leaf (get (codes "key") d))
 
+-- the keying material of `encryption`, whose algorithm is AES-GCM
 unfoldable pub encryption_in : Data → Result (List ℕ) Fault
 encryption_in d = encryption_shape d >>= (λ done. algorithm_in d >>= (λ algorithm. key_in d))
 
+-- the keying material of `esp-sa`
 unfoldable pub suite_key : Data → Result (List ℕ) Fault
 suite_key d = only_in (codes "encryption") d >>= (λ inner. within (codes "encryption") (encryption_in inner))
 
+-- the same of a member that is needed
 abbrev pub suite_key_of : Option Data → Result (List ℕ) Fault
 suite_key_of None = Err (here kinds.Missing)
 suite_key_of (Some d) = within (codes "esp-sa") (suite_key d)
@@ -49,6 +53,7 @@ sealing_in d =
     word_in (codes "protocol-parameters") (codes "esp") d >>= (λ protocol.
     Ok (record { window = window; key = key }))))))
 
+-- the limits of an object; none of its members is needed
 unfoldable pub limits_in : Data → Result Limits Fault
 limits_in d = limits_shape d >>= (λ done. limits_from d)
 
@@ -57,13 +62,16 @@ abbrev pub limits_of : List ℕ → Option Data → Result Limits Fault
 limits_of name None = Ok no_limits
 limits_of name (Some d) = within name (limits_in d)
 
+-- the soft limits of an object, at which a half can only be replaced
 unfoldable pub soft_in : Data → Result Limits Fault
 soft_in d = soft_shape d >>= (λ done. word_in (codes "action") (codes "replace") d >>= (λ action. limits_from d))
 
+-- absent soft limits are none
 abbrev pub soft_of : Option Data → Result Limits Fault
 soft_of None = Ok no_limits
 soft_of (Some d) = within (codes "sa-lifetime-soft") (soft_in d)
 
+-- the hard limits and the soft ones; a half doesn't go on after its last sequence number
 unfoldable pub lifetimes_in : Data → Result Lifetimes Fault
 lifetimes_in d =
     limits_of (codes "sa-lifetime-hard") (get (codes "sa-lifetime-hard") d) >>= (λ hard.
@@ -71,12 +79,15 @@ lifetimes_in d =
     unset_in (codes "seq-overflow") d >>= (λ overflow.
     Ok (record { hard = hard; soft = soft }))))
 
+-- where the outer DF bit comes from; `copy` where that is absent
 abbrev pub df_in : Data → Result Df Fault
 df_in d = at_member (codes "df-bit") (df_leaf (get (codes "df-bit") d))
 
+-- the address in the member of this name
 abbrev pub address_in : List ℕ → Data → Result Addr Fault
 address_in name d = at_member name (address_leaf (get name d))
 
+-- the two ends of a tunnel, and where its outer DF bit comes from
 unfoldable pub tunnel_in : Data → Result TunnelEnds Fault
 tunnel_in d =
     tunnel_shape d >>= (λ done.
@@ -85,13 +96,16 @@ tunnel_in d =
     address_in (codes "remote") d >>= (λ remote.
     Ok (record { df = df; local = local; remote = remote })))))
 
+-- the same of a member that is needed
 abbrev pub tunnel_of : Option Data → Result TunnelEnds Fault
 tunnel_of None = Err (here kinds.Missing)
 tunnel_of (Some d) = within (codes "tunnel") (tunnel_in d)
 
+-- the SPI, from 256 on: the smaller ones are reserved (RFC 4303 section 2.1)
 abbrev pub spi_in : Data → Result ℕ Fault
 spi_in d = at_member (codes "spi") (needed_number 256 (2 ^ 32 - 1) (get (codes "spi") d))
 
+-- the SPI of a half, the packets that it holds and the ends of its tunnel
 unfoldable pub traffic_in : Data → Result Traffic Fault
 traffic_in d =
     spi_in d >>= (λ spi.
@@ -99,6 +113,7 @@ traffic_in d =
     tunnel_of (get (codes "tunnel") d) >>= (λ tunnel.
     Ok (record { spi = spi; selector = selector; tunnel = tunnel }))))
 
+-- all of `ipsec-sa-config`; the first fault is found in the order of members
 unfoldable pub config_in : Data → Result HalfConfig Fault
 config_in d =
     config_shape d >>= (λ done.
@@ -107,6 +122,7 @@ config_in d =
     traffic_in d >>= (λ traffic.
     Ok (record { sealing = sealing; lifetimes = lifetimes; traffic = traffic })))))
 
+-- the same of a member that is needed
 abbrev pub config_of : Option Data → Result HalfConfig Fault
 config_of None = Err (here kinds.Missing)
 config_of (Some d) = within (codes "ipsec-sa-config") (config_in d)
@@ -127,6 +143,7 @@ half_of c name reqid = record {
   soft = c.lifetimes.soft;
 }
 
+-- the half of a `sad-entry`
 unfoldable pub sad_entry_in : Data → Result SadEntry Fault
 sad_entry_in d =
     sad_entry_shape d >>= (λ done.
@@ -135,6 +152,7 @@ sad_entry_in d =
     reqid_in d >>= (λ reqid.
     Ok (half_of config name reqid)))))
 
+-- the one half of a body, before it is looked at as a whole
 unfoldable pub one_half : Data → Result SadEntry Fault
 one_half d = only_in (codes "ietf-i2nsf-ikeless:sad-entry") d >>= (λ list. within (codes "ietf-i2nsf-ikeless:sad-entry") (one_read sad_entry_in (as_array list)))
 

@@ -13,6 +13,7 @@ use Rattle.json_values.specs.Shapes.{items_read}
 use Rattle.json_values.specs.Leaves.{needed_number, count_or, wide_or, prefix_leaf, protocol_leaf}
 use Rattle.json_values.specs.Members.{range_shape, selector_shape, counts_shape}
 
+-- a range of ports; that it starts above its end is found later
 unfoldable pub range_in : Data → Result Range Fault
 range_in d =
     range_shape d >>= (λ done.
@@ -32,6 +33,7 @@ side_in ports prefix d =
     at_member prefix (prefix_leaf (get prefix d)) >>= (λ network.
     Ok (record { ports = ranges; prefix = network })))
 
+-- which packets a policy or a half holds
 unfoldable pub selector_in : Data → Result Selector Fault
 selector_in d =
     selector_shape d >>= (λ done.

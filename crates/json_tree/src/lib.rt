@@ -1,4 +1,7 @@
 //! Policies and entries of the SAD as JSON (RFC 7951) of the YANG module ietf-i2nsf-ikeless (RFC 9061), and read from it.
+//!
+//! `specs/PolicyRead.antt` and `specs/SadEntryRead.antt` have what is read or its first fault, `specs/SadEntryWritten.antt` what is
+//! written. Which value stands for what is said in `json_values`.
 #![tactic(auto)]
 
 mod policy_read;
