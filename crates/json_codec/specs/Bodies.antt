@@ -24,6 +24,7 @@ abbrev pub IsNoJson : OrMemory CodecFault → Option Data → Type 0
 IsNoJson (failures.Refused fault) json = (json ≡ None) × (fault ≡ no_json)
 IsNoJson failures.NoMemory json = Unit {0}
 
+-- what is read of a body, or the refusal of one that isn't JSON in UTF-8
 abbrev pub body_read : {A : Type 0} → (Data → Result A Fault) → Option Data → Result A CodecFault
 body_read f None = Err no_json
 body_read f (Some d) = told (f d)

@@ -19,6 +19,7 @@ use Rattle.json_values.specs.Members.{list_input_shape, tunnel_input_shape}
 use Rattle.json_tree.specs.PolicyRead.{entries_of}
 use Rattle.json_tree.specs.SadEntryRead.{limits_of}
 
+-- one of the five operations that give a command
 abbrev pub is_operation : List ℕ → Bool
 is_operation op = bytes_eq op (codes "policy") || bytes_eq op (codes "tunnel") || bytes_eq op (codes "end") || bytes_eq op (codes "rekey") || bytes_eq op (codes "keys")
 
@@ -38,18 +39,23 @@ HasWindow (commands.End reqid) = Unit {0}
 HasWindow (commands.Rekey reqid) = Unit {0}
 HasWindow (commands.Keys key) = Unit {0}
 
+-- the prefix in the member of this name
 abbrev pub prefix_in : List ℕ → Data → Result Prefix Fault
 prefix_in name d = at_member name (prefix_leaf (get name d))
 
+-- the size of an anti-replay window, which a tunnel needs
 abbrev pub needed_window : Data → Result ℕ Fault
 needed_window d = at_member (codes "anti-replay-window-size") (needed_number 32 4096 (get (codes "anti-replay-window-size") d))
 
+-- the `reqid` of a tunnel, which is needed
 abbrev pub needed_reqid : Data → Result ℕ Fault
 needed_reqid d = at_member (codes "reqid") (needed_wide (get (codes "reqid") d))
 
+-- whether the tunnel's keys are asked for at once, or at its first packet
 abbrev pub mode_in : Data → Result Bool Fault
 mode_in d = at_member (codes "mode") (mode_leaf (get (codes "mode") d))
 
+-- a gateway and the list of policies that it is to have
 unfoldable pub list_command : Data → Result Command Fault
 list_command d =
     list_input_shape d >>= (λ done.
@@ -57,6 +63,7 @@ list_command d =
     entries_of (get (codes "spd-entry") d) >>= (λ list.
     Ok (commands.Policy gateway list))))
 
+-- the first gateway with its prefix, and what stands beside it by the order of names: the window and the hard limits
 unfoldable pub first_in : Data → Result FirstEnd Fault
 first_in d =
     needed_window d >>= (λ window.
@@ -65,6 +72,7 @@ first_in d =
     limits_of (codes "hard") (get (codes "hard") d) >>= (λ hard.
     Ok (record { window = window; name = name; prefix = prefix; hard = hard })))))
 
+-- the second gateway with its prefix, and what stands beside it by the order of names: mode, `reqid` and soft limits
 unfoldable pub second_in : Data → Result SecondEnd Fault
 second_in d =
     mode_in d >>= (λ now.
@@ -74,6 +82,7 @@ second_in d =
     limits_of (codes "soft") (get (codes "soft") d) >>= (λ soft.
     Ok (record { now = now; reqid = reqid; name = name; prefix = prefix; soft = soft }))))))
 
+-- the tunnel of both its ends
 abbrev pub tunnel_between : FirstEnd → SecondEnd → TunnelSpec
 tunnel_between a b = record {
   reqid = b.reqid;
@@ -87,6 +96,7 @@ tunnel_between a b = record {
   soft = b.soft;
 }
 
+-- the tunnel to be kept between two gateways
 unfoldable pub tunnel_command : Data → Result Command Fault
 tunnel_command d =
     tunnel_input_shape d >>= (λ done.
@@ -94,18 +104,23 @@ tunnel_command d =
     second_in d >>= (λ second.
     Ok (commands.Tunnel (tunnel_between first second)))))
 
+-- the `reqid` of an input with no member besides
 unfoldable pub only_reqid : Data → Result ℕ Fault
 only_reqid d = only_in (codes "reqid") d >>= (λ leaf. at_member (codes "reqid") (needed_wide (Some leaf)))
 
+-- the octets of a key, whatever their number: a wrong length is found by the controller
 unfoldable pub only_key : Data → Result (List ℕ) Fault
 only_key d = only_in (codes "key") d >>= (λ leaf. at_member (codes "key") (octets_leaf (Some leaf)))
 
+-- the tunnel with this `reqid` is to end
 unfoldable pub end_command : Data → Result Command Fault
 end_command d = only_reqid d >>= (λ reqid. Ok (commands.End reqid))
 
+-- the tunnel with this `reqid` is to get new keys
 unfoldable pub rekey_command : Data → Result Command Fault
 rekey_command d = only_reqid d >>= (λ reqid. Ok (commands.Rekey reqid))
 
+-- one more key for the controller's store
 unfoldable pub keys_command : Data → Result Command Fault
 keys_command d = only_key d >>= (λ key. Ok (commands.Keys key))
 
@@ -118,6 +133,7 @@ input_in op d =
     else if bytes_eq op (codes "rekey") then rekey_command d
     else keys_command d
 
+-- the command in the `input` of an operation (RFC 8040 section 3.6.1)
 unfoldable pub inputs_in : List ℕ → Data → Result Command Fault
 inputs_in op d = only_in (codes "ikl-control:input") d >>= (λ inner. within (codes "ikl-control:input") (input_in op inner))
 

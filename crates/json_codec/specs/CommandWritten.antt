@@ -12,24 +12,29 @@ use Rattle.ikeless_tree.specs.Words.{mode_text}
 use Rattle.json_values.specs.Written.{count, wide, word, only, spd_entries_data}
 use Rattle.json_tree.specs.SadEntryWritten.{with_lifetime}
 
+-- the input of `policy`
 unfoldable pub policy_input : List ℕ → List SpdEntry → Data
 policy_input gateway list = object (put (codes "gateway") (string gateway) (put (codes "spd-entry") (spd_entries_data list) no_members))
 
+-- the second half of a tunnel's members, in the order of their names
 unfoldable pub with_second : TunnelSpec → Members → Members
 with_second t ms = put (codes "reqid") (wide t.reqid)
     (put (codes "second") (string t.second)
     (put (codes "second-prefix") (string (prefix_text t.second_prefix))
     (with_lifetime (codes "soft") t.soft ms)))
 
+-- the members of a tunnel before those, but for the window
 unfoldable pub with_first : TunnelSpec → Members → Members
 with_first t ms = put (codes "first") (string t.first)
     (put (codes "first-prefix") (string (prefix_text t.first_prefix))
     (with_lifetime (codes "hard") t.hard
     (put (codes "mode") (word (mode_text t.now)) ms)))
 
+-- the input of `tunnel`; limits that are none are left out
 unfoldable pub tunnel_input : TunnelSpec → Data
 tunnel_input t = object (put (codes "anti-replay-window-size") (count t.window) (with_first t (with_second t no_members)))
 
+-- the input of the operation that gives this command
 abbrev pub input_of : Command → Data
 input_of (commands.Policy gateway list) = policy_input gateway list
 input_of (commands.Tunnel spec) = tunnel_input spec

@@ -1,4 +1,6 @@
 //! RESTCONF bodies and commands as JSON (RFC 7951) of the YANG module ietf-i2nsf-ikeless (RFC 9061), both ways.
+//!
+//! `specs/Bodies.antt` has the definitions: what a body is read as, or its first fault.
 #![tactic(auto)]
 
 mod body_read;
