@@ -19,6 +19,7 @@ pub record Feeding : Type 0 where
 abbrev pub fresh : Kind → Feeding
 fresh kind = record { kind = kind; octets = []; fault = None }
 
+-- what a Feeder keeps is all that was fed since the last message, or what was fed then has this fault
 abbrev pub IsSinceBy : Kind → List ℕ → Option HttpFault → List ℕ → Type 0
 IsSinceBy kind octets None since = (since ≡ octets) × Looks kind since Waits
 IsSinceBy kind octets (Some fault) since = Looks kind since (Fails fault)

@@ -22,6 +22,7 @@ pub record Head : Type 0 where
   pub status : ℕ
   pub fields : List (List ℕ × List ℕ)
 
+-- the parts of a request's head; it has no status
 abbrev pub of_request : RequestHead → Head
 of_request h = record {
   minor = h.minor;
@@ -31,6 +32,7 @@ of_request h = record {
   fields = map name_and_value h.fields;
 }
 
+-- the parts of a response's head; it has no method and no target
 abbrev pub of_response : ResponseHead → Head
 of_response h = record {
   minor = h.minor;

@@ -32,6 +32,7 @@ pub record IsEndStage (kept : List ℕ) (end : ℕ) (piece : List ℕ) : Type 0 
   pub short : length kept + end ≤ 8192
   pub within : end ≤ length piece
 
+-- what is known where a message isn't whole yet: in its head, or in its body with octets still to come
 abbrev pub IsStage : Kind → List ℕ → Stage → Type 0
 IsStage kind kept (InHead place) = IsHeadStage kept place
 IsStage kind kept (InBody n whole) = IsBodyStage kind kept n whole × (length kept < whole)

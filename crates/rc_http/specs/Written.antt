@@ -12,6 +12,7 @@ use Rattle.rc_http.specs.declared.message.Kind.TheVariants.{Request, Response}
 use Rattle.rc_http.specs.Heads.{fields_map, most_body}
 use Rattle.rc_http.specs.Looks.{most_head}
 
+-- the end of a line: CR and LF
 abbrev pub crlf : List ℕ
 crlf = 13 ∷ 10 ∷ []
 
@@ -32,6 +33,7 @@ named fields names = map (λ name. (name, value_in fields name)) names
 abbrev pub field_line : List ℕ × List ℕ → List ℕ
 field_line field = field.0 ++ (58 ∷ 32 ∷ field.1) ++ crlf
 
+-- the field lines, each with its end
 abbrev pub lines : List (List ℕ × List ℕ) → List ℕ
 lines fields = flat_map field_line fields
 
@@ -43,6 +45,7 @@ head_text start fields = start ++ crlf ++ lines fields ++ crlf
 abbrev pub request_line : HttpMessage → List ℕ
 request_line m = m.method ++ 32 ∷ m.target ++ codes " HTTP/1.1"
 
+-- what a request with a body says of it: its type and length; one without a body says nothing
 abbrev pub sent_names : List ℕ → List (List ℕ)
 sent_names [] = []
 sent_names (b ∷ body) = codes "Content-Type" ∷ codes "Content-Length" ∷ []
@@ -51,9 +54,11 @@ sent_names (b ∷ body) = codes "Content-Type" ∷ codes "Content-Length" ∷ []
 abbrev pub request_names : List ℕ → List (List ℕ)
 request_names body = codes "Host" ∷ sent_names body
 
+-- the fields of a request as they are written
 abbrev pub request_fields : HttpMessage → List (List ℕ × List ℕ)
 request_fields m = named m.fields (request_names m.body)
 
+-- the head of a request, with the empty line behind it
 abbrev pub request_head : HttpMessage → List ℕ
 request_head m = head_text (request_line m) (request_fields m)
 
@@ -74,9 +79,11 @@ abbrev pub text_at : ℕ → List (ℕ × List ℕ) → Option (List ℕ)
 text_at n [] = None
 text_at n (row ∷ rows) = if n == row.0 then Some row.1 else text_at n rows
 
+-- the code and reason phrase of a status, where a response may have it
 abbrev pub status_text : ℕ → Option (List ℕ)
 status_text n = text_at n statuses
 
+-- the text, or no octets
 abbrev pub text_or_none : Option (List ℕ) → List ℕ
 text_or_none None = []
 text_or_none (Some text) = text
@@ -85,13 +92,16 @@ text_or_none (Some text) = text
 abbrev pub status_line : ℕ → List ℕ
 status_line n = codes "HTTP/1.1 " ++ text_or_none (status_text n)
 
+-- a 204 tells no length, every other response does (RFC 9110 section 8.6)
 abbrev pub length_names : ℕ → List (List ℕ)
 length_names n = if n == 204 then [] else codes "Content-Length" ∷ []
 
+-- a body has its type
 abbrev pub type_names : List ℕ → List (List ℕ)
 type_names [] = []
 type_names (b ∷ body) = codes "Content-Type" ∷ []
 
+-- a 201 tells the location of what was made, a 405 the methods that are allowed (RFC 9110 sections 15.3.2 and 15.5.6)
 abbrev pub own_names : ℕ → List (List ℕ)
 own_names n = if n == 201 then codes "Location" ∷ [] else if n == 405 then codes "Allow" ∷ [] else []
 
@@ -99,9 +109,11 @@ own_names n = if n == 201 then codes "Location" ∷ [] else if n == 405 then cod
 abbrev pub response_names : ℕ → List ℕ → List (List ℕ)
 response_names n body = length_names n ++ type_names body ++ own_names n
 
+-- the fields of a response as they are written
 abbrev pub response_fields : HttpMessage → List (List ℕ × List ℕ)
 response_fields m = named m.fields (response_names m.status m.body)
 
+-- the head of a response, with the empty line behind it
 abbrev pub response_head : HttpMessage → List ℕ
 response_head m = head_text (status_line m.status) (response_fields m)
 
@@ -124,6 +136,7 @@ is_value v = list_all (λ b. nat_le 32 b && nat_le b 126) v && is_unspaced v && 
 abbrev pub is_method : List ℕ → Bool
 is_method method = nat_lt 0 (length method) && nat_le (length method) 16 && list_all is_ascii_uppercase method
 
+-- what may stand in a request target as it is written here: letters, digits, and octets of a path or a query
 abbrev pub is_target_octet : ℕ → Bool
 is_target_octet b = is_ascii_alphanumeric b || list_any (λ c. c == b) (codes "/-._~%:=?&")
 
@@ -167,5 +180,6 @@ pub record IsWritableResponse (m : HttpMessage) : Type 0 where
 abbrev pub request_again : HttpMessage → HttpMessage
 request_again m = record m { fields = fields_map (request_fields m) }
 
+-- the same of a response
 abbrev pub response_again : HttpMessage → HttpMessage
 response_again m = record m { fields = fields_map (response_fields m) }

@@ -1,3 +1,4 @@
+// Messages from octets that come in pieces.
 ghost use Rattle.std.specs.Prelude.{◌≡◌, ℕ, List, Err};
 ghost use Rattle.ikl_base.specs.declared.fault.OrMemory.TheVariants as failures;
 ghost use Rattle.rc_http.specs.declared.message.Kind.TheVariants.{Request, Response};

@@ -1,4 +1,7 @@
 //! HTTP/1.1 messages over octets (RFC 9112), read in any pieces and written.
+//!
+//! `specs/Looks.antt` has the definitions: what octets amount to. `specs/Heads.antt` says what a head says and `specs/Written.antt`
+//! what is written.
 #![tactic(auto)]
 
 mod advance;

@@ -1,3 +1,4 @@
+// Messages, and why octets are none.
 use http_header::{HeaderMap, HeaderValue};
 use ikl_base::Octets;
 
