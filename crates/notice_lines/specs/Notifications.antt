@@ -28,6 +28,7 @@ pub record IsAcquire (policy_name : List ℕ) (s : Selector) (d : Data) : Type 0
   pub selector : Needed (IsSelector s) (get (codes "traffic-selector") d)
   pub whole : IsWhole s
 
+-- the JSON value of a truth value
 abbrev pub IsTruth : Bool → Data → Type 0
 IsTruth b d = d ≡ boolean b
 
@@ -45,6 +46,7 @@ IsEvent (notices.Expire name soft current) d = IsExpiry name soft current d
 IsEvent (notices.SeqOverflow name) d = IsOnly (codes "ipsec-sa-name") (IsName is_sad_name name) d
 IsEvent (notices.BadSpi spi) d = IsOnly (codes "spi") (IsNumber 0 (2 ^ 32 - 1) spi) d
 
+-- any JSON string
 abbrev pub IsText : Data → Type 0
 IsText d = (t : List ℕ) × (d ≡ string t)
 
@@ -54,5 +56,6 @@ pub record IsEnvelope (n : Notice) (d : Data) : Type 0 where
   pub time : Needed IsText (get (codes "eventTime") d)
   pub event : Needed (IsEvent n) (get (event_name n) d)
 
+-- the notification of a notice: the object of its one envelope
 abbrev pub IsNotification : Notice → Data → Type 0
 IsNotification n d = IsOnly (codes "ietf-restconf:notification") (IsEnvelope n) d

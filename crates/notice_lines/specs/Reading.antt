@@ -33,6 +33,7 @@ pub record HasNotice (line : List ℕ) (n : Notice) : Type 0 where
   pub reads : read line ≡ Some value
   pub is : notice_in value ≡ Ok n
 
+-- the line is no notification of any notice
 abbrev pub HasNone : List ℕ → Type 0
 HasNone line = (n : Notice) → HasNotice line n → ⊥
 
@@ -50,15 +51,18 @@ pub data Begins : Type 0 where
   Long : Begins
   Ends : (n : ℕ) → Begins
 
+-- the same, by where the first LF is and how many octets came
 abbrev pub begins_by : Option ℕ → ℕ → Begins
 begins_by None size = if nat_le size 4096 then Open else Long
 begins_by (Some n) size = if nat_le n 4096 then Ends n else Long
 
+-- how these octets begin, which came after the last line
 unfoldable pub begins : List ℕ → Begins
 begins octets = begins_by (line_end octets) (length octets)
 
 -- ---- pieces that come one after the other
 
+-- the first one that isn't open
 abbrev pub unless_open : Begins → Begins → Begins
 unless_open Open later = later
 unless_open b later = b
@@ -80,6 +84,7 @@ pub record Reading : Type 0 where
   pub fault : Option NoticeFault
   pub kept : List ℕ
 
+-- a reader that keeps these octets and has answered no fault
 abbrev pub kept_only : List ℕ → Reading
 kept_only octets = record { fault = None; kept = octets }
 

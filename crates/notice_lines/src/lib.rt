@@ -1,4 +1,6 @@
 //! Notifications of a gateway as lines of JSON (RFC 8040 section 6.4, RFC 7951), written and read again in any pieces.
+//!
+//! `specs/Notifications.antt` has the definitions: which value is the notification of which notice. `specs/Reading.antt` has the lines.
 #![tactic(auto)]
 
 mod envelope;

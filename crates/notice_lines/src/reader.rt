@@ -1,3 +1,4 @@
+// Lines of notices from octets that come in pieces.
 ghost use Rattle.std.specs.Prelude.{◌≡◌, ◌≤◌, [], None, Some, length};
 ghost use Rattle.notice_lines.specs.Reading.{Reading, kept_only, line_end, GivesNext, FeedGives};
 
