@@ -1,3 +1,4 @@
+// A notice that is written, heard in pieces, and lines that are none.
 use ikeless_tree::{Limits, Notice};
 use ikl_base::{Name, NoMemory, Octets, OrMemory};
 use notice_lines::{Heard, LineReader, NoticeFault, write_notice};
