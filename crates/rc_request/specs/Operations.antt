@@ -8,12 +8,14 @@ use Rattle.rc_request.specs.declared.operation.Operation.TheVariants as operatio
 use Rattle.rc_request.specs.declared.resource.Resource.{Resource}
 use Rattle.rc_request.specs.declared.resource.Resource.TheVariants as resources
 
+-- the method as the request line has it (RFC 9110 section 9.3)
 abbrev pub method_text : Method → List ℕ
 method_text methods.Get = codes "GET"
 method_text methods.Put = codes "PUT"
 method_text methods.Post = codes "POST"
 method_text methods.Delete = codes "DELETE"
 
+-- the method of a token; any other has none
 unfoldable pub method_of : List ℕ → Option Method
 method_of text =
     if bytes_eq text (method_text methods.Get) then Some methods.Get
@@ -22,24 +24,28 @@ method_of text =
     else if bytes_eq text (method_text methods.Delete) then Some methods.Delete
     else None
 
+-- of the list of all policies: it is read, replaced, and an entry added to it
 abbrev pub on_spd : Method → Option Operation
 on_spd methods.Get = Some operations.GetSpd
 on_spd methods.Put = Some operations.PutSpd
 on_spd methods.Post = Some operations.PostSpd
 on_spd methods.Delete = None
 
+-- of one policy: it is read, put and removed
 abbrev pub on_spd_entry : List ℕ → Method → Option Operation
 on_spd_entry name methods.Get = Some (operations.GetSpdEntry name)
 on_spd_entry name methods.Put = Some (operations.PutSpdEntry name)
 on_spd_entry name methods.Post = None
 on_spd_entry name methods.Delete = Some (operations.DeleteSpdEntry name)
 
+-- of the list of all halves: it is read, and a half added to it
 abbrev pub on_sad : Method → Option Operation
 on_sad methods.Get = Some operations.GetSad
 on_sad methods.Put = None
 on_sad methods.Post = Some operations.PostSad
 on_sad methods.Delete = None
 
+-- of one half: it is read and removed, and never replaced
 abbrev pub on_sad_entry : List ℕ → Method → Option Operation
 on_sad_entry name methods.Get = Some (operations.GetSadEntry name)
 on_sad_entry name methods.Put = None
@@ -53,6 +59,7 @@ operation_of (resources.SpdEntry name) method = on_spd_entry name method
 operation_of resources.Sad method = on_sad method
 operation_of (resources.SadEntry name) method = on_sad_entry name method
 
+-- the same of a token that may be no method
 abbrev pub operation_by : Resource → Option Method → Option Operation
 operation_by r None = None
 operation_by r (Some method) = operation_of r method

@@ -45,10 +45,12 @@ database_at text =
     else if bytes_eq text (codes "/sad") then Some resources.Sad
     else None
 
+-- a half by its key, or what the path is else
 abbrev pub or_half : List ℕ → Option (List ℕ) → Option Resource
 or_half text (Some key) = option_map resources.SadEntry (key_of is_sad_name key)
 or_half text None = database_at text
 
+-- a policy by its key, or what the path is else
 abbrev pub or_policy : List ℕ → Option (List ℕ) → Option Resource
 or_policy text (Some key) = option_map resources.SpdEntry (key_of is_spd_name key)
 or_policy text None = or_half text (after_front (codes "/sad/sad-entry=") text)
@@ -57,6 +59,7 @@ or_policy text None = or_half text (after_front (codes "/sad/sad-entry=") text)
 abbrev pub resource_in : List ℕ → Option Resource
 resource_in text = or_policy text (after_front (codes "/spd/spd-entry=") text)
 
+-- the resource of what stands behind the container's path, where the path has it
 abbrev pub in_container : Option (List ℕ) → Option Resource
 in_container (Some text) = resource_in text
 in_container None = None
@@ -69,5 +72,6 @@ resource_of path = in_container (after_front (codes "/restconf/data/ietf-i2nsf-i
 abbrev pub policy_path : List ℕ → List ℕ
 policy_path name = codes "/restconf/data/ietf-i2nsf-ikeless:ipsec-ikeless/spd/spd-entry=" ++ escaped name
 
+-- the path that is written for an entry of the halves
 abbrev pub half_path : List ℕ → List ℕ
 half_path name = codes "/restconf/data/ietf-i2nsf-ikeless:ipsec-ikeless/sad/sad-entry=" ++ escaped name

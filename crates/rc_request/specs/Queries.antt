@@ -27,6 +27,7 @@ abbrev pub behind_mark : ℕ → List ℕ → Option (List ℕ)
 behind_mark mark text =
     if nat_lt (position_or_len (λ c. c == mark) text) (length text) then Some (after_first (λ c. c == mark) text) else None
 
+-- a query before its parameters are read
 abbrev pub no_parameters : Parameters
 no_parameters = record { insert = None; point = None }
 
@@ -35,6 +36,7 @@ abbrev pub with_insert : Parameters → List ℕ → Option (List ℕ) → Optio
 with_insert found value None = Some (record { insert = Some value; point = found.point })
 with_insert found value (Some earlier) = None
 
+-- the same of `point`
 abbrev pub with_point : Parameters → List ℕ → Option (List ℕ) → Option Parameters
 with_point found value None = Some (record { insert = found.insert; point = Some value })
 with_point found value (Some earlier) = None
@@ -51,6 +53,7 @@ with_value found name (Some value) =
 unfoldable pub with_parameter : Parameters → List ℕ → Option Parameters
 with_parameter found text = with_value found (before_mark 61 text) (behind_mark 61 text)
 
+-- all these parameters more, or none where one of them is wrong
 abbrev pub with_parameters : Parameters → List (List ℕ) → Option Parameters
 with_parameters found [] = Some found
 with_parameters found (text ∷ texts) = option_and_then (λ more. with_parameters more texts) (with_parameter found text)
@@ -61,14 +64,17 @@ parameters_of query = with_parameters no_parameters (slice_split (λ c. c == 38)
 
 -- ---- places
 
+-- the policy's name of a list key
 abbrev pub key_in : Option (List ℕ) → Option (List ℕ)
 key_in None = None
 key_in (Some key) = key_of is_spd_name key
 
+-- the policy of a path that begins with the module's container
 abbrev pub in_short : Option (List ℕ) → Option (List ℕ)
 in_short None = None
 in_short (Some text) = key_in (after_front (codes "/spd/spd-entry=") text)
 
+-- the policy of a path with `/restconf/data` before the container, or without it
 abbrev pub in_either : List ℕ → Option (List ℕ) → Option (List ℕ)
 in_either path (Some text) = key_in (after_front (codes "/spd/spd-entry=") text)
 in_either path None = in_short (after_front (codes "/ietf-i2nsf-ikeless:ipsec-ikeless") path)
@@ -77,6 +83,7 @@ in_either path None = in_short (after_front (codes "/ietf-i2nsf-ikeless:ipsec-ik
 unfoldable pub policy_at : List ℕ → Option (List ℕ)
 policy_at path = in_either path (after_front (codes "/restconf/data/ietf-i2nsf-ikeless:ipsec-ikeless") path)
 
+-- the policy of a point, where there is one
 abbrev pub pointed : Option (List ℕ) → Option (List ℕ)
 pointed None = None
 pointed (Some path) = policy_at path
@@ -86,6 +93,7 @@ abbrev pub alone : Place → Option (List ℕ) → Option Place
 alone place None = Some place
 alone place (Some path) = None
 
+-- the place of a value of `insert`: `before` and `after` need a point, `first` and `last` have none
 unfoldable pub place_for : List ℕ → Option (List ℕ) → Option Place
 place_for insert point =
     if bytes_eq insert (codes "first") then alone places.First point
@@ -94,10 +102,12 @@ place_for insert point =
     else if bytes_eq insert (codes "after") then option_map places.After (pointed point)
     else None
 
+-- without `insert` the place is the last, and there is no point
 abbrev pub place_by : Option (List ℕ) → Option (List ℕ) → Option Place
 place_by None point = alone places.Last point
 place_by (Some insert) point = place_for insert point
 
+-- the place that parameters say, if they are right
 abbrev pub place_in : Option Parameters → Option Place
 place_in None = None
 place_in (Some found) = place_by found.insert found.point

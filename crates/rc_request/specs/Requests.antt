@@ -26,6 +26,7 @@ use Rattle.rc_request.specs.Operations.{method_of, operation_by, allow_text}
 
 -- ---- refusals
 
+-- a refusal without a pointer into a body and without methods that are allowed
 abbrev pub plain_error : ℕ → Tag → App → RcError
 plain_error status tag app = record { status = status; tag = tag; app = app; path = None; allow = [] }
 
@@ -36,12 +37,15 @@ no_message faults.Version = plain_error 400 tags.MalformedMessage apps.Form
 no_message faults.Chunked = plain_error 501 tags.OperationNotSupported apps.Chunked
 no_message faults.TooBig = plain_error 413 tags.TooBig apps.Size
 
+-- the path is that of no resource
 abbrev pub no_resource : RcError
 no_resource = plain_error 404 tags.InvalidValue apps.Path
 
+-- the resource hasn't this method; these it has
 abbrev pub no_method : List ℕ → RcError
 no_method allow = record { status = 405; tag = tags.OperationNotSupported; app = apps.Method; path = None; allow = allow }
 
+-- a query where there may be none, or one that says no place
 abbrev pub bad_query : RcError
 bad_query = plain_error 400 tags.InvalidValue apps.Query
 
@@ -49,23 +53,28 @@ bad_query = plain_error 400 tags.InvalidValue apps.Query
 abbrev pub other_name : RcError
 other_name = plain_error 400 tags.InvalidValue apps.Name
 
+-- the status for a fault of a body: 409 where it has too many entries, else 400
 abbrev pub body_status : App → ℕ
 body_status apps.Full = 409
 body_status app = 400
 
+-- the refusal of a body with this fault
 abbrev pub of_body : CodecFault → RcError
 of_body f = record { status = body_status f.app; tag = f.tag; app = f.app; path = f.path; allow = [] }
 
 -- ---- bodies
 
+-- what is asked with the value of a body
 abbrev pub asked : {A : Type 0} → (A → Ask) → Result A CodecFault → Result Ask RcError
 asked ask (Ok x) = Ok (ask x)
 asked ask (Err f) = Err (of_body f)
 
+-- a policy is put at the path of its own name
 abbrev pub if_named : List ℕ → Result SpdEntry CodecFault → Result Ask RcError
 if_named name (Ok e) = if bytes_eq e.name name then Ok (asks.PutSpdEntry e) else Err other_name
 if_named name (Err f) = Err (of_body f)
 
+-- a new policy at this place
 abbrev pub posted : Place → Result SpdEntry CodecFault → Result Ask RcError
 posted place (Ok e) = Ok (asks.PostSpd e place)
 posted place (Err f) = Err (of_body f)
@@ -85,10 +94,12 @@ plain_ask (operations.DeleteSad name) body = Ok (asks.DeleteSad name)
 
 -- ---- queries
 
+-- a new policy at the place that a query says
 abbrev pub at_place : Option Place → List ℕ → Result Ask RcError
 at_place None body = Err bad_query
 at_place (Some place) body = posted place (spd_entry_of body)
 
+-- what is asked by a request that may have no query
 abbrev pub unless_query : Operation → Option (List ℕ) → List ℕ → Result Ask RcError
 unless_query op None body = plain_ask op body
 unless_query op (Some query) body = Err bad_query
@@ -100,13 +111,16 @@ ask_by op query body = unless_query op query body
 
 -- ---- requests
 
+-- what is asked of a resource by a method that it may lack; the query stands behind `?`
 abbrev pub by_operation : Resource → Option Operation → HttpMessage → Result Ask RcError
 by_operation r None m = Err (no_method (allow_text r))
 by_operation r (Some op) m = ask_by op (behind_mark 63 m.target) m.body
 
+-- what is asked of a resource
 abbrev pub on_resource : Resource → HttpMessage → Result Ask RcError
 on_resource r m = by_operation r (operation_by r (method_of m.method)) m
 
+-- what is asked at a path that may be that of no resource
 abbrev pub by_resource : Option Resource → HttpMessage → Result Ask RcError
 by_resource None m = Err no_resource
 by_resource (Some r) m = on_resource r m

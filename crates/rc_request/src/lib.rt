@@ -1,4 +1,6 @@
 //! Requests of RESTCONF (RFC 8040) to the databases of a gateway, read and typed, and the paths of their entries.
+//!
+//! `specs/Requests.antt` has the definition: `request_of`, what a request asks, or its first fault.
 #![tactic(auto)]
 
 mod error;
