@@ -1,4 +1,6 @@
 //! The answers to orders, read from responses of RESTCONF (RFC 8040), and the tags of their errors.
+//!
+//! `specs/Answers.antt` has the definition: `answer_of`.
 #![tactic(auto)]
 
 mod answer;
