@@ -27,6 +27,7 @@ abbrev pub with_message : Option (List ℕ) → Members → Members
 with_message None ms = ms
 with_message (Some pointer) ms = put (codes "error-message") (string (codes "at " ++ pointer)) ms
 
+-- one error: its app tag, perhaps a message, its tag and its type
 abbrev pub error_item : App → Option (List ℕ) → Tag → Data
 error_item app path tag = object (put (codes "error-app-tag") (string (app_text app))
     (with_message path

@@ -15,6 +15,7 @@ abbrev pub AreApart : {X : Type 0} → (X → List ℕ) → List X → Type 0
 AreApart name [] = Unit {0}
 AreApart name (x ∷ xs) = (list_any (λ y. bytes_eq (name y) (name x)) xs ≡ false) × AreApart name xs
 
+-- no two halves have one name
 abbrev pub AreDistinct : List SadRow → Type 0
 AreDistinct rows = AreApart (λ r. r.entry.name) rows
 

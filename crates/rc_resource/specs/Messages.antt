@@ -21,9 +21,11 @@ use Rattle.rc_request.specs.Paths.{half_path}
 abbrev pub field : List ℕ → List ℕ → List ℕ × List ℕ
 field name value = (name, value)
 
+-- bodies are JSON of YANG data (RFC 8040 section 5.2)
 abbrev pub type_field : List ℕ × List ℕ
 type_field = field (codes "Content-Type") (codes "application/yang-data+json")
 
+-- how many octets the body has
 abbrev pub length_field : List ℕ → List ℕ × List ℕ
 length_field body = field (codes "Content-Length") (decimal (length body))
 
@@ -38,21 +40,25 @@ host_text (V6 octets) = 91 ∷ address_text (V6 octets) ++ 93 ∷ []
 abbrev pub body_fields : List ℕ → List (List ℕ × List ℕ)
 body_fields body = if length body == 0 then [] else type_field ∷ length_field body ∷ []
 
+-- the fields of a request to this host with this body
 abbrev pub request_fields : List ℕ → List ℕ → List (List ℕ × List ℕ)
 request_fields host body = field (codes "Host") host ∷ body_fields body
 
+-- the method of the request that carries an order
 abbrev pub order_method : Order → List ℕ
 order_method orders.Read = codes "GET"
 order_method (orders.Policy list) = codes "PUT"
 order_method (orders.Put e) = codes "POST"
 order_method (orders.Remove name) = codes "DELETE"
 
+-- the path of what an order reads or changes
 abbrev pub order_target : Order → List ℕ
 order_target orders.Read = codes "/restconf/data/ietf-i2nsf-ikeless:ipsec-ikeless/sad"
 order_target (orders.Policy list) = codes "/restconf/data/ietf-i2nsf-ikeless:ipsec-ikeless/spd"
 order_target (orders.Put e) = codes "/restconf/data/ietf-i2nsf-ikeless:ipsec-ikeless/sad"
 order_target (orders.Remove name) = half_path name
 
+-- the list or the half that an order carries, as JSON without white space
 abbrev pub order_body : Order → List ℕ
 order_body orders.Read = []
 order_body (orders.Policy list) = compact_text (all_policies list)
@@ -78,15 +84,18 @@ IsOrder (orders.Remove name) = is_sad_name name ≡ true
 
 -- ---- responses
 
+-- the type of a body that is there
 abbrev pub if_type : List ℕ → List (List ℕ × List ℕ)
 if_type body = if length body == 0 then [] else type_field ∷ []
 
+-- where what was made is, or which methods are allowed
 abbrev pub own_field : Reply → List (List ℕ × List ℕ)
 own_field r =
     if r.status == 201 then field (codes "Location") r.location ∷ []
     else if r.status == 405 then field (codes "Allow") r.allow ∷ []
     else []
 
+-- the fields of a response; 204 has none
 abbrev pub response_fields : Reply → List (List ℕ × List ℕ)
 response_fields r =
     if r.status == 204 then []

@@ -13,11 +13,13 @@ use Rattle.rc_request.specs.declared.error.RcError.{RcError}
 use Rattle.rc_resource.specs.Errors.{error_data}
 use Rattle.rc_request.specs.Paths.{policy_path, half_path}
 
+-- the path of what a reply made, or no octets
 abbrev pub location_text : Location → List ℕ
 location_text Nowhere = []
 location_text (At_policy name) = policy_path name
 location_text (At_half name) = half_path name
 
+-- what a reply shows, as JSON without white space; halves are shown without their keys
 abbrev pub shown_text : Shown → List ℕ
 shown_text Nothing = []
 shown_text (Policies list) = compact_text (all_policies list)
@@ -62,8 +64,10 @@ plain_refusal status tag app = refusal (record { status = status; tag = tag; app
 abbrev pub shows_reply : List (List ℕ) → List ℕ → Reply
 shows_reply names body = record { status = 200; tag = None; names = names; location = []; allow = []; body = body; change = changes.Nothing }
 
+-- 201 for what was made, with its path
 abbrev pub made_reply : List ℕ → Change → Reply
 made_reply location change = record { status = 201; tag = None; names = []; location = location; allow = []; body = []; change = change }
 
+-- 204 for what was replaced or removed
 abbrev pub done_reply : Change → Reply
 done_reply change = record { status = 204; tag = None; names = []; location = []; allow = []; body = []; change = change }

@@ -1,4 +1,6 @@
 //! RESTCONF (RFC 8040) over the databases of a gateway: requests done and replied to, orders as requests, and their answers.
+//!
+//! `specs/Replies.antt` and `specs/Messages.antt` have the definitions: replies with their text, and the messages that carry them.
 #![tactic(auto)]
 
 mod error;
