@@ -1,3 +1,4 @@
+// Orders with their answers, over the requests and responses that carry them.
 ghost use Rattle.rc_resource.specs.Lists.{IsTree};
 
 use http_header::HeaderMap;

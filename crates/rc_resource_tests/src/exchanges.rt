@@ -1,3 +1,4 @@
+// Requests with their replies, one after another.
 ghost use Rattle.rc_resource.specs.Lists.{IsTree};
 
 use http_header::HeaderMap;
