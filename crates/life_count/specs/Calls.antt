@@ -19,11 +19,13 @@ octets_of [] = 0
 octets_of (Use size now ∷ h) = octets_of h + size
 octets_of (_ ∷ h) = octets_of h
 
+-- how many uses there were
 abbrev pub uses_of : List Call → ℕ
 uses_of [] = 0
 uses_of (Use size now ∷ h) = uses_of h + 1
 uses_of (_ ∷ h) = uses_of h
 
+-- the clock at the last use, or at the installation where there was none
 abbrev pub last_use : ℕ → List Call → ℕ
 last_use installed [] = installed
 last_use installed (Use size now ∷ h) = now
@@ -49,16 +51,19 @@ told_by hard soft installed h Session = events.Nothing
 
 -- ---- one call after another
 
+-- what is kept after one call
 abbrev pub next_life : Lifetime → Call → Lifetime
 next_life l (Use size now) = looked now (counted size now l)
 next_life l (Tick now) = looked now l
 next_life l Session = with_told false l
 
+-- what one call tells, by what is kept
 abbrev pub next_event : Lifetime → Call → LifeEvent
 next_event l (Use size now) = event_at now (counted size now l)
 next_event l (Tick now) = event_at now l
 next_event l Session = events.Nothing
 
+-- what is kept after all these calls, from the installation on
 abbrev pub life_after : Limits → Limits → ℕ → List Call → Lifetime
 life_after hard soft installed [] = begun hard soft installed
 life_after hard soft installed (c ∷ h) = next_life (life_after hard soft installed h) c

@@ -12,9 +12,11 @@ use Rattle.life_count.specs.declared.event.LifeEvent.TheVariants as events
 abbrev pub cut : ℕ → ℕ → ℕ
 cut most n = if nat_le n most then n else most
 
+-- a count of 32 bits
 abbrev pub cut_32 : ℕ → ℕ
 cut_32 n = cut 4294967295 n
 
+-- a count of 64 bits
 abbrev pub cut_64 : ℕ → ℕ
 cut_64 n = cut 18446744073709551615 n
 
@@ -33,6 +35,7 @@ counts_at now installed used octets times = record {
 abbrev pub reaches : ℕ → ℕ → Bool
 reaches limit count = not (limit == 0) && nat_le limit count
 
+-- one of the four counts, seconds, octets, packets or seconds idle, reaches its limit
 abbrev pub is_reached : Limits → Limits → Bool
 is_reached limits c = reaches limits.time c.time || (reaches limits.bytes c.bytes || (reaches limits.packets c.packets || reaches limits.idle c.idle))
 
@@ -40,10 +43,12 @@ is_reached limits c = reaches limits.time c.time || (reaches limits.bytes c.byte
 abbrev pub event_by : Limits → Limits → Bool → Limits → LifeEvent
 event_by hard soft is_told c = if is_reached hard c then events.Hard else if is_reached soft c && not is_told then events.Soft else events.Nothing
 
+-- a hard limit is reached
 abbrev pub is_hard : LifeEvent → Bool
 is_hard events.Hard = true
 is_hard _ = false
 
+-- a soft limit is reached, and is to be told
 abbrev pub is_soft : LifeEvent → Bool
 is_soft events.Soft = true
 is_soft _ = false
@@ -79,6 +84,7 @@ counts_of now l = record { time = cut_32 (now - l.installed); bytes = l.octets; 
 abbrev pub counted : ℕ → ℕ → Lifetime → Lifetime
 counted size now l = record l { used = now; octets = cut_64 (l.octets + size); packets = cut_32 (l.packets + 1) }
 
+-- with word whether a soft expiry stands that was told
 abbrev pub with_told : Bool → Lifetime → Lifetime
 with_told is_told l = record l { is_told = is_told }
 

@@ -1,3 +1,4 @@
+// The counts of one association, and the looks at its limits.
 ghost use Rattle.std.specs.Prelude.{◌≡◌};
 ghost use Rattle.life_count.specs.Lifetime.{reaches, is_reached};
 

@@ -1,3 +1,4 @@
+// Counts below, at and above each limit.
 use crate::event::LifeEvent;
 use crate::laws::looks_back;
 use crate::life::Life;
