@@ -13,6 +13,7 @@ abbrev pub later : ℕ → Option ℕ → Option ℕ → Option ℕ
 later k x (Some i) = Some (i + 1)
 later k x None = cond (is_key k x) (Some 0) None
 
+-- the last place at which the key stands, counted from 0
 abbrev pub last_place : ℕ → List (Option ℕ) → Option ℕ
 last_place k [] = None
 last_place k (x ∷ xs) = later k x (last_place k xs)

@@ -6,6 +6,7 @@ use Rattle.sad_store.specs.declared.fault.InstallFault.{InstallFault}
 use Rattle.sad_store.specs.declared.fault.InstallFault.TheVariants as faults
 use Rattle.sad_store.specs.Halves.{is_name_taken, is_spi_taken, is_full}
 
+-- its name comes first, then the SPI of an inbound one, then room
 abbrev pub install_fault : SadEntry → List Half → Option InstallFault
 install_fault e xs =
     if is_name_taken e xs then Some (faults.NameTaken e)

@@ -21,6 +21,7 @@ spi_key e = if is_inbound e.name then Some e.spi else None
 abbrev pub reqid_key : SadEntry → Option ℕ
 reqid_key e = if is_inbound e.name then None else Some e.reqid
 
+-- each column has, at the place of each half, its key or nothing
 pub record IsKept (xs : List Half) (spi_keys reqid_keys : List (Option ℕ)) : Type 0 where
   pub apart : are_names_apart (names_of xs) ≡ true
   pub spis : spi_keys ≡ map spi_key (entries_of xs)

@@ -1,3 +1,4 @@
+// Why a half isn't installed.
 use ikeless_tree::SadEntry;
 
 /// Why an association isn't installed. It is handed back.

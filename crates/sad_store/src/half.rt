@@ -1,3 +1,4 @@
+// One half as it is kept.
 use ikeless_tree::SadEntry;
 use life_count::Life;
 use replay_win::Window;

@@ -1,3 +1,4 @@
+// The halves at one gateway, with the indexes by which they are found.
 ghost use Rattle.std.specs.Prelude.{◌≡◌, ◌+◌, ◌<◌, ◌++◌, ◌∷◌, [], List, ℕ, None, Some, Ok, true, false, not, length, map, vec_len, vec_capacity, nat_lt, position, slice_get, option_and_then, IfOk, IfErr, OnOk, OnErr};
 ghost use Rattle.std.specs.Option.{option_map};
 ghost use Rattle.ip_packet.specs.View.{seen};
