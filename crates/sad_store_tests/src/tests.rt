@@ -1,3 +1,4 @@
+// Halves that are installed, found, counted and removed.
 use ikeless_tree::{Df, Limits, SadEntry, Selector, check_sad};
 use ikl_base::{Addr, ListOf, Name, NoMemory, Octets, Prefix};
 use ip_packet::view;
