@@ -12,12 +12,15 @@ use Rattle.store_law.specs.Calls.{Call, Install, Remove, Next_number, Mark, Use,
 
 -- ---- which halves are there
 
+-- the entry has this name
 abbrev pub is_entry_named : List ℕ → SadEntry → Bool
 is_entry_named name e = bytes_eq e.name name
 
+-- one of the entries has this name
 abbrev pub has_entry_named : List ℕ → List SadEntry → Bool
 has_entry_named name es = list_any (is_entry_named name) es
 
+-- the entry is inbound and has this SPI
 abbrev pub is_entry_of_spi : ℕ → SadEntry → Bool
 is_entry_of_spi spi e = is_inbound e.name && (e.spi == spi)
 
@@ -48,6 +51,7 @@ is_there name (Install e now ∷ h) = is_put e name h || is_there name h
 is_there name (Remove y ∷ h) = not (bytes_eq y name) && is_there name h
 is_there name (_ ∷ h) = is_there name h
 
+-- there is an entry, and it has this name
 abbrev pub is_named : List ℕ → Option SadEntry → Bool
 is_named name None = false
 is_named name (Some e) = bytes_eq e.name name
@@ -109,6 +113,7 @@ life_of h e = record {
   is_told = lives.was_told e.hard e.soft (installed_at e.name h) (befell e.name h);
 }
 
+-- the half of an entry that is there: all that befell it since its installation
 abbrev pub half_of : List Call → SadEntry → Half
 half_of h e = record {
   entry = e;
