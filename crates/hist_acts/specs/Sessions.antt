@@ -33,6 +33,7 @@ session_taken g (_ ∷ h) = session_taken g h
 abbrev pub is_session : List ℕ → ℕ → List ℕ → ℕ → Bool
 is_session f t g s = bytes_eq f g && (t == s)
 
+-- the session was cut, as the controller sees it
 abbrev pub was_cut : List ℕ → ℕ → List Act → Bool
 was_cut g s [] = false
 was_cut g s (acts.Cut f t ∷ h) = is_session f t g s || was_cut g s h
@@ -44,11 +45,13 @@ orders g s [] = 0
 orders g s (acts.Order f t k o ∷ h) = if is_session f t g s then orders g s h + 1 else orders g s h
 orders g s (_ ∷ h) = orders g s h
 
+-- how many requests of the session the gateway has answered; the last one has this number
 abbrev pub handled : List ℕ → ℕ → List Act → ℕ
 handled g s [] = 0
 handled g s (acts.Handled f t k a ∷ h) = if is_session f t g s then handled g s h + 1 else handled g s h
 handled g s (_ ∷ h) = handled g s h
 
+-- how many answers of the session the controller has heard; the last one has this number
 abbrev pub answered : List ℕ → ℕ → List Act → ℕ
 answered g s [] = 0
 answered g s (acts.Answered f t k a ∷ h) = if is_session f t g s then answered g s h + 1 else answered g s h
@@ -60,6 +63,7 @@ order_at g s k [] = None
 order_at g s k (acts.Order f t j o ∷ h) = if is_session f t g s && (j == k) then Some o else order_at g s k h
 order_at g s k (_ ∷ h) = order_at g s k h
 
+-- the answer with which the gateway handled the request with this number, whether it was heard or not
 abbrev pub answer_at : List ℕ → ℕ → ℕ → List Act → Option Answer
 answer_at g s k [] = None
 answer_at g s k (acts.Handled f t j a ∷ h) = if is_session f t g s && (j == k) then Some a else answer_at g s k h
@@ -84,9 +88,11 @@ orders_given g s (_ ∷ h) = orders_given g s h
 abbrev pub orders_answered : List ℕ → ℕ → List Act → List Order
 orders_answered g s h = take (answered g s h) (orders_given g s h)
 
+-- the orders of the session that still may be answered, oldest first
 abbrev pub orders_waiting : List ℕ → ℕ → List Act → List Order
 orders_waiting g s h = if was_cut g s h then [] else drop (answered g s h) (orders_given g s h)
 
+-- the orders of a session that was cut before their answers were heard; the gateway may have handled them
 abbrev pub orders_lost : List ℕ → ℕ → List Act → List Order
 orders_lost g s h = if was_cut g s h then drop (answered g s h) (orders_given g s h) else []
 
@@ -100,6 +106,7 @@ notices g s [] = []
 notices g s (acts.Notice f t n ∷ h) = if is_session f t g s then notices g s h ++ n ∷ [] else notices g s h
 notices g s (_ ∷ h) = notices g s h
 
+-- how many notices of the session the controller has heard
 abbrev pub notices_heard : List ℕ → ℕ → List Act → ℕ
 notices_heard g s [] = 0
 notices_heard g s (acts.Heard f t n ∷ h) = if is_session f t g s then notices_heard g s h + 1 else notices_heard g s h

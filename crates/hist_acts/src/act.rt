@@ -1,3 +1,4 @@
+// The lines of a transcript.
 use ikeless_tree::{Answer, DropWhy, Entries, GoneWhy, Lane, Notice, Order, Refusal, SadEntry};
 use ikl_base::{ListOf, Name, Octets};
 

@@ -1,3 +1,4 @@
+// The lines of a script.
 use ikeless_tree::{Entries, Lane, Peers, TunnelSpec};
 use ikl_base::{Name, Octets};
 
