@@ -48,6 +48,7 @@ is_live g x (acts.Gone f y w ∷ h) = not (is_half f y g x) && is_live g x h
 is_live g x (acts.Boot f ∷ h) = not (bytes_eq f g) && is_live g x h
 is_live g x (_ ∷ h) = is_live g x h
 
+-- the half is gone at a hard limit, and wasn't removed by an order
 abbrev pub is_hard : GoneWhy → Bool
 is_hard gone.Hard = true
 is_hard gone.Removed = false
@@ -67,6 +68,7 @@ sent g x (acts.Put f e ∷ h) = if is_half f e.name g x then 0 else sent g x h
 sent g x (acts.Sent f y n o ∷ h) = if is_half f y g x then sent g x h + 1 else sent g x h
 sent g x (_ ∷ h) = sent g x h
 
+-- the number that the half finds in ESP octets, where it has this name
 abbrev pub number_if : List ℕ → ℕ → List ℕ → Option SadEntry → Option ℕ
 number_if x top b None = None
 number_if x top b (Some e) = if bytes_eq e.name x then Some (number_from e top b) else None
@@ -80,6 +82,7 @@ abbrev pub arrival_number : List ℕ → List ℕ → List ℕ → List Act → 
 arrival_number g x numbers (acts.Arrived f o ∷ h) = if bytes_eq f g then number_for x (greatest numbers) (live g h) (esp_of o) else None
 arrival_number g x numbers _ = None
 
+-- the numbers with one more at the end, where there is one
 abbrev pub with_number : List ℕ → Option ℕ → List ℕ
 with_number numbers None = numbers
 with_number numbers (Some n) = numbers ++ n ∷ []

@@ -9,6 +9,7 @@ use Rattle.ikeless_tree.specs.declared.reply.DropWhy.TheVariants as why
 use Rattle.replay_win.specs.Marks.{greatest}
 use Rattle.esp_frame.specs.Esp.{seq_of}
 
+-- what follows the header of a packet; octets that are no packet have nothing
 abbrev pub payload_of : Result Packet NotPacket → List ℕ
 payload_of (Ok v) = v.payload
 payload_of (Err fault) = []
