@@ -20,6 +20,7 @@ is_arrival_answer (acts.Pass f o) = true
 is_arrival_answer (acts.Drop f w) = true
 is_arrival_answer _ = false
 
+-- an act that answers a packet or a datagram, from either side
 abbrev pub is_answer : Act → Bool
 is_answer (acts.Clear f o) = true
 is_answer (acts.Pass f o) = true
@@ -57,9 +58,11 @@ is_strange g (acts.Handled f s k a) = not (bytes_eq f g)
 is_strange g (acts.Notice f s n) = not (bytes_eq f g)
 is_strange g _ = true
 
+-- one of the acts is another gateway's, or no gateway's
 abbrev pub are_strange : List ℕ → List Act → Bool
 are_strange g xs = list_any (is_strange g) xs
 
+-- the event is a reading of the clock
 abbrev pub is_clock_reading : GatewayEvent → Bool
 is_clock_reading (Clock t) = true
 is_clock_reading _ = false

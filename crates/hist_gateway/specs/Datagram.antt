@@ -35,9 +35,11 @@ has_outer_df dfs.Clear v = false
 has_outer_df dfs.Set v = true
 has_outer_df dfs.Copy v = v.df
 
+-- the outer header between the ends of the half's tunnel, its identification the last 16 bits of the number
 abbrev pub outer_of : SadEntry → ℕ → Packet → ℕ → Outer
 outer_of e n v size = record { src = e.local; dst = e.remote; df = has_outer_df e.df v; id = n % 65536; payload = size }
 
+-- ESP octets behind their outer header
 abbrev pub wrapped : SadEntry → ℕ → Packet → List ℕ → List ℕ
 wrapped e n v b = outer_header (outer_of e n v (length b)) ++ b
 
@@ -54,6 +56,7 @@ whole a = record {
   cleared = is_clear_from-cleared (bits_of a) a;
 }
 
+-- the range of one port; a packet without ports has none
 abbrev pub one_port : Option ℕ → List Range
 one_port None = []
 one_port (Some port) = record { start = port; end = port } ∷ []

@@ -16,10 +16,12 @@ abbrev pub is_hard_end : List ℕ → Act → Bool
 is_hard_end x (acts.Gone f y w) = is_hard w && bytes_eq y x
 is_hard_end x _ = false
 
+-- the notice is that of a hard expiry of the half
 abbrev pub is_hard_notice : List ℕ → Notice → Bool
 is_hard_notice x (notices.Expire y is_soft c) = bytes_eq y x && not is_soft
 is_hard_notice x _ = false
 
+-- the notice is that of a soft expiry of the half
 abbrev pub is_soft_notice : List ℕ → Notice → Bool
 is_soft_notice x (notices.Expire y is_soft c) = bytes_eq y x && is_soft
 is_soft_notice x _ = false
@@ -29,6 +31,7 @@ abbrev pub is_hard_expiry : List ℕ → Act → Bool
 is_hard_expiry x (acts.Notice f s n) = is_hard_notice x n
 is_hard_expiry x _ = false
 
+-- a soft expiry of the half is told
 abbrev pub is_soft_expiry : List ℕ → Act → Bool
 is_soft_expiry x (acts.Notice f s n) = is_soft_notice x n
 is_soft_expiry x _ = false

@@ -17,12 +17,15 @@ pub record Fault : Type 0 where
   pub status : ℕ
   pub tag : Tag
 
+-- of a reply what a transcript has: status, tag and the names of the halves shown
 abbrev pub answer_of : Outcome → Answer
 answer_of r = record { status = r.status; tag = r.tag; names = r.names }
 
+-- the answer to a request that could not be read
 abbrev pub fault_answer : Fault → Answer
 fault_answer f = record { status = f.status; tag = Some f.tag; names = [] }
 
+-- what a reply changes, as an act: a list put in force, a half installed, or one removed
 abbrev pub change_acts : List ℕ → Outcome → Change → List Act
 change_acts g r changes.Nothing = []
 change_acts g r changes.Spd = acts.Policy g r.tree.spd ∷ []

@@ -19,6 +19,7 @@ use Rattle.hist_gateway.specs.Stands.{does_acquire_stand, was_overflow_given}
 use Rattle.hist_gateway.specs.Datagram.{fault_why, datagram, flow_of}
 use Rattle.hist_gateway.specs.Look.{look, tells}
 
+-- the newest half for the packet: one among the later halves, or else this one
 abbrev pub newer : ℕ → Packet → SadEntry → Option SadEntry → Option SadEntry
 newer reqid v e (Some x) = Some x
 newer reqid v e None = if may_seal reqid v e then Some e else None
@@ -28,6 +29,7 @@ abbrev pub newest : ℕ → Packet → List SadEntry → Option SadEntry
 newest reqid v [] = None
 newest reqid v (e ∷ es) = newer reqid v e (newest reqid v es)
 
+-- nothing where this holds, else these acts
 abbrev pub unless : Bool → List Act → List Act
 unless true xs = []
 unless false xs = xs
@@ -36,21 +38,25 @@ unless false xs = xs
 abbrev pub send_acts : List ℕ → List Act → SadEntry → ℕ → List ℕ → List Act
 send_acts g h e n d = acts.Sent g e.name n d ∷ look g (acts.Sent g e.name n d ∷ h) (e ∷ [])
 
+-- a half seals the packet while its numbers last; where there is no half or no number, that is told unless it stands
 abbrev pub let_by_half : List ℕ → ℕ → List Act → List ℕ → Packet → SpdEntry → Option SadEntry → List Act
 let_by_half g seq_last h o v p None = acts.Drop g why.NoSa ∷ unless (does_acquire_stand g p.name h) (tells g h (notices.Acquire p.name (flow_of v)))
 let_by_half g seq_last h o v p (Some e) =
     if nat_le seq_last (sent g e.name h) then acts.Drop g why.SeqLimit ∷ unless (was_overflow_given g e.name h) (tells g h (notices.SeqOverflow e.name))
     else send_acts g h e (sent g e.name h + 1) (datagram e (sent g e.name h + 1) v o)
 
+-- what is done with a packet by the action of its policy (RFC 4301 section 5.1)
 abbrev pub let_by_action : List ℕ → ℕ → List Act → List ℕ → Packet → SpdEntry → Action → List Act
 let_by_action g seq_last h o v p actions.Protect = let_by_half g seq_last h o v p (newest p.reqid v (live g h))
 let_by_action g seq_last h o v p actions.Bypass = acts.Clear g o ∷ []
 let_by_action g seq_last h o v p actions.Discard = acts.Drop g why.Discard ∷ []
 
+-- the first entry in force that holds the packet; where none does, it is dropped (RFC 4301 section 4.4.1)
 abbrev pub let_by_entry : List ℕ → ℕ → List Act → List ℕ → Packet → Option SpdEntry → List Act
 let_by_entry g seq_last h o v None = acts.Drop g why.NoPolicy ∷ []
 let_by_entry g seq_last h o v (Some p) = let_by_action g seq_last h o v p p.action
 
+-- octets that are no packet, or more than 65,000, are dropped
 abbrev pub let_by_view : List ℕ → ℕ → List Act → List ℕ → Result Packet NotPacket → List Act
 let_by_view g seq_last h o (Err fault) = acts.Drop g (fault_why fault) ∷ []
 let_by_view g seq_last h o (Ok v) = if nat_lt 65000 (length o) then acts.Drop g why.TooLong ∷ [] else let_by_entry g seq_last h o v (first_entry (force g h) Out v)

@@ -16,6 +16,7 @@ use Rattle.hist_gateway.specs.Stands.{was_soft_given}
 abbrev pub event_of : List ℕ → List Act → SadEntry → LifeEvent
 event_of g h e = event_by e.hard e.soft (was_soft_given g e.name h) (counts g e.name h)
 
+-- notices in this session, in this order
 abbrev pub given_by : List ℕ → ℕ → List Notice → List Act
 given_by g s [] = []
 given_by g s (n ∷ ns) = acts.Notice g s n ∷ given_by g s ns
@@ -29,6 +30,7 @@ abbrev pub goings : List ℕ → List Act → List SadEntry → List Act
 goings g h [] = []
 goings g h (e ∷ es) = if is_reached e.hard (counts g e.name h) then acts.Gone g e.name gone.Hard ∷ goings g h es else goings g h es
 
+-- the notices of these halves: the hard and the soft expiries at this look
 abbrev pub expiries : List ℕ → List Act → List SadEntry → List Act
 expiries g h [] = []
 expiries g h (e ∷ es) = given_by g (sessions.session_taken g h) (expiry e.name (counts g e.name h) (event_of g h e)) ++ expiries g h es

@@ -166,10 +166,12 @@ IsNumbered g h (acts.Handled f s k a) = bytes_eq f g ≡ true → s ≡ sessions
 IsNumbered g h (acts.Boot f) = bytes_eq f g ≡ true → sessions.handled g 0 h ≡ 0
 IsNumbered g h _ = Unit {0}
 
+-- the act is a restart, of whatever gateway
 abbrev pub is_boot : Act → Bool
 is_boot (acts.Boot f) = true
 is_boot _ = false
 
+-- so did each act of a past
 abbrev pub AreNumbered : List ℕ → List Act → Type 0
 AreNumbered g [] = Unit {0}
 AreNumbered g (a ∷ h) = IsNumbered g h a × AreNumbered g h
@@ -181,9 +183,11 @@ abbrev pub are_apart : List SadEntry → Bool
 are_apart [] = true
 are_apart (e ∷ es) = not (has_half e.name es) && are_apart es
 
+-- one of the halves is inbound and has this SPI
 abbrev pub has_inbound_spi : ℕ → List SadEntry → Bool
 has_inbound_spi spi es = list_any (λ x. is_inbound x.name && (x.spi == spi)) es
 
+-- no two inbound halves have one SPI
 abbrev pub are_spis_apart : List SadEntry → Bool
 are_spis_apart [] = true
 are_spis_apart (e ∷ es) = not (is_inbound e.name && has_inbound_spi e.spi es) && are_spis_apart es
@@ -193,6 +197,7 @@ abbrev pub ArePut : List ℕ → List Act → List SadEntry → Type 0
 ArePut g h [] = Unit {0}
 ArePut g h (e ∷ es) = (put_of g e.name h ≡ Some e) × ArePut g h es
 
+-- the live halves: each as it was installed last, no name and no inbound SPI twice, and 4,096 at most
 pub record AreHalves (g : List ℕ) (h : List Act) : Type 0 where
   pub put : ArePut g h (live g h)
   pub apart : are_apart (live g h) ≡ true

@@ -69,10 +69,12 @@ pub record LacksSpi (c : Gateway) (h : List Act) (o : List ℕ) (spi : ℕ) : Ty
   pub none : by_spi (spi_of packet.payload) (live c.name h) ≡ None
   pub named : spi_of packet.payload ≡ spi
 
+-- the event is a packet from inside
 abbrev pub is_let : GatewayEvent → Bool
 is_let (Let o) = true
 is_let _ = false
 
+-- the event is a datagram from outside
 abbrev pub is_arrive : GatewayEvent → Bool
 is_arrive (Arrive o) = true
 is_arrive _ = false
@@ -93,5 +95,6 @@ is_reached_in reaches g x h (a ∷ more) = (is_looked_at g x a h && list_any (re
 abbrev pub is_hard_reached_in : List ℕ → List ℕ → List Act → List Act → Bool
 is_hard_reached_in g x h more = is_reached_in (λ k. reaches_hard g k x) g x h more
 
+-- at a look at the half a soft limit is reached, no hard one, and no soft expiry of it stands
 abbrev pub is_soft_reached_in : List ℕ → List ℕ → List Act → List Act → Bool
 is_soft_reached_in g x h more = is_reached_in (λ k. reaches_soft g k x) g x h more

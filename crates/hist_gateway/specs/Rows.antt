@@ -14,6 +14,7 @@ use Rattle.hist_gateway.specs.Uses.{counts}
 abbrev pub last_sequence : List ℕ → List Act → SadEntry → ℕ
 last_sequence g h e = if is_inbound e.name then greatest (numbers_taken g e.name h) else sent g e.name h
 
+-- a half as a request sees it, with its counts and its last number
 abbrev pub row_of : List ℕ → List Act → SadEntry → SadRow
 row_of g h e = record { entry = e; state = record { current = counts g e.name h; top = last_sequence g h e } }
 

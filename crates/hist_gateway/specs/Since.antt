@@ -29,6 +29,7 @@ is_fresh_start g (acts.Opened f s) = bytes_eq f g
 is_fresh_start g (acts.Boot f) = bytes_eq f g
 is_fresh_start g _ = false
 
+-- the notice tells an SPI, whichever
 abbrev pub is_any_bad_spi : Notice → Bool
 is_any_bad_spi (notices.BadSpi spi) = true
 is_any_bad_spi _ = false

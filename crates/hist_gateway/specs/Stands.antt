@@ -13,14 +13,17 @@ use Rattle.hist_acts.specs.declared.act.Act.TheVariants as acts
 use Rattle.hist_acts.specs.Past.{force}
 use Rattle.hist_halves.specs.Halves.{is_half, is_live}
 
+-- the notice is an acquire for the policy of this name
 abbrev pub is_acquire_of : List ℕ → Notice → Bool
 is_acquire_of name (notices.Acquire policy selector) = bytes_eq policy name
 is_acquire_of name _ = false
 
+-- the notice is a soft expiry of this half
 abbrev pub is_soft_of : List ℕ → Notice → Bool
 is_soft_of x (notices.Expire y soft counts) = soft && bytes_eq y x
 is_soft_of x _ = false
 
+-- the notice is an overflow of this half
 abbrev pub is_overflow_of : List ℕ → Notice → Bool
 is_overflow_of x (notices.SeqOverflow y) = bytes_eq y x
 is_overflow_of x _ = false
@@ -49,6 +52,7 @@ was_soft_given g x (acts.Opened f s ∷ h) = not (bytes_eq f g) && was_soft_give
 was_soft_given g x (acts.Boot f ∷ h) = not (bytes_eq f g) && was_soft_given g x h
 was_soft_given g x (_ ∷ h) = was_soft_given g x h
 
+-- an overflow of the half was given since its installation, the last session taken and the last restart
 abbrev pub was_overflow_given : List ℕ → List ℕ → List Act → Bool
 was_overflow_given g x [] = false
 was_overflow_given g x (acts.Notice f s n ∷ h) = (bytes_eq f g && is_overflow_of x n) || was_overflow_given g x h
@@ -61,9 +65,11 @@ was_overflow_given g x (_ ∷ h) = was_overflow_given g x h
 abbrev pub does_soft_stand : List ℕ → List ℕ → List Act → Bool
 does_soft_stand g x h = is_live g x h && was_soft_given g x h
 
+-- an overflow that was given stands as long as the half is live
 abbrev pub does_overflow_stand : List ℕ → List ℕ → List Act → Bool
 does_overflow_stand g x h = is_live g x h && was_overflow_given g x h
 
+-- the SPIs with the one that the notice tells in front, where it tells one
 abbrev pub with_spi : Notice → List ℕ → List ℕ
 with_spi (notices.BadSpi spi) spis = spi ∷ spis
 with_spi _ spis = spis

@@ -33,6 +33,7 @@ pub record GatewayState : Type 0 where
   pub requests : ℕ
   pub arrival : Option (List ℕ)
 
+-- the policies with the one whose acquire the notice is, where it is one
 abbrev pub with_acquire : Notice → List (List ℕ) → List (List ℕ)
 with_acquire (notices.Acquire policy selector) names = names ++ policy ∷ []
 with_acquire _ names = names
@@ -67,6 +68,7 @@ life_of g h e = record {
   is_told = was_soft_given g e.name h;
 }
 
+-- a half as it is kept: its numbers, its window, its counts, and which notices of it stand
 abbrev pub half_of : List ℕ → List Act → SadEntry → Half
 half_of g h e = record {
   entry = e;
@@ -92,21 +94,27 @@ state_of g h = record {
 
 -- ---- the effect of an act
 
+-- no datagram waits for its answer
 abbrev pub quiet : GatewayState → GatewayState
 quiet s = record s { arrival = None }
 
+-- another list is in force, and no acquire stands
 abbrev pub with_policy : List SpdEntry → GatewayState → GatewayState
 with_policy list s = record s { spd = list; acquires = []; arrival = None }
 
+-- after an act that changes the halves alone
 abbrev pub with_halves : List Half → GatewayState → GatewayState
 with_halves halves s = record s { halves = halves; arrival = None }
 
+-- after an installation: the halves, and the policies whose acquire still stands
 abbrev pub with_put : List Half → List (List ℕ) → GatewayState → GatewayState
 with_put halves names s = record s { halves = halves; acquires = names; arrival = None }
 
+-- after a notice: what stands of the halves, of the policies and of SPIs
 abbrev pub with_notice : List Half → List (List ℕ) → List ℕ → GatewayState → GatewayState
 with_notice halves names spis s = record s { halves = halves; acquires = names; bad_spis = spis; arrival = None }
 
+-- a session of this number is taken: no notice stands, and no request of it was answered
 abbrev pub with_session : ℕ → List Half → GatewayState → GatewayState
 with_session session halves s = record s {
   halves = halves;
@@ -130,12 +138,15 @@ restarted s = record s {
   arrival = None;
 }
 
+-- the clock is raised
 abbrev pub with_clock : ℕ → GatewayState → GatewayState
 with_clock now s = record s { clock = now; arrival = None }
 
+-- one more request of the session is answered
 abbrev pub with_request : GatewayState → GatewayState
 with_request s = record s { requests = s.requests + 1; arrival = None }
 
+-- this datagram waits for its answer
 abbrev pub with_arrival : List ℕ → GatewayState → GatewayState
 with_arrival o s = record s { arrival = Some o }
 
@@ -147,12 +158,15 @@ note n x =
     with_overflow (is_overflow_of x.entry.name n || x.overflow)
     (with_life (with_told (is_soft_of x.entry.name n || x.life.is_told) x.life) x)
 
+-- the half, if it has this name, has sent its next number
 abbrev pub sent_under : List ℕ → ℕ → ℕ → Half → Half
 sent_under y now size x = if bytes_eq y x.entry.name then send now size x else x
 
+-- the half, if it has this name, has taken this number
 abbrev pub given_under : List ℕ → ℕ → ℕ → ℕ → Half → Half
 given_under y now size n x = if bytes_eq y x.entry.name then take_number now size n x else x
 
+-- the half has taken the number that it finds, where it finds one
 abbrev pub take_if : ℕ → ℕ → Option ℕ → Half → Half
 take_if now size None x = x
 take_if now size (Some n) x = take_number now size n x
@@ -180,9 +194,11 @@ is_at g (acts.Handled f s k a) = bytes_eq f g
 is_at g (acts.Notice f s n) = bytes_eq f g
 is_at g _ = false
 
+-- the policies whose acquire stands after an installation: an outbound half lifts those with its reqid
 abbrev pub wanted_after : SadEntry → GatewayState → List (List ℕ)
 wanted_after e s = if not (is_inbound e.name) then unwanted e.reqid s.spd s.acquires else s.acquires
 
+-- a dropped datagram that had opened: its half has taken its number
 abbrev pub number_opened : GatewayState → GatewayState
 number_opened s = with_halves (map (opened_under (entries_of s.halves) s.arrival s.clock) s.halves) s
 
@@ -206,6 +222,7 @@ did_at s _ = quiet s
 abbrev pub did : List ℕ → GatewayState → Act → GatewayState
 did g s a = if is_at g a then did_at s a else quiet s
 
+-- the state of gateway g after several acts
 abbrev pub did_all : List ℕ → GatewayState → List Act → GatewayState
 did_all g s [] = s
 did_all g s (a ∷ more) = did_all g (did g s a) more

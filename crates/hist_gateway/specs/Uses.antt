@@ -17,6 +17,7 @@ abbrev pub arrival : List ℕ → List Act → Option (List ℕ)
 arrival g (acts.Arrived f o ∷ h) = if bytes_eq f g then Some o else None
 arrival g _ = None
 
+-- there is a half, and it has this name
 abbrev pub is_named_half : List ℕ → Option SadEntry → Bool
 is_named_half x None = false
 is_named_half x (Some e) = bytes_eq e.name x
@@ -33,6 +34,7 @@ is_use g x (acts.Gave f y n o) h = is_half f y g x
 is_use g x (acts.Drop f w) h = (bytes_eq f g && is_opened w) && is_for x (live g h) (arrival g h)
 is_use g x _ h = false
 
+-- how many ESP octets a datagram has, 0 without one
 abbrev pub octets_in : Option (List ℕ) → ℕ
 octets_in None = 0
 octets_in (Some o) = length (esp_of o)
@@ -48,11 +50,13 @@ octets_used g x [] = 0
 octets_used g x (acts.Put f e ∷ h) = if is_half f e.name g x then 0 else octets_used g x h
 octets_used g x (a ∷ h) = if is_use g x a h then octets_used g x h + use_octets g a h else octets_used g x h
 
+-- how many uses of the half there were since its installation
 abbrev pub times_used : List ℕ → List ℕ → List Act → ℕ
 times_used g x [] = 0
 times_used g x (acts.Put f e ∷ h) = if is_half f e.name g x then 0 else times_used g x h
 times_used g x (a ∷ h) = if is_use g x a h then times_used g x h + 1 else times_used g x h
 
+-- the clock at the last use of the half, or at its installation where there was none
 abbrev pub last_used : List ℕ → List ℕ → List Act → ℕ
 last_used g x [] = 0
 last_used g x (acts.Put f e ∷ h) = if is_half f e.name g x then clock h else last_used g x h
@@ -70,6 +74,7 @@ counts g x h = counts_at (clock h) (installed_at g x h) (last_used g x h) (octet
 
 -- ---- a plain reading
 
+-- there is a number, and it is this one
 abbrev pub is_number : ℕ → Option ℕ → Bool
 is_number s None = false
 is_number s (Some n) = s == n

@@ -1,4 +1,7 @@
 //! The law of a gateway over what happened: for each event the one block of acts that may follow a past.
+//!
+//! `specs/Block.antt` has the definition: `gw_block`, over the tables of `specs/Let.antt` and `specs/Arrive.antt` (RFC 4301 section 5)
+//! and `specs/Handle.antt` (RFC 8040). The crate has no code that runs.
 #![tactic(auto)]
 
 mod laws;
