@@ -22,9 +22,11 @@ pub record Kept : Type 0 where
 
 -- ---- after requests, sessions and the start
 
+-- the halves are these
 abbrev pub with_halves : List Half → Kept → Kept
 with_halves halves k = record k { halves = halves }
 
+-- the clock stands at this
 abbrev pub with_clock : ℕ → Kept → Kept
 with_clock now k = record k { clock = now }
 
@@ -48,9 +50,11 @@ unwanted reqid list names = filter (λ p. not (has_reqid p reqid list)) names
 abbrev pub acquires_after : SadEntry → Kept → List (List ℕ)
 acquires_after e k = if not (is_inbound e.name) then unwanted e.reqid k.spd k.acquires else k.acquires
 
+-- the half is installed behind all others at this clock
 abbrev pub installed : SadEntry → Kept → Kept
 installed e k = record k { halves = k.halves ++ fresh k.clock e ∷ []; acquires = acquires_after e k }
 
+-- the half of this name is gone
 abbrev pub removed : List ℕ → Kept → Kept
 removed name k = with_halves (halves_without name k.halves) k
 

@@ -12,10 +12,12 @@ pub record IsHalf (x : Half) : Type 0 where
   pub window : x.window.size ≡ x.entry.window
   pub sent : x.sent < 4294967296
 
+-- so are all the halves
 abbrev pub AreHalves : List Half → Type 0
 AreHalves [] = Unit {0}
 AreHalves (x ∷ xs) = IsHalf x × AreHalves xs
 
+-- policies without a fault, distinct names of sound halves, 4,096 at most, and 64 SPIs at most
 pub record IsSound (k : Kept) : Type 0 where
   pub policies : spd_fault k.spd ≡ None
   pub halves : AreHalves k.halves

@@ -25,11 +25,14 @@ told_at i k = with_halves (changed (with_overflow true) i k.halves) k
 abbrev pub looked_at : ℕ → Kept → Kept
 looked_at now k = with_halves (map (look_at now) k.halves) (with_clock now k)
 
+-- the halves of these names are gone
 abbrev pub removed_all : List (List ℕ) → Kept → Kept
 removed_all names k = with_halves (without_all names k.halves) k
 
+-- the policies whose acquire stands are these
 abbrev pub with_acquires : List (List ℕ) → Kept → Kept
 with_acquires names k = record k { acquires = names }
 
+-- one more SPI was told, and only the last 64 stand
 abbrev pub with_bad_spi : ℕ → Kept → Kept
 with_bad_spi spi k = record k { bad_spis = take 64 (spi ∷ k.bad_spis) }

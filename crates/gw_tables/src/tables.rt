@@ -1,3 +1,4 @@
+// What a gateway keeps, and each change of it.
 ghost use Rattle.std.specs.Prelude.{◌≡◌, ◌≤◌, IfOk, None, vec_capacity, length};
 
 use crate::acquires::{comes_in, copied_and, is_among, note, unstand};
