@@ -13,11 +13,13 @@ use Rattle.gw_packets.specs.Outcome.{Outcome, outcome}
 
 -- ---- one half, after a use
 
+-- the half of this name, if it is gone at a hard limit
 abbrev pub gone_by : List ℕ → LifeEvent → List (List ℕ)
 gone_by name events.Hard = name ∷ []
 gone_by name events.Soft = []
 gone_by name events.Nothing = []
 
+-- the halves left, without that of this name if it is gone at a hard limit
 abbrev pub left_by : List ℕ → LifeEvent → List Half → List Half
 left_by name events.Hard xs = halves_without name xs
 left_by name events.Soft xs = xs
@@ -33,10 +35,12 @@ used answer i f x k =
 
 -- ---- all halves, at a reading that raises the clock
 
+-- the hard and the soft expiries of these halves at this clock, in their order
 abbrev pub expiries : ℕ → List Half → List Notice
 expiries now [] = []
 expiries now (x ∷ xs) = expiry x.entry.name (counts_of now x.life) (event_at now x.life) ++ expiries now xs
 
+-- all halves are looked at: those that reach a hard limit are gone
 abbrev pub looked : Kept → Outcome
 looked k =
     outcome None (names_reached k.clock k.halves) (expiries k.clock k.halves)

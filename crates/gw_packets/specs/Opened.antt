@@ -14,10 +14,12 @@ use Rattle.gw_packets.specs.declared.done.PacketAnswer.TheVariants as answers
 use Rattle.gw_packets.specs.declared.unseal.Unsealed.{Unsealed}
 use Rattle.gw_packets.specs.declared.unseal.Unsealed.TheVariants as unsealed
 
+-- an opened text with its packet, or without one
 abbrev pub unsealed_by_packet : Option InnerPacket → Unsealed
 unsealed_by_packet None = unsealed.Padding
 unsealed_by_packet (Some p) = unsealed.Packet p.next p.octets
 
+-- octets that opened to this text, or didn't open
 abbrev pub unsealed_by : Option (List ℕ) → Unsealed
 unsealed_by None = unsealed.Refused
 unsealed_by (Some text) = unsealed_by_packet (inner_packet text)
@@ -28,6 +30,7 @@ answer_by e n unsealed.Refused = None
 answer_by e n unsealed.Padding = Some (answers.Drop why.Padding)
 answer_by e n (unsealed.Packet next octets) = Some (answer_by_packet e n (Some (record { next = next; octets = octets })))
 
+-- where the octets opened, the half has taken their number and is looked at; else they are dropped and nothing counts
 abbrev pub taken_by : List ℕ → ℕ → Half → ℕ → Option PacketAnswer → Kept → Outcome
 taken_by b i x n None k = dropped why.Auth k
 taken_by b i x n (Some answer) k = used answer i (take_number k.clock (length b) n) (take_number k.clock (length b) n x) k

@@ -37,6 +37,7 @@ abbrev pub sent_under : List ℕ → Packet → ℕ → Half → Kept → Outcom
 sent_under o v i x k =
     used (answers.Sent x.entry.name (x.sent + 1) (datagram x.entry (x.sent + 1) v o)) i (send k.clock (esp_len (length o))) (send k.clock (esp_len (length o)) x) k
 
+-- the half x at place i seals the packet unless it has sent its last number
 abbrev pub sealed_under : ℕ → List ℕ → Packet → ℕ → Half → Kept → Outcome
 sealed_under seq_last o v i x k = if nat_le seq_last x.sent then spent i x k else sent_under o v i x k
 
@@ -45,19 +46,23 @@ abbrev pub sealed_at : ℕ → List ℕ → Packet → SpdEntry → ℕ → Opti
 sealed_at seq_last o v p i None k = without_half v p k
 sealed_at seq_last o v p i (Some x) k = sealed_under seq_last o v i x k
 
+-- the newest half for the packet, at its place, if there is one
 abbrev pub protected_by : ℕ → List ℕ → Packet → SpdEntry → Option ℕ → Kept → Outcome
 protected_by seq_last o v p None k = without_half v p k
 protected_by seq_last o v p (Some i) k = sealed_at seq_last o v p i (slice_get k.halves i) k
 
+-- what is done with a packet by the action of its policy
 abbrev pub let_by_action : ℕ → List ℕ → Packet → SpdEntry → Action → Kept → Outcome
 let_by_action seq_last o v p actions.Protect k = protected_by seq_last o v p (newest_place p.reqid v k.halves) k
 let_by_action seq_last o v p actions.Bypass k = answered (answers.Clear o) k
 let_by_action seq_last o v p actions.Discard k = dropped why.Discard k
 
+-- the first policy that holds the packet; where none does, it is dropped
 abbrev pub let_by_entry : ℕ → List ℕ → Packet → Option SpdEntry → Kept → Outcome
 let_by_entry seq_last o v None k = dropped why.NoPolicy k
 let_by_entry seq_last o v (Some p) k = let_by_action seq_last o v p p.action k
 
+-- octets that are no packet, or more than 65,000, are dropped
 abbrev pub let_by_view : ℕ → List ℕ → Result Packet NotPacket → Kept → Outcome
 let_by_view seq_last o (Err fault) k = dropped (fault_why fault) k
 let_by_view seq_last o (Ok v) k = if nat_lt 65000 (length o) then dropped why.TooLong k else let_by_entry seq_last o v (first_entry k.spd Out v) k

@@ -1,3 +1,4 @@
+// What a gateway does, and what it is configured with.
 use ikeless_tree::{DropWhy, Names, Notice};
 use ikl_base::{Addr, ListOf, Name, Octets};
 

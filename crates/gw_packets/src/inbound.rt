@@ -1,3 +1,4 @@
+// Datagrams from outside.
 ghost use Rattle.std.specs.Prelude.{◌≡◌, ◌≤◌, ◌<◌, ℕ, Some, None, Ok, IfOk, MatchResult, length, position, slice_get};
 ghost use Rattle.ip_packet.specs.View.{seen};
 ghost use Rattle.ip_packet.specs.Field.{version};

@@ -1,5 +1,7 @@
 //! The way of packets through a gateway (RFC 4301 section 5): what is sealed, opened, let in clear or dropped, and what the
 //! lifetimes of its halves end and tell.
+//!
+//! `specs/Outbound.antt`, `specs/Inbound.antt` and `specs/Looks.antt` have the definitions: `let_in`, `arrive` and `clock_read`.
 #![tactic(auto)]
 
 mod done;

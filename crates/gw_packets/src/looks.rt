@@ -1,3 +1,4 @@
+// Looks at all halves where the clock is raised.
 ghost use Rattle.std.specs.Prelude.{◌≡◌, IfOk};
 ghost use Rattle.life_count.specs.Lifetime.{event_at};
 ghost use Rattle.hist_gateway.specs.Places.{names_reached};

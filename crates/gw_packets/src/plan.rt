@@ -1,3 +1,4 @@
+// What is to be done and changed, made before it is carried out.
 ghost use Rattle.std.specs.Prelude.{◌≡◌, ◌∷◌, [], Some, None};
 ghost use Rattle.ikeless_tree.specs.declared.reply.DropWhy.TheVariants as why;
 ghost use Rattle.gw_packets.specs.declared.done.PacketAnswer.TheVariants as answers;
