@@ -15,6 +15,7 @@ use Rattle.hist_gateway.specs.State.{GatewayState}
 abbrev pub HasTunnel : Half → Type 0
 HasTunnel x = AreOneFamily x.entry.local x.entry.remote
 
+-- the half's window has the size that its entry says
 abbrev pub HasOwnWindow : Half → Type 0
 HasOwnWindow x = x.window.size ≡ x.entry.window
 
@@ -36,10 +37,12 @@ abbrev pub AsksTunnel : Ask → Type 0
 AsksTunnel (asks.PostSad e) = AreOneFamily e.local e.remote
 AsksTunnel _ = Unit {0}
 
+-- where the event is a request to install a half, that has its tunnel
 abbrev pub IsTunnelEvent : GatewayEvent → Type 0
 IsTunnelEvent (Handle (Ok ask)) = AsksTunnel ask
 IsTunnelEvent _ = Unit {0}
 
+-- so are all these events
 abbrev pub AreTunnelEvents : List GatewayEvent → Type 0
 AreTunnelEvents [] = Unit {0}
 AreTunnelEvents (e ∷ es) = IsTunnelEvent e × AreTunnelEvents es

@@ -14,6 +14,7 @@ use Rattle.gw_packets.specs.Inbound.{arrive}
 use Rattle.gw_packets.specs.Looks.{clock_read}
 use Rattle.gw_law.specs.Told.{Naming, acts_told, fault_told, reply_told, restarted, with_request, with_session}
 
+-- what a gateway tells of an event, what it keeps then, and what names its next acts
 pub record Step : Type 0 where
   pub acts : List Act
   pub kept : Kept
@@ -23,13 +24,16 @@ pub record Step : Type 0 where
 abbrev pub step_by : Naming → Act → Outcome → Step
 step_by n a out = record { acts = a ∷ acts_told n out.done; kept = out.kept; naming = n }
 
+-- the change of a reply, and the request that is handled with it
 abbrev pub replied : Naming → Kept → table.Outcome → Step
 replied n k r = record { acts = reply_told n r; kept = kept_after r.tree.spd r.change k; naming = with_request n }
 
+-- a request that was read is done, and one that wasn't is refused
 abbrev pub handled : Naming → Kept → Result Ask Fault → Step
 handled n k (Ok ask) = replied n k (table.reply (tree_of k) ask)
 handled n k (Err fault) = record { acts = fault_told n fault; kept = k; naming = with_request n }
 
+-- the next session is taken, and nothing that was told stands in it
 abbrev pub took_session : Naming → Kept → Step
 took_session n k = record { acts = acts.Opened n.name (n.openings + 1) ∷ []; kept = session_taken k; naming = with_session n }
 
@@ -43,9 +47,11 @@ step_of c n k Session_taken = took_session n k
 
 -- ---- events, one after another
 
+-- these acts, and then what a later step tells and keeps
 abbrev pub behind : List Act → Step → Step
 behind xs later = record later { acts = xs ++ later.acts }
 
+-- all these events, from the first to the last
 abbrev pub run_of : Gateway → Naming → Kept → List GatewayEvent → Step
 run_of c n k [] = record { acts = []; kept = k; naming = n }
 run_of c n k (e ∷ es) = behind (step_of c n k e).acts (run_of c (step_of c n k e).naming (step_of c n k e).kept es)

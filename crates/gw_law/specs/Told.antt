@@ -22,9 +22,11 @@ pub record Naming : Type 0 where
 
 -- ---- what is kept, and what names acts
 
+-- what the code keeps, of all that the law keeps of a past
 abbrev pub kept_of : GatewayState → Kept
 kept_of s = record { spd = s.spd; halves = s.halves; acquires = s.acquires; bad_spis = s.bad_spis; clock = s.clock }
 
+-- what names the acts of the gateway g, of all that the law keeps of its past
 abbrev pub naming_of : List ℕ → GatewayState → Naming
 naming_of g s = record { name = g; openings = s.openings; session = s.session; requests = s.requests }
 
@@ -36,14 +38,17 @@ begun g = record { name = g; openings = 0; session = 0; requests = 0 }
 abbrev pub with_request : Naming → Naming
 with_request n = record n { requests = n.requests + 1 }
 
+-- the next session is taken, and no request of it was answered
 abbrev pub with_session : Naming → Naming
 with_session n = record { name = n.name; openings = n.openings + 1; session = n.openings + 1; requests = 0 }
 
+-- the gateway has no session; the number of sessions goes on
 abbrev pub restarted : Naming → Naming
 restarted n = record { name = n.name; openings = n.openings; session = 0; requests = 0 }
 
 -- ---- acts
 
+-- the answer to a packet or a datagram, with the gateway's name
 abbrev pub answer_told : List ℕ → PacketAnswer → Act
 answer_told g (answers.Clear o) = acts.Clear g o
 answer_told g (answers.Sent x n o) = acts.Sent g x n o
@@ -51,10 +56,12 @@ answer_told g (answers.Drop w) = acts.Drop g w
 answer_told g (answers.Gave x n o) = acts.Gave g x n o
 answer_told g (answers.Pass o) = acts.Pass g o
 
+-- a reading of the clock has no answer
 abbrev pub if_answered : List ℕ → Option PacketAnswer → List Act
 if_answered g None = []
 if_answered g (Some a) = answer_told g a ∷ []
 
+-- the halves of these names are gone at a hard limit
 abbrev pub ends_told : List ℕ → List (List ℕ) → List Act
 ends_told g [] = []
 ends_told g (x ∷ xs) = acts.Gone g x gone.Hard ∷ ends_told g xs
@@ -67,5 +74,6 @@ acts_told n d = if_answered n.name d.answer ++ (ends_told n.name d.gone ++ given
 abbrev pub reply_told : Naming → table.Outcome → List Act
 reply_told n r = reply_acts n.name n.session (n.requests + 1) r
 
+-- the request that could not be read is answered with its refusal
 abbrev pub fault_told : Naming → Fault → List Act
 fault_told n fault = acts.Handled n.name n.session (n.requests + 1) (fault_answer fault) ∷ []

@@ -1,5 +1,7 @@
 //! The law of a gateway over what it keeps: what packets, datagrams, readings of the clock, requests and sessions make of that, told
 //! as acts, is its history.
+//!
+//! `specs/Steps.antt` and `specs/Told.antt` have the definitions: `step_of` and `acts_told`. The crate has no code that runs.
 #![tactic(auto)]
 
 mod laws;
