@@ -33,6 +33,7 @@ IsRequest (Err e) = IfSome e.path IsUtf8
 
 -- ---- a change, where the policies after it are these
 
+-- a list put in force, a half installed, or one removed by an order
 abbrev pub acts_of_change : List SpdEntry → Change → List GwAct
 acts_of_change list changes.Nothing = []
 acts_of_change list changes.Spd = acts.Spd list ∷ []
@@ -57,9 +58,11 @@ pub record CanTell (t : Tree) : Type 0 where
 abbrev pub IsAnswered : Order → table.Outcome → Type 0
 IsAnswered o r = answer_of o (reply_message (reply_of r)) ≡ Ok (answer_by r)
 
+-- the change of a reply, then the reply; what is kept is changed in the same way
 abbrev pub answered : table.Outcome → Kept → Outcome
 answered r k = record { acts = acts_of_change r.tree.spd r.change ++ acts.Reply (reply_of r) ∷ []; kept = kept_after r.tree.spd r.change k }
 
+-- a refusal changes nothing
 abbrev pub refused : RcError → Kept → Outcome
 refused e k = record { acts = acts.Reply (refusal e) ∷ []; kept = k }
 

@@ -1,4 +1,6 @@
 //! Requests at a gateway (RFC 8040): what each changes of what the gateway keeps, and its reply behind that.
+//!
+//! `specs/Requests.antt` has the definition: `handled`.
 #![tactic(auto)]
 
 mod act;
