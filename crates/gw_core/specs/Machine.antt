@@ -24,6 +24,7 @@ pub record Core : Type 0 where
   pub config : Config
   pub kept : Kept
 
+-- the same gateway, which keeps this
 abbrev pub with_kept : Kept → Core → Core
 with_kept k g = record g { kept = k }
 
@@ -31,6 +32,7 @@ with_kept k g = record g { kept = k }
 abbrev pub CanBoot : Config → Type 0
 CanBoot c = (1 ≤ c.seq_last) × (c.seq_last ≤ 4294967295)
 
+-- a gateway that has just started
 abbrev pub booted : Config → Core
 booted c = record { config = c; kept = tables.booted }
 
@@ -59,6 +61,7 @@ IsEvent _ = Unit {0}
 
 -- ---- acts
 
+-- the answer to a packet or a datagram as an act
 abbrev pub act_of_answer : PacketAnswer → GwAct
 act_of_answer (answers.Clear o) = acts.Clear o
 act_of_answer (answers.Sent name number o) = acts.Sent name number o
@@ -66,13 +69,16 @@ act_of_answer (answers.Drop why) = acts.Drop why
 act_of_answer (answers.Gave name number o) = acts.Gave name number o
 act_of_answer (answers.Pass o) = acts.Pass o
 
+-- a reading of the clock has no answer
 abbrev pub acts_of_answer : Option PacketAnswer → List GwAct
 acts_of_answer None = []
 acts_of_answer (Some a) = act_of_answer a ∷ []
 
+-- the half of this name is gone at a hard limit
 abbrev pub act_of_gone : List ℕ → GwAct
 act_of_gone name = acts.Gone name true
 
+-- the notice is to be told to the controller
 abbrev pub act_of_notice : Notice → GwAct
 act_of_notice n = acts.Notice n
 
@@ -82,9 +88,11 @@ acts_of_done d = acts_of_answer d.answer ++ map act_of_gone d.gone ++ map act_of
 
 -- ---- the step
 
+-- what was done, as acts in their order
 abbrev pub told : packets.Outcome → Outcome
 told o = record { acts = acts_of_done o.done; kept = o.kept }
 
+-- what the gateway does at an event; a session that is taken shows by no act of its own
 abbrev pub stepped : Config → Event → Kept → Outcome
 stepped c (Let o) k = told (let_in c.seq_last o k)
 stepped c (Arrive o) k = told (arrive c.address o k)

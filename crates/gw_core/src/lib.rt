@@ -1,5 +1,7 @@
 //! A gateway of the IKE-less case (RFC 9061): what it does at packets, datagrams, requests, sessions and readings of the clock, one
 //! step after another.
+//!
+//! `specs/Machine.antt` has the definition: `stepped`.
 #![tactic(auto)]
 
 mod event;
