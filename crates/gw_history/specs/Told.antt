@@ -23,13 +23,16 @@ use Rattle.gw_law.specs.Orderly.{IsTunnelEvent}
 
 -- ---- acts
 
+-- of a reply what a transcript has: status, tag and the names of the halves shown
 abbrev pub answer_of : Reply → Answer
 answer_of r = record { status = r.status; tag = r.tag; names = r.names }
 
+-- a half is gone at a hard limit, or was removed by an order
 abbrev pub why_gone : Bool → GoneWhy
 why_gone true = gone.Hard
 why_gone false = gone.Removed
 
+-- an act that a gateway hands out, as a transcript has it
 abbrev pub told : Naming → GwAct → Act
 told n (done.Spd list) = acts.Policy n.name list
 told n (done.Put e) = acts.Put n.name e
@@ -48,10 +51,12 @@ told n (done.Notice notice) = acts.Notice n.name n.session notice
 abbrev pub gateway_of : List ℕ → Config → Gateway
 gateway_of g c = record { name = g; address = c.address; seq_last = c.seq_last }
 
+-- of the refusal of a request that could not be read the law has the status and tag alone
 abbrev pub request_of : Result Ask RcError → Result Ask Fault
 request_of (Ok ask) = Ok ask
 request_of (Err e) = Err (record { status = e.status; tag = e.tag })
 
+-- the event as the law of the gateway has it
 abbrev pub event_of : Event → GatewayEvent
 event_of (Let o) = law.Let o
 event_of (Arrive o) = law.Arrive o
@@ -67,6 +72,7 @@ own_acts n k (Clock now) = acts.Now k.clock ∷ []
 own_acts n k (Handle request) = []
 own_acts n k Session_taken = acts.Opened n.name (n.openings + 1) ∷ []
 
+-- what names the acts after this event: a request is counted, and a session is the gateway's own
 abbrev pub naming_after : Naming → Event → Naming
 naming_after n (Handle request) = with_request n
 naming_after n Session_taken = with_session n
@@ -78,6 +84,7 @@ step_told n e out = own_acts n out.kept e ++ map (told n) out.acts
 
 -- ---- one event after another
 
+-- all these events, from the first to the last
 abbrev pub run_of : Config → Naming → Kept → List Event → Step
 run_of c n k [] = record { acts = []; kept = k; naming = n }
 run_of c n k (e ∷ es) = behind (step_told n e (stepped c e k)) (run_of c (naming_after n e) (stepped c e k).kept es)
