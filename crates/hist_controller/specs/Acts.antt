@@ -57,6 +57,7 @@ pub data ControllerAct : Type 0 where
   Accepted : (c : PlacedCommand) → ControllerAct
   Refused : (w : Refusal) → ControllerAct
 
+-- a command, or what comes from the gateway with this number: a session, its cut, an answer or a notice
 pub data ControllerEvent : Type 0 where
   Told : (c : Command) → ControllerEvent
   Opens : (g : ℕ) → ControllerEvent

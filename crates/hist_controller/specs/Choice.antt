@@ -13,6 +13,7 @@ IsDue h g Read = is_reading_due g h ≡ true
 IsDue h g (Policy l) = (is_open g h ≡ true) × (newest_list g h ≡ Some l) × (is_policy_due g h ≡ true)
 IsDue h g _ = ⊥
 
+-- no order that belongs to no direction is due
 abbrev pub NoneDue : List ControllerAct → Type 0
 NoneDue h = (g : ℕ) (o : ControllerOrder) → IsDue h g o → ⊥
 

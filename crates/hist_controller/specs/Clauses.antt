@@ -7,10 +7,12 @@ use Rattle.hist_controller.specs.Acts.{Way, Association, ControllerOrder, Read, 
 use Rattle.hist_controller.specs.Past.{is_open, openings, orders, answered, oldest, queue, newest_list, serials, spare, directions, left, is_busy}
 use Rattle.hist_controller.specs.Law.{may_out_remove, may_in_remove, may_out_put, may_in_put, first, is_reading, refusal}
 
+-- the list has this element
 abbrev pub Has : {A : Type 0} → A → List A → Type 0
 Has x [] = ⊥
 Has x (y ∷ ys) = (x ≡ y) ⊎ Has x ys
 
+-- the oldest of the keys left
 abbrev pub next_key : List (List ℕ) → Option (List ℕ)
 next_key [] = None
 next_key (k ∷ ks) = Some k
@@ -68,6 +70,7 @@ pub record MayOrderOutRemove (h : List ControllerAct) (g n : ℕ) : Type 0 where
   pub free : is_busy way h ≡ false
   pub may : may_out_remove h way association ≡ true
 
+-- the notice tells a bad SPI
 abbrev pub is_bad : Notice → Bool
 is_bad (notices.BadSpi s) = true
 is_bad (_) = false
@@ -78,14 +81,17 @@ is_reading_due g (Opened f s ∷ h) = g == f
 is_reading_due g (Heard f s t ∷ h) = (g == f) && is_bad t && not (list_any is_reading (queue g h))
 is_reading_due g (_) = false
 
+-- the command gives this gateway a list
 abbrev pub is_list_for : ℕ → PlacedCommand → Bool
 is_list_for g (SetPolicy f l) = g == f
 is_list_for g (_) = false
 
+-- the newest act opens a session at this gateway
 abbrev pub is_just_opened : ℕ → List ControllerAct → Bool
 is_just_opened g (Opened f s ∷ h) = g == f
 is_just_opened g (_) = false
 
+-- the order is the reading that follows an opening at this gateway
 abbrev pub is_opening_reading : ℕ → ControllerOrder → List ControllerAct → Bool
 is_opening_reading g Read h = is_just_opened g h
 is_opening_reading g (_) h = false
@@ -96,6 +102,7 @@ is_policy_due g (Accepted c ∷ h) = is_list_for g c
 is_policy_due g (Ordered f s n o ∷ h) = (g == f) && is_opening_reading g o h
 is_policy_due g (_) = false
 
+-- an order that may be given at this gateway, by its own clause
 abbrev pub MayOrder : List ControllerAct → ℕ → ControllerOrder → Type 0
 MayOrder h g Read = is_reading_due g h ≡ true
 MayOrder h g (Policy l) = (newest_list g h ≡ Some l) × (is_policy_due g h ≡ true)
@@ -114,10 +121,12 @@ ControllerMayAct p h (Ordered g s n o) = (s ≡ openings g h) × (n ≡ orders g
 ControllerMayAct p h (Accepted c) = refusal p h c ≡ None
 ControllerMayAct p h (Refused w) = (c : PlacedCommand) × (refusal p h c ≡ Some w)
 
+-- so may each of these acts, after those before it
 abbrev pub ControllerMayActAll : ℕ → List ControllerAct → List ControllerAct → Type 0
 ControllerMayActAll p h [] = Unit {0}
 ControllerMayActAll p h (a ∷ more) = ControllerMayAct p h a × ControllerMayActAll p (a ∷ h) more
 
+-- each act of a past may stand after those before it
 abbrev pub IsControllerPast : ℕ → List ControllerAct → Type 0
 IsControllerPast p [] = Unit {0}
 IsControllerPast p (a ∷ h) = ControllerMayAct p h a × IsControllerPast p h

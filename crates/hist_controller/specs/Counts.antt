@@ -24,6 +24,7 @@ times_now k n g (Opened f s ∷ h) = if g == f then 0 else times_now k n g h
 times_now k n g (Ordered f s i o ∷ h) = if (g == f) && is_kind k n o then times_now k n g h + 1 else times_now k n g h
 times_now k n g (_ ∷ h) = times_now k n g h
 
+-- the order puts an outbound half of the direction
 abbrev pub is_out_put_of : Way → ControllerOrder → Bool
 is_out_put_of d (PutOut x) = d.id == x.way.id
 is_out_put_of d (_) = false
@@ -34,6 +35,7 @@ in_puts d [] = 0
 in_puts d (Ordered g s n o ∷ h) = if is_inbound_put_of d o then in_puts d h + 1 else in_puts d h
 in_puts d (_ ∷ h) = in_puts d h
 
+-- how many outbound puts were ordered in the direction
 abbrev pub out_puts : Way → List ControllerAct → ℕ
 out_puts d [] = 0
 out_puts d (Ordered g s n o ∷ h) = if is_out_put_of d o then out_puts d h + 1 else out_puts d h
@@ -54,11 +56,13 @@ KeyRight h (PutIn x) = place (x.serial - 1) (keys h) ≡ Some x.key
 KeyRight h (PutOut x) = place (x.serial - 1) (keys h) ≡ Some x.key
 KeyRight h (_) = Unit {0}
 
+-- each put of a past has its key so
 abbrev pub KeysRight : List ControllerAct → Type 0
 KeysRight [] = Unit {0}
 KeysRight (Ordered g s n o ∷ h) = KeyRight h o × KeysRight h
 KeysRight (_ ∷ h) = KeysRight h
 
+-- the list that a command gives this gateway, or none
 abbrev pub list_accepted : ℕ → PlacedCommand → List (List SpdEntry)
 list_accepted g (SetPolicy f l) = if g == f then l ∷ [] else []
 list_accepted g (_) = []
@@ -74,6 +78,7 @@ abbrev pub ListRight : ℕ → List ControllerAct → ControllerOrder → Type 0
 ListRight g h (Policy l) = (0 < length (lists_accepted g h)) × (place (length (lists_accepted g h) - 1) (lists_accepted g h) ≡ Some l)
 ListRight g h (_) = Unit {0}
 
+-- each list of a past was ordered so
 abbrev pub ListsRight : List ControllerAct → Type 0
 ListsRight [] = Unit {0}
 ListsRight (Ordered g s n o ∷ h) = ListRight g h o × ListsRight h

@@ -19,5 +19,6 @@ pub record AllQuiet (h : List ControllerAct) (d : Way) : Type 0 where
   pub no_out_put : (x : Association) → Has x (made d h) → may_out_put h d x ≡ false
   pub no_in_put : (may_in_put h d ≡ false) ⊎ (spare h ≡ [])
 
+-- in a direction that isn't busy no order is allowed, for any association of it
 abbrev pub AllNotIdle : List ControllerAct → Type 0
 AllNotIdle h = (d : Way) → Has d (directions h) → is_busy d h ≡ false → AllQuiet h d

@@ -9,11 +9,13 @@ is_plain (Some (PutIn x)) status = (status == 201) || nat_le 400 status
 is_plain (Some (PutOut x)) status = (status == 201) || nat_le 400 status
 is_plain (_) status = true
 
+-- each put of a past was answered so
 abbrev pub PlainAnswers : List ControllerAct → Type 0
 PlainAnswers [] = Unit {0}
 PlainAnswers (Answered g s n a ∷ h) = (is_plain (oldest (queue g h)) a.status ≡ true) × PlainAnswers h
 PlainAnswers (_ ∷ h) = PlainAnswers h
 
+-- the gateway is the sender or the receiver of the direction
 abbrev pub is_at_gateway : ℕ → Way → Bool
 is_at_gateway g d = (d.sender == g) || (d.receiver == g)
 

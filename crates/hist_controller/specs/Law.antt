@@ -26,15 +26,19 @@ order h g o = Ordered g (openings g h) (orders g h + 1) o
 -- A new association is put inbound first, and outbound once that is answered; an ended one is removed outbound first, and
 -- inbound once that is answered.
 
+-- out/N of an ended association: it was ordered put, no removal of it is answered, and its gateway is read
 abbrev pub may_out_remove : List ControllerAct → Way → Association → Bool
 may_out_remove h d x = is_ended x h && is_out_ordered x.serial h && not (has_answer RemovingOut x.serial h) && is_read d.sender h
 
+-- in/N of an ended association: out/N was never ordered put, or its removal is answered
 abbrev pub may_in_remove : List ControllerAct → Way → Association → Bool
 may_in_remove h d x = is_ended x h && (not (is_out_ordered x.serial h) || has_answer RemovingOut x.serial h) && is_read d.receiver h
 
+-- out/N of an association in progress: the put of in/N is answered, and both gateways are read
 abbrev pub may_out_put : List ControllerAct → Way → Association → Bool
 may_out_put h d x = is_in_progress h x && not (is_out_ordered x.serial h) && has_answer PuttingIn x.serial h && is_read d.sender h && is_read d.receiver h
 
+-- in/N of a new association: the direction is owed one, and both gateways are read
 abbrev pub may_in_put : List ControllerAct → Way → Bool
 may_in_put h d = is_owed d h && is_read d.sender h && is_read d.receiver h
 
@@ -43,18 +47,22 @@ abbrev pub first : (Association → Bool) → List Association → Option Associ
 first p [] = None
 first p (x ∷ xs) = if p x then Some x else first p xs
 
+-- where in/N may be put: a new association with the oldest of these keys and the next serial; without a key there is none
 abbrev pub key_put : List ControllerAct → Way → List (List ℕ) → List ControllerAct
 key_put h d [] = []
 key_put h d (k ∷ ks) = if may_in_put h d then order h d.receiver (PutIn (record { serial = serials h + 1; key = k; way = d })) ∷ [] else []
 
+-- the put of out/N of this association, or else a new association where none is to be put
 abbrev pub out_put : List ControllerAct → Way → Option Association → List ControllerAct
 out_put h d (Some x) = order h d.sender (PutOut x) ∷ []
 out_put h d None = key_put h d (spare h)
 
+-- the removal of in/N of this association, or else a put
 abbrev pub in_remove : List ControllerAct → Way → Option Association → List ControllerAct
 in_remove h d (Some x) = order h d.receiver (RemoveIn x.serial) ∷ []
 in_remove h d None = out_put h d (first (may_out_put h d) (left d h))
 
+-- the removal of out/N of this association, or else a later kind of order
 abbrev pub out_remove : List ControllerAct → Way → Option Association → List ControllerAct
 out_remove h d (Some x) = order h d.sender (RemoveOut x.serial) ∷ []
 out_remove h d None = in_remove h d (first (may_in_remove h d) (left d h))
@@ -70,18 +78,22 @@ pass h (d ∷ ds) = give h d ++ pass (after h (give h d)) ds
 
 -- ## orders that belong to no direction
 
+-- the list is ordered at the gateway, where there is one
 abbrev pub with_list : List ControllerAct → ℕ → Option (List SpdEntry) → List ControllerAct
 with_list h g None = []
 with_list h g (Some l) = order h g (Policy l) ∷ []
 
+-- the order asks which halves the gateway has
 abbrev pub is_reading : ControllerOrder → Bool
 is_reading Read = true
 is_reading (_) = false
 
+-- a list that is accepted goes to its gateway at once if a session is open there
 abbrev pub by_command : List ControllerAct → PlacedCommand → List ControllerAct
 by_command h (SetPolicy g l) = if is_open g h then order h g (Policy l) ∷ [] else []
 by_command h (_) = []
 
+-- after a bad SPI the gateway is read, unless a reading waits there
 abbrev pub by_notice : List ControllerAct → ℕ → Notice → List ControllerAct
 by_notice h g (notices.BadSpi spi) = if list_any is_reading (queue g h) then [] else order h g Read ∷ []
 by_notice h g (_) = []
@@ -104,6 +116,7 @@ abbrev pub peer_number : List ℕ → List Peer → ℕ
 peer_number name [] = 0
 peer_number name (p ∷ ps) = if bytes_eq p.name name then 0 else peer_number name ps + 1
 
+-- a command with its gateways by their numbers; an unknown one has a number that no peer has
 abbrev pub placed_command : List Peer → Command → PlacedCommand
 placed_command ps (commands.Policy g l) = SetPolicy (peer_number g ps) l
 placed_command ps (commands.Tunnel t) = Tunnel (record { spec = t; first = peer_number t.first ps; second = peer_number t.second ps })
@@ -115,10 +128,12 @@ placed_command ps (commands.Keys k) = Keys k
 abbrev pub has_tunnel : ℕ → List ControllerAct → Bool
 has_tunnel r h = list_any (λ d. (d.tunnel.reqid == r) && not (is_over d h)) (directions h)
 
+-- there is no association
 abbrev pub is_none : List Association → Bool
 is_none [] = true
 is_none (x ∷ xs) = false
 
+-- a direction counts while its tunnel isn't ended, or an association of it is left
 abbrev pub is_counted : List ControllerAct → Way → Bool
 is_counted h d = not (is_over d h) || not (is_none (left d h))
 
@@ -151,6 +166,7 @@ refusal p h (Keys k) =
 
 -- ## blocks
 
+-- these orders of no direction, and behind them the orders of the directions
 abbrev pub asked_then : List ControllerAct → List ControllerAct → List ControllerAct
 asked_then h os = os ++ pass (after h os) (directions (after h os))
 
@@ -158,10 +174,12 @@ asked_then h os = os ++ pass (after h os) (directions (after h os))
 abbrev pub going : List ControllerAct → ControllerAct → List ControllerAct
 going h a = a ∷ asked_then (a ∷ h) (asked (a ∷ h) a)
 
+-- a command that is accepted has its orders behind it, one that is refused its refusal alone
 abbrev pub by_refusal : List ControllerAct → PlacedCommand → Option Refusal → List ControllerAct
 by_refusal h c None = going h (Accepted c)
 by_refusal h c (Some w) = Refused w ∷ []
 
+-- an answer is to the oldest order that waits; where none waits, nothing is done
 abbrev pub by_answer : List ControllerAct → ℕ → Answer → List ControllerOrder → List ControllerAct
 by_answer h g a [] = []
 by_answer h g a (o ∷ os) = going h (Answered g (openings g h) (answered g h + 1) a)
@@ -184,6 +202,7 @@ abbrev pub event_refusal : List Peer → List ControllerAct → ControllerEvent 
 event_refusal ps h (Told c) = refusal (length ps) h (placed_command ps c)
 event_refusal ps h (_) = None
 
+-- a refusal as a list of at most one
 abbrev pub one_or_none : Option Refusal → List Refusal
 one_or_none None = []
 one_or_none (Some w) = w ∷ []

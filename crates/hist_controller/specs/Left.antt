@@ -10,6 +10,7 @@ abbrev pub Ascend : List Association → Type 0
 Ascend [] = Unit {0}
 Ascend (x ∷ xs) = ((y : Association) → Has y xs → x.serial < y.serial) × Ascend xs
 
+-- an association as a list of at most one
 abbrev pub listed : Option Association → List Association
 listed None = []
 listed (Some x) = x ∷ []

@@ -12,6 +12,7 @@ was_ordered k n [] = false
 was_ordered k n (Ordered g s i o ∷ h) = is_kind k n o || was_ordered k n h
 was_ordered k n (_ ∷ h) = was_ordered k n h
 
+-- it answers a reading at the receiver that doesn't show in/n, where the put of in/n was answered before
 abbrev pub is_not_shown : Association → ℕ → Option ControllerOrder → Answer → Bool → Bool
 is_not_shown x g None a done = false
 is_not_shown x g (Some Read) a done = (x.way.receiver == g) && done && not (is_shown a.names (in_name x.serial))
@@ -37,6 +38,7 @@ Before h (PutOut x) = (has_answer PuttingIn x.serial h ≡ true) × (was_ordered
 Before h (RemoveOut n) = (was_ordered PuttingOut n h ≡ true) × ((g : ℕ) → list_any (is_kind PuttingOut n) (queue g h) ≡ false)
 Before h (RemoveIn n) = (was_ordered PuttingOut n h ≡ false) ⊎ (has_answer RemovingOut n h ≡ true)
 
+-- so it was before each order of a past
 abbrev pub AllBefore : List ControllerAct → Type 0
 AllBefore [] = Unit {0}
 AllBefore (Ordered g s n o ∷ h) = Before h o × AllBefore h

@@ -23,6 +23,7 @@ is_half_order (PutOut x) = true
 is_half_order (RemoveIn n) = true
 is_half_order (RemoveOut n) = true
 
+-- a put of either half
 abbrev pub is_put : ControllerOrder → Bool
 is_put Read = false
 is_put (Policy l) = false

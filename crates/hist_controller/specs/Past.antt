@@ -39,10 +39,12 @@ answered g (Opened f s ∷ h) = if g == f then 0 else answered g h
 answered g (Answered f s n a ∷ h) = if g == f then answered g h + 1 else answered g h
 answered g (_ ∷ h) = answered g h
 
+-- the orders that wait once the oldest is answered
 abbrev pub rest : List ControllerOrder → List ControllerOrder
 rest [] = []
 rest (o ∷ os) = os
 
+-- the order that waits longest, to which the next answer is
 abbrev pub oldest : List ControllerOrder → Option ControllerOrder
 oldest [] = None
 oldest (o ∷ os) = Some o
@@ -67,6 +69,7 @@ is_first_answered g (_ ∷ h) = is_first_answered g h
 abbrev pub is_read : ℕ → List ControllerAct → Bool
 is_read g h = is_open g h && is_first_answered g h
 
+-- the list that the command gives this gateway, or else this one
 abbrev pub list_if : ℕ → PlacedCommand → Option (List SpdEntry) → Option (List SpdEntry)
 list_if g (SetPolicy f l) o = if g == f then Some l else o
 list_if g (_) o = o
@@ -79,6 +82,7 @@ newest_list g (_ ∷ h) = newest_list g h
 
 -- ## keys and serials
 
+-- the key that the command brings, if it brings one
 abbrev pub key_of : PlacedCommand → List (List ℕ)
 key_of (Keys k) = k ∷ []
 key_of (_) = []
@@ -89,6 +93,7 @@ keys [] = []
 keys (Accepted c ∷ h) = keys h ++ key_of c
 keys (_ ∷ h) = keys h
 
+-- the order puts an inbound half
 abbrev pub is_inbound_put : ControllerOrder → Bool
 is_inbound_put (PutIn x) = true
 is_inbound_put (_) = false
@@ -99,6 +104,7 @@ serials [] = 0
 serials (Ordered g s n o ∷ h) = if is_inbound_put o then serials h + 1 else serials h
 serials (_ ∷ h) = serials h
 
+-- an inbound put takes the oldest key
 abbrev pub keys_after : ControllerOrder → List (List ℕ) → List (List ℕ)
 keys_after (PutIn x) [] = []
 keys_after (PutIn x) (k ∷ ks) = ks
@@ -113,11 +119,13 @@ spare (_ ∷ h) = spare h
 
 -- ## directions
 
+-- the two directions of a tunnel with the ids n and n + 1: from its first gateway to its second, and back
 abbrev pub both_ways : ℕ → PlacedTunnel → List Way
 both_ways n t =
     record { id = n; tunnel = t.spec; sender = t.first; receiver = t.second; near = t.spec.first_prefix; far = t.spec.second_prefix }
     ∷ record { id = n + 1; tunnel = t.spec; sender = t.second; receiver = t.first; near = t.spec.second_prefix; far = t.spec.first_prefix } ∷ []
 
+-- the directions that a command makes: those of its tunnel
 abbrev pub new_ways : ℕ → PlacedCommand → List Way
 new_ways n (Tunnel t) = both_ways n t
 new_ways n (_) = []
@@ -133,6 +141,7 @@ abbrev pub is_made_by : PlacedCommand → ℕ → Way → Bool
 is_made_by (Tunnel t) n d = nat_le n d.id
 is_made_by (_) n d = false
 
+-- the command ends the tunnel of this reqid
 abbrev pub is_end_of : ℕ → PlacedCommand → Bool
 is_end_of r (End q) = r == q
 is_end_of r (_) = false
@@ -153,6 +162,7 @@ pub data Kind : Type 0 where
   RemovingIn : Kind
   RemovingOut : Kind
 
+-- the order is of this kind, for the half of the association with the serial n
 abbrev pub is_kind : Kind → ℕ → ControllerOrder → Bool
 is_kind PuttingIn n (PutIn x) = n == x.serial
 is_kind PuttingOut n (PutOut x) = n == x.serial
@@ -160,6 +170,7 @@ is_kind RemovingIn n (RemoveIn m) = n == m
 is_kind RemovingOut n (RemoveOut m) = n == m
 is_kind _ n _ = false
 
+-- there is an order that is answered, and it is of this kind and this serial
 abbrev pub is_answer_to : Kind → ℕ → Option ControllerOrder → Bool
 is_answer_to k n None = false
 is_answer_to k n (Some o) = is_kind k n o
@@ -206,6 +217,7 @@ is_ended x (_ ∷ h) = is_ended x h
 abbrev pub is_in_progress : List ControllerAct → Association → Bool
 is_in_progress h x = not (is_ended x h) && not (has_answer PuttingOut x.serial h)
 
+-- the association that the order begins in the direction, by the put of its inbound half
 abbrev pub inbound_put : Way → ControllerOrder → List Association
 inbound_put d (PutIn x) = if d.id == x.way.id then x ∷ [] else []
 inbound_put d (_) = []
@@ -218,6 +230,7 @@ left d (Ordered g s n o ∷ h) = left d h ++ inbound_put d o
 left d (Answered g s n a ∷ h) = filter (λ x. not (is_answer_to RemovingIn x.serial (oldest (queue g h)))) (left d h)
 left d (_ ∷ h) = left d h
 
+-- the serial of the association that the order begins in the direction, or else this one
 abbrev pub last_if : Way → ControllerOrder → ℕ → ℕ
 last_if d (PutIn x) n = if d.id == x.way.id then x.serial else n
 last_if d (_) n = n
@@ -246,10 +259,12 @@ is_busy d h = list_any (is_own d (left d h)) (queue d.sender h) || list_any (is_
 -- from its sender while none is in progress; an expiry or an overflow of the association put last; a reading that does not
 -- show a half whose put was answered; a cut that loses a put.
 
+-- the command makes a tunnel and asks for its keys at once
 abbrev pub is_start : PlacedCommand → Bool
 is_start (Tunnel t) = t.spec.now
 is_start (_) = false
 
+-- the command rekeys the tunnel of the direction
 abbrev pub is_renewal : Way → PlacedCommand → Bool
 is_renewal d (Rekey r) = d.tunnel.reqid == r
 is_renewal d (_) = false
@@ -281,15 +296,18 @@ is_unseen h d g names x =
     && (((d.receiver == g) && has_answer PuttingIn x.serial h && not (is_shown names (in_name x.serial)))
     || ((d.sender == g) && has_answer PuttingOut x.serial h && not (is_shown names (out_name x.serial))))
 
+-- an answer is a cause: it is to a reading, and a half of an association left isn't shown
 abbrev pub is_cause_reading : List ControllerAct → Way → ℕ → Option ControllerOrder → Answer → Bool
 is_cause_reading h d g (Some Read) a = list_any (is_unseen h d g a.names) (left d h)
 is_cause_reading h d g (_) a = false
 
+-- the order puts either half in the direction
 abbrev pub is_put_of : Way → ControllerOrder → Bool
 is_put_of d (PutIn x) = d.id == x.way.id
 is_put_of d (PutOut x) = d.id == x.way.id
 is_put_of d (_) = false
 
+-- the order puts an inbound half in the direction
 abbrev pub is_inbound_put_of : Way → ControllerOrder → Bool
 is_inbound_put_of d (PutIn x) = d.id == x.way.id
 is_inbound_put_of d (_) = false

@@ -21,6 +21,7 @@ abbrev pub peer_name : List Peer → ℕ → List ℕ
 peer_name [] g = []
 peer_name (p ∷ ps) g = if g == 0 then p.name else peer_name ps (g - 1)
 
+-- the address of the peer with this number; an unknown one has 0.0.0.0
 abbrev pub peer_address : List Peer → ℕ → Addr
 peer_address [] g = V4 (0 ∷ 0 ∷ 0 ∷ 0 ∷ [])
 peer_address (p ∷ ps) g = if g == 0 then p.address else peer_address ps (g - 1)
@@ -46,6 +47,7 @@ in_entry ps x = record {
   soft = x.way.tunnel.soft;
 }
 
+-- the outbound half as its gateway gets it; local is the sender's side
 abbrev pub out_entry : List Peer → Association → SadEntry
 out_entry ps x = record {
   name = out_name x.serial;

@@ -13,21 +13,26 @@ pub data NextOrder : Type 0 where
   PutsOut : (x : Association) → NextOrder
   PutsNew : NextOrder
 
+-- a new association, where one may be put
 abbrev pub new_put : Bool → NextOrder
 new_put b = if b then PutsNew else Nothing
 
+-- the put of out/N of this association, or else a new association
 abbrev pub next_out_put : List ControllerAct → Way → Option Association → NextOrder
 next_out_put h d (Some x) = PutsOut x
 next_out_put h d None = new_put (may_in_put h d)
 
+-- the removal of in/N of this association, or else a put
 abbrev pub next_in_remove : List ControllerAct → Way → Option Association → NextOrder
 next_in_remove h d (Some x) = RemovesIn x
 next_in_remove h d None = next_out_put h d (first (may_out_put h d) (left d h))
 
+-- the removal of out/N of this association, or else a later kind of order
 abbrev pub next_out_remove : List ControllerAct → Way → Option Association → NextOrder
 next_out_remove h d (Some x) = RemovesOut x
 next_out_remove h d None = next_in_remove h d (first (may_in_remove h d) (left d h))
 
+-- what the direction gets next; nothing while a put or a removal of its own waits
 abbrev pub next_order : List ControllerAct → Way → NextOrder
 next_order h d = if is_busy d h then Nothing else next_out_remove h d (first (may_out_remove h d) (left d h))
 
@@ -36,6 +41,7 @@ abbrev pub with_key : List ControllerAct → Way → List (List ℕ) → List Co
 with_key h d [] = []
 with_key h d (k ∷ ks) = order h d.receiver (PutIn (record { serial = serials h + 1; key = k; way = d })) ∷ []
 
+-- the act with which a direction gets this order
 abbrev pub acts_for : List ControllerAct → Way → NextOrder → List ControllerAct
 acts_for h d Nothing = []
 acts_for h d (RemovesOut x) = order h d.sender (RemoveOut x.serial) ∷ []
@@ -47,6 +53,7 @@ acts_for h d PutsNew = with_key h d (spare h)
 abbrev pub is_of_way : Way → ℕ → Bool
 is_of_way d g = (d.sender == g) || (d.receiver == g)
 
+-- the command ends or rekeys the tunnel of the direction
 abbrev pub does_command_touch : Way → PlacedCommand → Bool
 does_command_touch d (SetPolicy g l) = false
 does_command_touch d (Tunnel t) = false
@@ -65,6 +72,7 @@ does_touch d (Ordered g s n o) h = is_own d (left d h) o
 does_touch d (Accepted c) h = does_command_touch d c
 does_touch d (Refused w) h = false
 
+-- a key is accepted
 abbrev pub does_bring_key : ControllerAct → Bool
 does_bring_key (Accepted (Keys k)) = true
 does_bring_key (_) = false

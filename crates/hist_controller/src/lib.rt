@@ -1,5 +1,8 @@
 //! The laws of a controller over what happened: its words, the one block of acts that each event has, and what every
 //! history keeps.
+//!
+//! `specs/Past.antt` has the words and `specs/Law.antt` the definition, `block`. `specs/Clauses.antt` and `specs/Choice.antt` say the same
+//! as clauses. The order of a rekey and of a recovery is that of RFC 9061. The crate has no code that runs.
 #![tactic(auto)]
 
 mod facts;
