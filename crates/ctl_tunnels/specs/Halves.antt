@@ -81,7 +81,7 @@ abbrev pub spi_of : ℕ → ℕ
 spi_of n = min (n + 256) (2 ^ 32 - 1)
 
 -- The inbound half as its receiver's SAD gets it (RFC 4301 section 4.4.2): local is the receiver itself, and the selector holds what comes
--- from the prefix at the sender. The DF bit of an outer header is copied (RFC 4301 section 8.1).
+-- from the prefix behind the sender. The DF bit of an outer header is copied (RFC 4301 section 8.1).
 abbrev pub in_entry : Direction → ℕ → List ℕ → Addr → Addr → SadEntry
 in_entry d n key sender receiver = record {
   name = in_name n;
@@ -97,8 +97,8 @@ in_entry d n key sender receiver = record {
   soft = d.soft;
 }
 
--- The outbound half as its sender's SAD gets it: local is the sender itself, and the selector holds what goes to the prefix at the
--- receiver.
+-- The outbound half as its sender's SAD gets it: local is the sender itself, and the selector holds what goes to the prefix behind
+-- the receiver.
 abbrev pub out_entry : Direction → ℕ → List ℕ → Addr → Addr → SadEntry
 out_entry d n key sender receiver = record {
   name = out_name n;

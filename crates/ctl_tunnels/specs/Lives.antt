@@ -65,8 +65,8 @@ answered o status x = if x.serial == o.serial then answered_own x status o.task 
 abbrev pub is_out_removable : Bool → Life → Bool
 is_out_removable sender x = x.ended && x.out_sent && not x.out_gone && sender
 
--- its inbound half may be ordered removed: it is ended, nothing more is sealed under its outbound half, and the session at the receiver is
--- read
+-- its inbound half may be ordered removed: it is ended, its outbound half was never ordered put or its removal was answered, and the
+-- session at the receiver is read
 abbrev pub is_in_removable : Bool → Life → Bool
 is_in_removable receiver x = x.ended && (not x.out_sent || x.out_gone) && receiver
 
