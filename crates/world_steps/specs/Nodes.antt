@@ -19,7 +19,7 @@ use Rattle.gw_core.specs.Machine.{Event, Clock, Handle, Session_taken, stepped}
 use Rattle.gw_law.specs.Told.{Naming}
 use Rattle.gw_history.specs.Told.{told}
 
--- A gateway and both ends of its session, of which the controller's end is counted here too.
+-- A gateway with its session. The three counts begin anew where one is opened; a restart begins that of requests handled anew.
 pub record Node : Type 0 where
   pub name : List ℕ
   pub config : Config
@@ -54,7 +54,7 @@ naming n = record { name = n.name; openings = n.pipe.openings; session = session
 
 -- ---- what a gateway does, as acts and as messages
 
--- what it does as acts of the transcript, named before the numbers of the next event change
+-- what it does, as acts of the transcript, with its name and the numbers of its session and requests from before the event
 abbrev pub acts_told : Node → List GwAct → List Act
 acts_told n xs = map (told (naming n)) xs
 

@@ -97,7 +97,7 @@ clock_read t w = record w {
   clock = max t w.clock;
 }
 
--- the gateway restarts, and has the clock as it was
+-- the gateway restarts, and is told the greatest reading of the clock so far
 abbrev pub boot_at : World → Option Node → Done
 boot_at w None = did [] w
 boot_at w (Some n) = did (acts.Boot n.name ∷ []) (with_node (restarted w.clock n) w)
