@@ -23,6 +23,7 @@ spares (changes.Read g shown) t = is_beside g t
 spares (changes.Acquired g reqids) t = is_beside g t
 spares (changes.Worn g half) t = is_beside g t
 
+-- no order of its own waits for an answer
 abbrev pub is_free : Option HalfOrder → Bool
 is_free None = true
 is_free (Some o) = false
@@ -36,5 +37,6 @@ is_whole (Some x) = x.out_done && not x.ended
 abbrev pub is_quiet : Progress → Bool
 is_quiet p = is_free p.waits && not (p.wanted && not p.over) && is_whole p.older && is_whole p.newer
 
+-- the change leaves the tunnel as it is, and no order is due in either direction
 abbrev pub is_idle : Change → Tunnel → Pair → Bool
 is_idle ch t p = is_quiet p.forth && is_quiet p.back && spares ch t

@@ -71,6 +71,7 @@ life_of h x = record {
   ended = is_ended x h;
 }
 
+-- the half that the first of these orders puts or removes; none where there is no order, or it is a reading or a list
 abbrev pub first_half : List ControllerOrder → Option HalfOrder
 first_half [] = None
 first_half (o ∷ os) = half_of o
@@ -86,6 +87,7 @@ progress_of h d = record {
   newer = option_map (life_of h) (newest_left d h);
 }
 
+-- one direction of a tunnel as the core keeps it: its ends by their numbers, the prefixes behind them, window and limits
 abbrev pub direction_of : Way → Direction
 direction_of d = record {
   reqid = d.tunnel.reqid;
@@ -112,6 +114,7 @@ pub data TunnelsStand (h : List ControllerAct) : List Way → List Tunnel → Li
 
 -- ## the whole
 
+-- What the core keeps is what this past says. It says nothing of answers and notices that are still to come.
 pub record StandsFor (ps : List Peer) (h : List ControllerAct) (c : Core) : Type 0 where
   pub gateways : c.stations ≡ numbered (station_of ps h) 0 ps
   pub tunnels : TunnelsStand h (directions h) c.tunnels c.pairs

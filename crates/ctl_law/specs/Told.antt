@@ -21,6 +21,7 @@ event_of (events.Cut g) = Cuts g
 event_of (events.Answered g a) = Answers g a
 event_of (events.Noticed g n) = Notices g n
 
+-- the same events, as the law has them, in their order
 abbrev pub events_of : List CtlEvent → List ControllerEvent
 events_of [] = []
 events_of (e ∷ es) = event_of e ∷ events_of es
@@ -35,6 +36,7 @@ done_at ps (Ordered g s n o) = done.Order g (order_told ps o) ∷ []
 done_at ps (Accepted c) = []
 done_at ps (Refused w) = done.Refused w ∷ []
 
+-- what a controller does at these acts of the law, in their order
 abbrev pub all_done : List Peer → List ControllerAct → List CtlAct
 all_done ps [] = []
 all_done ps (a ∷ more) = done_at ps a ++ all_done ps more
@@ -87,6 +89,7 @@ spi_in (tree.Policy l) = []
 spi_in (tree.Put e) = e.spi ∷ []
 spi_in (tree.Remove n) = []
 
+-- the SPIs of all entries that are put, in the order of their puts
 abbrev pub spis_of : List CtlAct → List ℕ
 spis_of [] = []
 spis_of (done.Order g o ∷ more) = spi_in o ++ spis_of more

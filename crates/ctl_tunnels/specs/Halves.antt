@@ -21,10 +21,12 @@ use Rattle.ctl_tunnels.specs.declared.life.Task.{Task}
 use Rattle.ctl_tunnels.specs.declared.life.Task.TheVariants as tasks
 use Rattle.ctl_tunnels.specs.declared.tunnel.Direction.{Direction}
 
+-- the half of this side and the first serial is the inbound half of the second serial
 abbrev pub is_in : Side → ℕ → ℕ → Bool
 is_in sides.In n m = n == m
 is_in sides.Out n m = false
 
+-- the half of this side and the first serial is the outbound half of the second serial
 abbrev pub is_out : Side → ℕ → ℕ → Bool
 is_out sides.In n m = false
 is_out sides.Out n m = n == m
@@ -34,10 +36,12 @@ abbrev pub names_in : Option HalfName → ℕ → Bool
 names_in None n = false
 names_in (Some half) n = is_in half.side n half.serial
 
+-- the name is that of the outbound half of this serial
 abbrev pub names_out : Option HalfName → ℕ → Bool
 names_out None n = false
 names_out (Some half) n = is_out half.side n half.serial
 
+-- a number that fits in 32 bits
 abbrev pub number_or_none : Result ℕ BadValue → Option ℕ
 number_or_none (Ok n) = if nat_le n 4294967295 then Some n else None
 number_or_none (Err bad) = None
@@ -49,6 +53,7 @@ serial_after front name =
     else if bytes_eq (take (length front) name) front then number_or_none (u64_of (drop (length front) name))
     else None
 
+-- the half of the serial that follows `in/`, or else of the one that follows `out/`
 abbrev pub half_by : Option ℕ → Option ℕ → Option HalfName
 half_by (Some n) out = Some (record { side = sides.In; serial = n })
 half_by None (Some n) = Some (record { side = sides.Out; serial = n })
@@ -62,6 +67,7 @@ half_named name = half_by (serial_after (codes "in/") name) (serial_after (codes
 abbrev pub shows_in : List (List ℕ) → ℕ → Bool
 shows_in names n = list_any (λ x. names_in (half_named x) n) names
 
+-- the outbound half of this serial is among these names
 abbrev pub shows_out : List (List ℕ) → ℕ → Bool
 shows_out names n = list_any (λ x. names_out (half_named x) n) names
 
@@ -74,6 +80,8 @@ pub record IsHalfName (name : List ℕ) (half : Option HalfName) : Type 0 where
 abbrev pub spi_of : ℕ → ℕ
 spi_of n = min (n + 256) (2 ^ 32 - 1)
 
+-- The inbound half as its receiver's SAD gets it (RFC 4301 section 4.4.2): local is the receiver itself, and the selector holds what comes
+-- from the prefix behind the sender. The DF bit of an outer header is copied (RFC 4301 section 8.1).
 abbrev pub in_entry : Direction → ℕ → List ℕ → Addr → Addr → SadEntry
 in_entry d n key sender receiver = record {
   name = in_name n;
@@ -89,6 +97,8 @@ in_entry d n key sender receiver = record {
   soft = d.soft;
 }
 
+-- The outbound half as its sender's SAD gets it: local is the sender itself, and the selector holds what goes to the prefix behind
+-- the receiver.
 abbrev pub out_entry : Direction → ℕ → List ℕ → Addr → Addr → SadEntry
 out_entry d n key sender receiver = record {
   name = out_name n;

@@ -5,6 +5,7 @@ use Rattle.ctl_tunnels.specs.declared.life.HalfOrder.{HalfOrder}
 use Rattle.ctl_tunnels.specs.declared.life.Task.{Task}
 use Rattle.ctl_tunnels.specs.declared.life.Task.TheVariants as tasks
 
+-- the order installs a half; the others remove one
 abbrev pub puts : Task → Bool
 puts tasks.PutIn = true
 puts tasks.PutOut = true
@@ -25,15 +26,19 @@ begins tasks.PutOut = false
 begins tasks.RemoveIn = false
 begins tasks.RemoveOut = false
 
+-- the association with this serial, where its inbound half was just ordered put
 abbrev pub begun : ℕ → Life
 begun n = record { serial = n; in_done = false; out_sent = false; out_done = false; out_gone = false; ended = false }
 
+-- The association is in progress: it is not ended and the put of its outbound half is not answered.
 abbrev pub is_open : Life → Bool
 is_open x = not x.ended && not x.out_done
 
+-- ended, where it was so before or this holds; it never ends being ended
 abbrev pub ended_if : Bool → Life → Life
 ended_if e x = record { serial = x.serial; in_done = x.in_done; out_sent = x.out_sent; out_done = x.out_done; out_gone = x.out_gone; ended = e || x.ended }
 
+-- its outbound half was ordered put
 abbrev pub sent : Life → Life
 sent x = record { serial = x.serial; in_done = x.in_done; out_sent = true; out_done = x.out_done; out_gone = x.out_gone; ended = x.ended }
 
@@ -55,11 +60,16 @@ answered_own x status tasks.RemoveOut = Some (record { serial = x.serial; in_don
 abbrev pub answered : HalfOrder → ℕ → Life → Option Life
 answered o status x = if x.serial == o.serial then answered_own x status o.task else Some (ended_if (is_replaced x o.serial status o.task) x)
 
+-- its outbound half may be ordered removed: it is ended, the half was ordered put and no removal of it was answered, and the session at the
+-- sender is read
 abbrev pub is_out_removable : Bool → Life → Bool
 is_out_removable sender x = x.ended && x.out_sent && not x.out_gone && sender
 
+-- its inbound half may be ordered removed: it is ended, its outbound half was never ordered put or its removal was answered, and the
+-- session at the receiver is read
 abbrev pub is_in_removable : Bool → Life → Bool
 is_in_removable receiver x = x.ended && (not x.out_sent || x.out_gone) && receiver
 
+-- its outbound half may be ordered put: it is in progress, the put of its inbound half was answered, and the sessions at both ends are read
 abbrev pub is_out_puttable : Bool → Bool → Life → Bool
 is_out_puttable sender receiver x = is_open x && not x.out_sent && x.in_done && sender && receiver

@@ -24,12 +24,15 @@ target_of x = 1 + (gateway_of x + x / 2 ^ 44 % 2) % 3
 abbrev pub upper_of : ℕ → ℕ
 upper_of x = x / 2 ^ 45
 
+-- one in 64 of these lines restarts a gateway, the others raise the clock
 abbrev pub clock_kind : ℕ → Kind
 clock_kind upper = if upper % 64 == 0 then kinds.Boot else kinds.Now
 
+-- one in 16 of these lines cuts a session, the others open one
 abbrev pub session_kind : ℕ → Kind
 session_kind upper = if upper % 16 == 0 then kinds.Cut else kinds.Open
 
+-- the kind of a line by four bits of its number, and by the upper bits where two kinds share a place
 abbrev pub kind_at : ℕ → ℕ → Kind
 kind_at place upper =
     if nat_le place 3 then kinds.Let
@@ -44,14 +47,17 @@ kind_at place upper =
 abbrev pub kind_of : ℕ → Kind
 kind_of x = kind_at (x / 2 ^ 33 % 16) (upper_of x)
 
+-- the line lets a packet in
 abbrev pub is_let : Kind → Bool
 is_let kinds.Let = true
 is_let _ = false
 
+-- the line has a reading of the clock
 abbrev pub is_now : Kind → Bool
 is_now kinds.Now = true
 is_now _ = false
 
+-- one more where this line is such a one
 abbrev pub one_more : Bool → ℕ → ℕ
 one_more true n = n + 1
 one_more false n = n

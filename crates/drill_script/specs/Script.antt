@@ -21,6 +21,7 @@ policies_text =
 abbrev pub key_of : ℕ → List ℕ
 key_of k = 0 ∷ 0 ∷ 0 ∷ 0 ∷ 0 ∷ 0 ∷ 0 ∷ 0 ∷ 0 ∷ 0 ∷ 0 ∷ 0 ∷ 0 ∷ 0 ∷ 0 ∷ k ∷ 0 ∷ 0 ∷ 0 ∷ k ∷ []
 
+-- the line that commands the k-th key
 abbrev pub key_line : ℕ → List ℕ
 key_line k = line_text (codes "keys" ∷ digits_text (key_of k) ∷ [])
 
@@ -39,6 +40,7 @@ tunnels_text =
 
 -- ---- a drawn line
 
+-- `a`, `b` or `c`
 abbrev pub name_of : ℕ → List ℕ
 name_of gateway = (96 + gateway) ∷ []
 
@@ -75,5 +77,6 @@ drawn_text n (suc k) = drawn_text n k ++ (drawn_line (drawn n (suc k)) (many is_
 
 -- ---- the whole
 
+-- the script that the number n draws: a header and 73 lines that are the same for all n, and 20,000 lines that are drawn
 abbrev pub script_of : ℕ → List ℕ
 script_of n = policies_text ++ (keys_text 64 ++ (tunnels_text ++ drawn_text n 20000))

@@ -16,6 +16,7 @@ use Rattle.line_words.specs.Words.{◌>>=◌, one_of, words, is_printable, gatew
 use Rattle.line_words.specs.Entry.{entries_of, unless_fault}
 use Rattle.line_words.specs.Limits.{lifetimes_of}
 
+-- a gateway by any name, and at most 256 entries, which must be a list that can be in force
 unfoldable pub policy_in : List (List ℕ) → Result Event LineFault
 policy_in [] = Err faults.Count
 policy_in (gateway ∷ entries) =
@@ -23,6 +24,7 @@ policy_in (gateway ∷ entries) =
     then gateway_of gateway >>= (λ g. entries_of entries >>= (λ list. unless_fault (spd_fault list) list >>= (λ good. Ok (events.Policy g good))))
     else Err faults.Count
 
+-- a gateway of the header, and the octets of a packet from inside
 unfoldable pub let_in : List Peer → List (List ℕ) → Result Event LineFault
 let_in gateways (gateway ∷ octets ∷ []) = known_of gateways gateway >>= (λ g. octets_of octets >>= (λ o. Ok (events.Let g o)))
 let_in gateways _ = Err faults.Count
@@ -63,6 +65,8 @@ flip_of gateways gateway sent how offset bit =
     then number_in faults.Number (2 ^ 64 - 1) offset >>= (λ n. number_in faults.Number 7 bit >>= (λ b. Ok (events.ArriveFlip g k n b)))
     else Err faults.Word))
 
+-- a gateway of the header, and what arrives there, by the number of words: octets or a datagram sent, with another time to live, or with
+-- one bit changed
 unfoldable pub arrive_in : List Peer → List (List ℕ) → Result Event LineFault
 arrive_in gateways (gateway ∷ w ∷ []) = arrive_of gateways gateway w
 arrive_in gateways (gateway ∷ sent ∷ how ∷ ttl ∷ []) = ttl_of gateways gateway sent how ttl
@@ -71,24 +75,29 @@ arrive_in gateways _ = Err faults.Count
 
 -- ---- clocks, gateways and sessions
 
+-- a reading of the clock in seconds, below 2^32
 unfoldable pub time_in : List (List ℕ) → Result ℕ LineFault
 time_in (t ∷ []) = number_in faults.Number (2 ^ 32 - 1) t
 time_in _ = Err faults.Count
 
+-- a gateway of the header, and no more words
 unfoldable pub gateway_in : List Peer → List (List ℕ) → Result (List ℕ) LineFault
 gateway_in gateways (gateway ∷ []) = known_of gateways gateway
 gateway_in gateways _ = Err faults.Count
 
+-- a gateway of the header, and the lane that is shown
 unfoldable pub wire_in : List Peer → List (List ℕ) → Result Event LineFault
 wire_in gateways (gateway ∷ lane ∷ []) = known_of gateways gateway >>= (λ g. lane_of lane >>= (λ l. Ok (events.Wire g l)))
 wire_in gateways _ = Err faults.Count
 
 -- ---- commands
 
+-- the reqid of a tunnel, or another number below 2^64, and no more words
 unfoldable pub reqid_in : List (List ℕ) → Result ℕ LineFault
 reqid_in (reqid ∷ []) = number_in faults.Number (2 ^ 64 - 1) reqid
 reqid_in _ = Err faults.Count
 
+-- one key; whether its length is right is the controller's to say
 unfoldable pub keys_in : List (List ℕ) → Result Event LineFault
 keys_in (octets ∷ []) = octets_of octets >>= (λ o. Ok (events.Keys o))
 keys_in _ = Err faults.Count
@@ -101,16 +110,19 @@ mode_of w = one_of faults.Mode (table.mode_of w)
 abbrev pub window_of : List ℕ → Result ℕ LineFault
 window_of w = number_in faults.Number 4096 w >>= (λ n. if nat_le 32 n then Ok n else Err faults.Number)
 
+-- a reqid, whether keys are wanted at once, and two gateways by any name
 unfoldable pub ends_of : List ℕ → List ℕ → List ℕ → List ℕ → Result Ends LineFault
 ends_of reqid mode first second =
     number_in faults.Number (2 ^ 64 - 1) reqid >>= (λ n. mode_of mode >>= (λ m. gateway_of first >>= (λ f. gateway_of second >>= (λ s.
     Ok (record { reqid = n; now = m; first = f; second = s })))))
 
+-- the prefix behind each gateway, the size of the anti-replay window, the hard limits and the soft ones
 unfoldable pub flow_of : List ℕ → List ℕ → List ℕ → List ℕ → List ℕ → Result Flow LineFault
 flow_of first second window hard soft =
     prefix_in faults.Prefix first >>= (λ f. prefix_in faults.Prefix second >>= (λ s. window_of window >>= (λ w. lifetimes_of faults.Limits hard soft >>= (λ l.
     Ok (record { first = f; second = s; window = w; lifetimes = l })))))
 
+-- the tunnel with these ends, and what flows in it
 abbrev pub tunnel_made : Ends → Flow → TunnelSpec
 tunnel_made e f = record {
   reqid = e.reqid;
@@ -124,14 +136,17 @@ tunnel_made e f = record {
   soft = f.lifetimes.soft;
 }
 
+-- the same in five words, no more and no fewer
 unfoldable pub flow_in : List (List ℕ) → Result Flow LineFault
 flow_in (first ∷ second ∷ window ∷ hard ∷ soft ∷ []) = flow_of first second window hard soft
 flow_in _ = Err faults.Count
 
+-- a tunnel by its first four words and those after them, which are looked at later
 unfoldable pub tunnel_of : List ℕ → List ℕ → List ℕ → List ℕ → List (List ℕ) → Result Event LineFault
 tunnel_of reqid mode first second more =
     ends_of reqid mode first second >>= (λ e. flow_in more >>= (λ f. Ok (events.Tunnel (tunnel_made e f))))
 
+-- a tunnel by its words, of which there are nine
 unfoldable pub tunnel_from : List (List ℕ) → Result Event LineFault
 tunnel_from (reqid ∷ mode ∷ first ∷ second ∷ more) = tunnel_of reqid mode first second more
 tunnel_from _ = Err faults.Count

@@ -12,6 +12,7 @@ use Rattle.yang_values.specs.Numbers.{number_of}
 use Rattle.yang_values.specs.Addresses.{address_of}
 use Rattle.line_words.specs.Words.{◌>>=◌, or_fault, each, words, is_printable}
 
+-- between the name of a gateway and its address
 abbrev pub is_equals : ℕ → Bool
 is_equals c = c == 61
 
@@ -25,9 +26,11 @@ gateway_in (name ∷ address ∷ []) =
     if is_gateway name then or_fault faults.Header (address_of address) >>= (λ a. Ok (record { name = name; address = a })) else Err faults.Header
 gateway_in _ = Err faults.Header
 
+-- one word, `GATEWAY=ADDRESS`
 abbrev pub peer_of : List ℕ → Result Peer LineFault
 peer_of w = gateway_in (slice_split is_equals w)
 
+-- each word a gateway of the header
 abbrev pub peers_of : List (List ℕ) → Result (List Peer) LineFault
 peers_of words = each peer_of words
 
@@ -35,6 +38,7 @@ peers_of words = each peer_of words
 abbrev pub go_together : Peer → Peer → Bool
 go_together p q = not (bytes_eq p.name q.name) && not (is_same_address p.address q.address) && is_one_family p.address q.address
 
+-- no two of these gateways have one name, one address or addresses of two families
 abbrev pub all_go_together : List Peer → Bool
 all_go_together [] = true
 all_go_together (p ∷ ps) = list_all (go_together p) ps && all_go_together ps
@@ -46,6 +50,7 @@ gateways_of ws =
     then peers_of ws >>= (λ ps. if all_go_together ps then Ok ps else Err faults.Header)
     else Err faults.Header
 
+-- `world seq-last`, the last sequence number that a half may use (RFC 4303 section 2.2), and the gateways
 unfoldable pub header_in : List (List ℕ) → Result Header LineFault
 header_in (world ∷ seq_last ∷ number ∷ gateways) =
     if bytes_eq world (codes "world") && bytes_eq seq_last (codes "seq-last")

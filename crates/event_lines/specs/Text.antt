@@ -8,6 +8,7 @@ use Rattle.hist_acts.specs.declared.event.Event.TheVariants as events
 use Rattle.line_words.specs.Text.{hex_text, limits_text, entry_text, line_text}
 use Rattle.ikeless_tree.specs.Words.{lane_text, mode_text}
 
+-- the nine words of a tunnel; the first gateway's prefix stands before the second's
 abbrev pub tunnel_words : TunnelSpec → List (List ℕ)
 tunnel_words s =
     decimal s.reqid ∷ mode_text s.now ∷ s.first ∷ s.second ∷ prefix_text s.first_prefix ∷ prefix_text s.second_prefix

@@ -5,6 +5,7 @@ use Rattle.hist_acts.specs.declared.event.Event.{Event}
 use Rattle.hist_acts.specs.declared.event.Header.{Header}
 use Rattle.hist_world.specs.Block.{Past, Shows, block, is_forged_event, past_after}
 
+-- no blocks after that of a forged arrival
 abbrev pub unless_last : Bool → List (List Act) → List (List Act)
 unless_last true more = []
 unless_last false more = more
@@ -20,6 +21,7 @@ abbrev pub joined : List (List Act) → List Act
 joined [] = []
 joined (b ∷ bs) = b ++ joined bs
 
+-- 1 for the event itself, or one more than the number that a later one has among those after it
 abbrev pub number_by : Bool → Option ℕ → Option ℕ
 number_by true later = Some 1
 number_by false None = None

@@ -27,9 +27,11 @@ keying_of e = keying e.spi e.key
 abbrev pub HalfSeals : SadEntry → ℕ → List ℕ → List ℕ → Type 0
 HalfSeals half n p b = b ≡ esp (keying_of half) n (next_header p) p
 
+-- The ICV of the ESP octets is right under the half's key, and the text is what was sealed: the packet, its padding and the ESP trailer.
 abbrev pub HalfOpens : SadEntry → List ℕ → List ℕ → Type 0
 HalfOpens half b text = EspOpens (keying_of half) b text
 
+-- the address of a peer; none where there is no peer
 abbrev pub address_in : Option Peer → Option Addr
 address_in None = None
 address_in (Some p) = Some p.address
@@ -96,6 +98,7 @@ IsUndelivered gateways g o h = (x : List ℕ) (n : ℕ) (p : List ℕ) → Deliv
 
 -- ---- what was sent and given
 
+-- the newest act is that the packet p came from inside g
 abbrev pub is_let : List ℕ → List ℕ → List Act → Bool
 is_let g p (acts.Let f o ∷ h) = bytes_eq f g && bytes_eq o p
 is_let g p _ = false
@@ -113,6 +116,7 @@ was_given x n [] = false
 was_given x n (acts.Gave f y m o ∷ h) = (bytes_eq y x && (m == n)) || was_given x n h
 was_given x n (_ ∷ h) = was_given x n h
 
+-- the AES key of an entry, without its salt; no octets where there is no entry
 abbrev pub aes_in : Option SadEntry → List ℕ
 aes_in None = []
 aes_in (Some e) = aes_part e.key

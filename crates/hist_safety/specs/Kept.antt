@@ -71,6 +71,7 @@ WasGiven x n h = (g : List ℕ) × (halves.was_put g x h ≡ true) × (is_among 
 abbrev pub NumberSent : List ℕ → ℕ → List Act → Type 0
 NumberSent x n h = (g b p : List ℕ) × (was_sent g x n b p h ≡ true)
 
+-- All five parts. They hold before the first act, and after each act that may happen.
 pub record Kept (h : List Act) : Type 0 where
   -- sessions: the one taken is the last one opened, or none; one that was cut isn't open; what is heard was handled before,
   -- and what is handled was ordered

@@ -56,6 +56,7 @@ pub record RemoveOutMayHappen (g x : List ℕ) (h : List Act) : Type 0 where
   pub order : was_order_given x h ≡ true
   pub here : g ≡ site x h
 
+-- the removal of an inbound half, once nothing more can be sealed under its outbound half
 pub record RemoveInMayHappen (g x : List ℕ) (h : List Act) : Type 0 where
   pub serial : List ℕ
   pub name : x ≡ in_half serial
@@ -63,6 +64,7 @@ pub record RemoveInMayHappen (g x : List ℕ) (h : List Act) : Type 0 where
   pub here : g ≡ site x h
   pub last : (was_order_given (out_half serial) h ≡ false) ⊎ (is_removal_answered (out_half serial) h ≡ true)
 
+-- Readings and lists of policies may be ordered at any time, halves only where the conditions above hold.
 abbrev pub OrderMayHappen : List ℕ → Order → List Act → Type 0
 OrderMayHappen g asks.Read h = Unit {0}
 OrderMayHappen g (asks.Policy list) h = Unit {0}
@@ -104,6 +106,7 @@ abbrev pub GiveMayHappen : List Peer → List ℕ → List ℕ → ℕ → List 
 GiveMayHappen gateways g x n p (acts.Arrived f o ∷ h) = (f ≡ g) × IsGenuine gateways g o h × Delivers gateways g o x n p h
 GiveMayHappen gateways g x n p _ = ⊥
 
+-- a datagram from outside is given inside as it came, directly after its arrival, which isn't forged and delivers nothing
 abbrev pub PassMayHappen : List Peer → List ℕ → List Act → Type 0
 PassMayHappen gateways g (acts.Arrived f o ∷ h) = (f ≡ g) × IsGenuine gateways g o h × IsUndelivered gateways g o h
 PassMayHappen gateways g _ = ⊥
@@ -117,6 +120,7 @@ DropMayHappen gateways g why _ = ⊥
 
 -- ---- the law
 
+-- The act may follow these, by its kind. One without a case of its own needs only that no question waits for its answer.
 abbrev pub MayHappen : List Peer → Act → List Act → Type 0
 MayHappen gateways (acts.Opened g s) h = (is_ready h ≡ true) × (s ≡ openings g h + 1)
 MayHappen gateways (acts.Cut g s) h = (is_ready h ≡ true) × (is_open g h ≡ true) × (s ≡ openings g h)

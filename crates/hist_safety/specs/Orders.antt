@@ -33,16 +33,19 @@ order_of x [] = None
 order_of x (acts.Order f s k (asks.Put e) ∷ h) = if bytes_eq e.name x then Some e else order_of x h
 order_of x (_ ∷ h) = order_of x h
 
+-- the gateway at which the newest put of the half was ordered; no octets where none was
 abbrev pub site : List ℕ → List Act → List ℕ
 site x [] = []
 site x (acts.Order f s k (asks.Put e) ∷ h) = if bytes_eq e.name x then f else site x h
 site x (_ ∷ h) = site x h
 
+-- the session in which that put was ordered; 0 where none was
 abbrev pub session_of : List ℕ → List Act → ℕ
 session_of x [] = 0
 session_of x (acts.Order f s k (asks.Put e) ∷ h) = if bytes_eq e.name x then s else session_of x h
 session_of x (_ ∷ h) = session_of x h
 
+-- the number of that put among the orders of its session, from 1; 0 where none was
 abbrev pub place_of : List ℕ → List Act → ℕ
 place_of x [] = 0
 place_of x (acts.Order f s k (asks.Put e) ∷ h) = if bytes_eq e.name x then k else place_of x h
@@ -71,6 +74,7 @@ abbrev pub is_put : List ℕ → Option Order → Bool
 is_put x (Some (asks.Put e)) = bytes_eq e.name x
 is_put x _ = false
 
+-- the order removes the half of this name; false where there is no order
 abbrev pub is_removal : List ℕ → Option Order → Bool
 is_removal x (Some (asks.Remove y)) = bytes_eq y x
 is_removal x _ = false

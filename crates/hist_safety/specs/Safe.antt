@@ -36,6 +36,7 @@ pub record GaveWasSent (g x : List ℕ) (n : ℕ) (p : List ℕ) (h : List Act) 
   pub before : was_sent (site (other_half x) h) (other_half x) n octets p h ≡ true
   pub first : was_given x n h ≡ false
 
+-- each packet that comes out of a tunnel was let in at its other end, and comes out once
 abbrev pub IsGaveSafe : Act → List Act → Type 0
 IsGaveSafe (acts.Gave g x n p) h = GaveWasSent g x n p h
 IsGaveSafe _ h = Unit {0}
@@ -71,6 +72,7 @@ IsArrivalSafe gateways a (acts.Arrived g o ∷ h) =
     → a ≡ acts.Gave g (in_half serial) (number_of half (numbers_taken g (in_half serial) h) (esp_of o)) p
 IsArrivalSafe gateways a _ = Unit {0}
 
+-- The five parts hold of each act and of what happened before it. That nothing is left open at the end is `IsLastSafe`.
 abbrev pub Safe : List Peer → List Act → Type 0
 Safe gateways [] = Unit {0}
 Safe gateways (a ∷ h) =

@@ -12,6 +12,7 @@ pub record Civil : Type 0 where
   pub month : ℕ
   pub day : ℕ
 
+-- the next day of the calendar, with its leap years
 abbrev pub day_after : Civil → Civil
 day_after c =
     if nat_lt c.day (days_in_month (pos c.year) c.month) then record { year = c.year; month = c.month; day = c.day + 1 }
@@ -23,6 +24,7 @@ unfoldable pub civil : ℕ → Civil
 civil zero = record { year = 1970; month = 1; day = 1 }
 civil (suc n) = day_after (civil n)
 
+-- the date and the time of so many seconds after its midnight in UTC, below 86,400; without leap seconds
 abbrev pub stamp_of : Civil → ℕ → List ℕ
 stamp_of c rest = stamp_text c.year c.month c.day (rest / 3600) (rest / 60 % 60) (rest % 60)
 

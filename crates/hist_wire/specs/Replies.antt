@@ -12,6 +12,7 @@ abbrev pub IsReplied : Act → List Act → Type 0
 IsReplied (acts.Handled g s k a) h = (o : Order) × (next_request g h ≡ Some o) × (a ≡ answer_of (outcome_at g h o))
 IsReplied _ h = Unit {0}
 
+-- each answer that a gateway gave was its reply to the request that it handled
 abbrev pub AllReplied : List Act → Type 0
 AllReplied [] = Unit {0}
 AllReplied (a ∷ h) = IsReplied a h × AllReplied h

@@ -40,6 +40,7 @@ before_change h = h
 abbrev pub outcome_at : List ℕ → List Act → Order → Outcome
 outcome_at g h o = reply (tree_of g (before_change h)) (ask_of o)
 
+-- the response to an order, over the databases before its change; no octets where there is no order
 abbrev pub response_to : List ℕ → List Act → Option Order → List ℕ
 response_to g h None = []
 response_to g h (Some o) = response_text (reply_message (reply_of (outcome_at g h o)))
@@ -63,6 +64,7 @@ pipe_at g host h = pipe_of (request_at host) (response_at g) line_at g h
 abbrev pub first_octets : Lane → UnderWay → List ℕ
 first_octets lane p = take 4096 (unread_octets lane p)
 
+-- the octets under way on a lane of this gateway, or none where there is no such gateway
 abbrev pub shown_at : List ℕ → Lane → List Act → Option node.Gateway → List ℕ
 shown_at g lane h None = []
 shown_at g lane h (Some c) = first_octets lane (pipe_at g c.address h)

@@ -18,6 +18,7 @@ use Rattle.hist_gateway.specs.Arrive.{is_sealed_for}
 
 -- ---- what was sent comes again, as it was or damaged
 
+-- how many datagrams were sent, by all gateways together and under all halves
 abbrev pub sent_count : List Act → ℕ
 sent_count [] = 0
 sent_count (acts.Sent f y n o ∷ h) = sent_count h + 1
@@ -40,10 +41,12 @@ flipped offset bit (b ∷ bs) = if offset == 0 then with_bit bit b ∷ bs else b
 
 -- ---- forged arrivals
 
+-- the anti-replay window lets the number pass (RFC 4303 section 3.4.3)
 abbrev pub is_fresh : Verdict → Bool
 is_fresh Fresh = true
 is_fresh _ = false
 
+-- a text was found, as the ICV is right
 abbrev pub does_open : Option (List ℕ) → Bool
 does_open None = false
 does_open (Some x) = true
@@ -55,9 +58,11 @@ is_half_forged g h b (Some e) =
     is_fresh (verdict_over e.window (numbers_taken g e.name h) (number_of e (numbers_taken g e.name h) b))
     && (does_open (opened (keying e.spi e.key) b) && not (is_sealed (other_half e.name) b h))
 
+-- these are ESP octets for a live inbound half of g, and forged there; 34 octets are the least that can be opened
 abbrev pub is_esp_forged : List ℕ → List Act → List ℕ → Bool
 is_esp_forged g h b = not (nat_lt (length b) 34) && is_half_forged g h b (by_spi (spi_of b) (live g h))
 
+-- a packet for the gateway's own address carries forged ESP octets; octets that aren't a packet are no forged arrival
 abbrev pub is_view_forged : List ℕ → Addr → List Act → Result Packet NotPacket → Bool
 is_view_forged g own h (Err fault) = false
 is_view_forged g own h (Ok v) = is_sealed_for own v && is_esp_forged g h v.payload

@@ -30,6 +30,7 @@ pub record Past : Type 0 where
   pub world : List Act
   pub controller : List controller.ControllerAct
 
+-- before the first event
 abbrev pub nothing : Past
 nothing = record { world = []; controller = [] }
 
@@ -39,6 +40,7 @@ Shows = List ℕ → Lane → List Act → List ℕ
 
 -- ---- the gateways
 
+-- a gateway of the header as its law knows it: by its name, its address and the last sequence number that it may use
 abbrev pub with_peer : Header → List ℕ → Option Peer → Option node.Gateway
 with_peer header g None = None
 with_peer header g (Some p) = Some (record { name = g; address = p.address; seq_last = header.seq_last })
@@ -57,6 +59,7 @@ abbrev pub arrives_at : List Act → List ℕ → Option node.Gateway → List A
 arrives_at h o None = []
 arrives_at h o (Some c) = if is_forged c.name c.address h o then acts.Arrived c.name o ∷ [] else node.gw_block c h (node.Arrive o)
 
+-- the next request at a gateway, if there is one and there is such a gateway, is handled
 abbrev pub handles_at : List Act → Option node.Gateway → Option Order → List Act
 handles_at h c None = []
 handles_at h c (Some o) = at_gateway h (node.Handle (Ok (ask_of o))) c
@@ -66,13 +69,16 @@ abbrev pub looks : List Act → List Peer → List Act
 looks h [] = []
 looks h (p ∷ ps) = look p.name h (live p.name h) ++ looks (after h (look p.name h (live p.name h))) ps
 
+-- a reading raises the clock, or doesn't: only then do the gateways look at the limits of their halves
 abbrev pub raised : Header → List Act → Bool → List Act
 raised header h true = looks h header.gateways
 raised header h false = []
 
+-- A reading of the clock, in seconds, as the greatest so far; an earlier one leaves the clock as it is.
 abbrev pub clock_block : Header → List Act → ℕ → List Act
 clock_block header h t = acts.Now (max t (clock h)) ∷ raised header (acts.Now (max t (clock h)) ∷ h) (nat_lt (clock h) t)
 
+-- a gateway restarts, if there is one of this name
 abbrev pub boots : List ℕ → Option node.Gateway → List Act
 boots g None = []
 boots g (Some c) = acts.Boot g ∷ []
@@ -85,6 +91,7 @@ arrival_of h (events.ArriveFlip g k offset bit) = Some (g, flipped offset bit (s
 arrival_of h (events.ArriveTtl g k ttl) = Some (g, with_ttl ttl (sent_at k h))
 arrival_of h _ = None
 
+-- the octets in the second part arrive at the gateway in the first
 abbrev pub by_arrival : Header → List Act → Option (List ℕ × List ℕ) → List Act
 by_arrival header h None = []
 by_arrival header h (Some a) = arrives_at h a.1 (gateway_at header a.0)
@@ -100,10 +107,12 @@ gateway_acts shows header h e = by_arrival header h (arrival_of h e)
 
 -- ---- the controller
 
+-- an answer comes to the controller from the gateway with this number among the peers
 abbrev pub answer_event : ℕ → Option Answer → Option controller.ControllerEvent
 answer_event n None = None
 answer_event n (Some a) = Some (controller.Answers n a)
 
+-- a notice comes to the controller from the gateway with this number among the peers
 abbrev pub hears : ℕ → Option Notice → Option controller.ControllerEvent
 hears n None = None
 hears n (Some t) = Some (controller.Notices n t)
@@ -121,6 +130,7 @@ controller_event peers h (events.Rekey reqid) = Some (controller.Told (commands.
 controller_event peers h (events.Keys key) = Some (controller.Told (commands.Keys key))
 controller_event peers h _ = None
 
+-- what the controller does where something comes to it, and nothing else
 abbrev pub by_event : List Peer → List controller.ControllerAct → Option controller.ControllerEvent → List controller.ControllerAct
 by_event peers c None = []
 by_event peers c (Some e) = controller_law.block peers c e
@@ -141,16 +151,19 @@ block shows header p e =
     acts.Took (events_taken p.world + 1)
     ∷ (gateway_acts shows header (took p.world) e ++ all_told header.gateways (controller_acts header p e))
 
+-- what happened, with the block of one more event
 abbrev pub past_after : Shows → Header → Past → Event → Past
 past_after shows header p e = record {
   world = after p.world (block shows header p e);
   controller = after p.controller (controller_acts header p e);
 }
 
+-- the octets are a forged arrival at this gateway; there is none where there is no gateway
 abbrev pub is_forgery : List Act → List ℕ → Option node.Gateway → Bool
 is_forgery h o None = false
 is_forgery h o (Some c) = is_forged c.name c.address h o
 
+-- what arrives at an event is forged; false where nothing arrives
 abbrev pub is_forged_event_at : Header → List Act → Option (List ℕ × List ℕ) → Bool
 is_forged_event_at header h None = false
 is_forged_event_at header h (Some a) = is_forgery h a.1 (gateway_at header a.0)
@@ -159,6 +172,7 @@ is_forged_event_at header h (Some a) = is_forgery h a.1 (gateway_at header a.0)
 abbrev pub is_forged_event : Header → Past → Event → Bool
 is_forged_event header p e = is_forged_event_at header (took p.world) (arrival_of (took p.world) e)
 
+-- nothing more happens after a forged arrival
 abbrev pub unless_forged : Bool → List Act → List Act
 unless_forged true more = []
 unless_forged false more = more

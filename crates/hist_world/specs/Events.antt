@@ -17,6 +17,7 @@ IsEventOf header (events.Up g) = IsKnown header g
 IsEventOf header (events.Note g) = IsKnown header g
 IsEventOf header _ = Unit {0}
 
+-- each of the events names gateways of the header, so that a script with this header can have them as its lines
 abbrev pub AreEventsOf : Header → List Event → Type 0
 AreEventsOf header [] = Unit {0}
 AreEventsOf header (e ∷ es) = IsEventOf header e × AreEventsOf header es

@@ -3,6 +3,7 @@ use Rattle.std.specs.Prelude.{List, [], ◌∷◌}
 use Rattle.hist_acts.specs.declared.act.Act.{Act}
 use Rattle.hist_acts.specs.declared.act.Act.TheVariants as acts
 
+-- the acts that the controller did or heard; those of gateways, of the clock and of `wire` are left out
 abbrev pub controllers_part : List Act → List Act
 controllers_part [] = []
 controllers_part (acts.Opened f s ∷ h) = acts.Opened f s ∷ controllers_part h

@@ -3,6 +3,7 @@ use Rattle.std.specs.Prelude.{ℕ, List, codes}
 use Rattle.ikl_base.specs.declared.status.Status.{Status}
 use Rattle.ikl_base.specs.declared.status.Status.TheVariants as statuses
 
+-- the exit number of the process; 0 is success
 abbrev pub number_of : Status → ℕ
 number_of statuses.Done = 0
 number_of statuses.Words = 2
@@ -18,6 +19,7 @@ number_of statuses.LinkFault = 11
 number_of statuses.BadReply = 12
 number_of statuses.Denied = 13
 
+-- the name on the last line of standard error, for each status but Done
 abbrev pub name_text : Status → List ℕ
 name_text statuses.Done = codes "Done"
 name_text statuses.Words = codes "Words"

@@ -84,6 +84,7 @@ pub record IsOver (lines : List (List ℕ)) (before text octets : List ℕ) : Ty
   pub last : IsLastArrival (acts_of (Some header) events) octets
   pub written : text_of (acts_of (Some header) events) ≡ before ++ text
 
+-- one more line was taken; the run goes on, or is over where it is a forged arrival of these octets
 abbrev pub After : Option Running → List (List ℕ) → List ℕ → List ℕ → Option (List ℕ) → Type 0
 After new lines before text None = GoesOn new lines before text
 After new lines before text (Some octets) = IsOver lines before text octets

@@ -98,6 +98,7 @@ pub record IsCutOff (header : Option Header) (lines : List (List ℕ)) (rest : L
   pub begun : HasBegun lines rest
   pub some : (rest ≢ []) ⊎ (header ≡ None)
 
+-- why the line after those taken isn't taken, by its reason: it says nothing, has more than 1 MiB, or is cut off by the end of the input
 abbrev pub IsRefused : Option Header → List (List ℕ) → List ℕ → Option (List ℕ) → LineFault → Type 0
 IsRefused header lines rest left reason =
     IsBadLine header lines rest reason ⊎ (((reason ≡ faults.Long) × IsLongLine lines rest) ⊎ ((reason ≡ faults.End) × IsCutOff header lines rest left))
@@ -133,10 +134,12 @@ pub record IsWhole (script : List ℕ) : Type 0 where
   pub says : IsScript (Some header) lines events
   pub genuine : NoneForged header events
 
+-- the source ended the run
 abbrev pub is_read_fault : Status → Bool
 is_read_fault statuses.ReadFault = true
 is_read_fault _ = false
 
+-- the sink ended the run
 abbrev pub is_write_fault : Status → Bool
 is_write_fault statuses.WriteFault = true
 is_write_fault _ = false

@@ -6,6 +6,7 @@ use Rattle.hist_acts.specs.declared.event.Header.{Header}
 use Rattle.event_lines.specs.Header.{header_of}
 use Rattle.hist_scripts.specs.Script.{AreLinesOf}
 
+-- the octet isn't an LF, so that it can stand inside a line
 abbrev pub is_inside : ℕ → Bool
 is_inside c = not (c == 10)
 
@@ -18,6 +19,7 @@ pub record IsLine (line : List ℕ) : Type 0 where
   pub inside : HasNoLf line
   pub short : length line < 1048576
 
+-- each of these can be a line of a script, by its octets alone
 abbrev pub AreLines : List (List ℕ) → Type 0
 AreLines [] = Unit {0}
 AreLines (l ∷ ls) = IsLine l × AreLines ls

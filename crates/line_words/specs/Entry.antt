@@ -14,18 +14,23 @@ use Rattle.ikeless_tree.specs.declared.reply.TreeFault.{TreeFault}
 use Rattle.line_words.specs.declared.entry.Use.{Use}
 use Rattle.line_words.specs.Words.{◌>>=◌, one_of, each, number_in, prefix_in}
 
+-- between the parts of an entry and of a half
 abbrev pub is_comma : ℕ → Bool
 is_comma c = c == 44
 
+-- between two ranges of ports
 abbrev pub is_plus : ℕ → Bool
 is_plus c = c == 43
 
+-- between the first and the last port of a range
 abbrev pub is_dash : ℕ → Bool
 is_dash c = c == 45
 
+-- `in` or `out`
 abbrev pub direction_of : List ℕ → Result Direction LineFault
 direction_of w = one_of faults.Entry (table.direction_of w)
 
+-- `protect`, `bypass` or `discard` (RFC 4301 section 4.4.1)
 abbrev pub action_of : List ℕ → Result Action LineFault
 action_of w = one_of faults.Entry (table.action_of w)
 
@@ -38,9 +43,11 @@ unfoldable pub range_in : List (List ℕ) → Result Range LineFault
 range_in (start ∷ end ∷ []) = number_in faults.Entry 65535 start >>= (λ a. number_in faults.Entry 65535 end >>= (λ b. Ok (record { start = a; end = b })))
 range_in _ = Err faults.Entry
 
+-- `START-END`; that it doesn't start above its end is asked of the whole list later
 abbrev pub range_of : List ℕ → Result Range LineFault
 range_of w = range_in (slice_split is_dash w)
 
+-- each word a range of ports
 abbrev pub ranges_of : List (List ℕ) → Result (List Range) LineFault
 ranges_of words = each range_of words
 
@@ -74,9 +81,11 @@ entry_in (name ∷ direction ∷ reqid ∷ action ∷ selector) =
     Ok (record { name = name; direction = u.direction; reqid = u.reqid; window = 64; selector = s; action = u.action })))
 entry_in _ = Err faults.Entry
 
+-- one word, with commas between its nine parts
 abbrev pub entry_of : List ℕ → Result SpdEntry LineFault
 entry_of w = entry_in (slice_split is_comma w)
 
+-- a list of policies, one word for each entry, in the order in which they are tried
 abbrev pub entries_of : List (List ℕ) → Result (List SpdEntry) LineFault
 entries_of words = each entry_of words
 

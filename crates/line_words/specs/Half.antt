@@ -19,12 +19,15 @@ use Rattle.line_words.specs.Words.{◌>>=◌, or_fault, one_of, number_in}
 use Rattle.line_words.specs.Entry.{is_comma, selector_of}
 use Rattle.line_words.specs.Limits.{lifetimes_of}
 
+-- where the DF bit of an outer header comes from: `clear`, `set` or `copy` (RFC 4301 section 4.4.2.1)
 abbrev pub df_of : List ℕ → Result Df LineFault
 df_of w = one_of faults.Entry (table.df_of w)
 
+-- an address at which the half's tunnel begins or ends
 abbrev pub end_of : List ℕ → Result Addr LineFault
 end_of w = or_fault faults.Entry (address_of w)
 
+-- keying material, as hex digits: an AES key and a salt of four octets (RFC 4106 section 8.1)
 abbrev pub key_of : List ℕ → Result (List ℕ) LineFault
 key_of w = or_fault faults.Entry (digits_of w)
 
@@ -39,23 +42,28 @@ unfoldable pub half_tunnel_of : List ℕ → List ℕ → List ℕ → Result Ha
 half_tunnel_of local remote df =
     end_of local >>= (λ l. end_of remote >>= (λ r. df_of df >>= (λ d. Ok (record { local = l; remote = r; df = d }))))
 
+-- the last six parts of a half: keying material, both ends of its tunnel, the DF bit, its hard limits and its soft ones
 unfoldable pub half_keys_of : List ℕ → List ℕ → List ℕ → List ℕ → List ℕ → List ℕ → Result HalfKeys LineFault
 half_keys_of key local remote df hard soft =
     key_of key >>= (λ k. half_tunnel_of local remote df >>= (λ t. lifetimes_of faults.Entry hard soft >>= (λ l.
     Ok (record { key = k; tunnel = t; lifetimes = l }))))
 
+-- the same six parts, where there are neither more nor fewer
 unfoldable pub half_keys_in : List (List ℕ) → Result HalfKeys LineFault
 half_keys_in (key ∷ local ∷ remote ∷ df ∷ hard ∷ soft ∷ []) = half_keys_of key local remote df hard soft
 half_keys_in _ = Err faults.Entry
 
+-- what stands after the three numbers of a half: its selector in five parts, and then its keying material, tunnel and limits
 unfoldable pub half_rest_of : List ℕ → List ℕ → List ℕ → List ℕ → List ℕ → List (List ℕ) → Result HalfRest LineFault
 half_rest_of local remote proto local_ports remote_ports more =
     selector_of local remote proto local_ports remote_ports >>= (λ s. half_keys_in more >>= (λ k. Ok (record { selector = s; keys = k })))
 
+-- the same eleven parts, of which at least five must be there to be read as a selector
 unfoldable pub half_rest_in : List (List ℕ) → Result HalfRest LineFault
 half_rest_in (local ∷ remote ∷ proto ∷ local_ports ∷ remote_ports ∷ more) = half_rest_of local remote proto local_ports remote_ports more
 half_rest_in _ = Err faults.Entry
 
+-- the half with this name, these three numbers and these other parts
 abbrev pub half_made : List ℕ → HalfNumbers → HalfRest → SadEntry
 half_made name n r = record {
   name = name;
@@ -71,6 +79,7 @@ half_made name n r = record {
   soft = r.keys.lifetimes.soft;
 }
 
+-- the half of its name, its three numbers and the eleven parts after them
 unfoldable pub half_from : List ℕ → List ℕ → List ℕ → List ℕ → List (List ℕ) → Result SadEntry LineFault
 half_from name reqid spi window more =
     half_numbers_of reqid spi window >>= (λ n. half_rest_in more >>= (λ r. Ok (half_made name n r)))
@@ -85,5 +94,6 @@ abbrev pub unless_sad_fault : Option TreeFault → SadEntry → Result SadEntry 
 unless_sad_fault None e = Ok e
 unless_sad_fault (Some fault) e = Err faults.Entry
 
+-- one word, with commas between its fifteen parts, that is a half which can be installed
 unfoldable pub half_of : List ℕ → Result SadEntry LineFault
 half_of w = half_in (slice_split is_comma w) >>= (λ e. unless_sad_fault (sad_fault e) e)

@@ -7,6 +7,7 @@ use Rattle.yang_values.specs.Prefixes.{is_slash}
 use Rattle.line_words.specs.declared.lifetimes.Lifetimes.{Lifetimes}
 use Rattle.line_words.specs.Words.{◌>>=◌, number_in}
 
+-- A time in seconds, octets, packets and an idle time in seconds; octets are below 2^64, the others below 2^32, and 0 is no limit.
 unfoldable pub counts_of : LineFault → List ℕ → List ℕ → List ℕ → List ℕ → Result Limits LineFault
 counts_of fault time bytes packets idle =
     number_in fault (2 ^ 32 - 1) time >>= (λ t. number_in fault (2 ^ 64 - 1) bytes >>= (λ b. number_in fault (2 ^ 32 - 1) packets >>= (λ p. number_in fault (2 ^ 32 - 1) idle >>= (λ i.
@@ -17,6 +18,7 @@ unfoldable pub limits_in : LineFault → List (List ℕ) → Result Limits LineF
 limits_in fault (time ∷ bytes ∷ packets ∷ idle ∷ []) = counts_of fault time bytes packets idle
 limits_in fault _ = Err fault
 
+-- one word, with slashes between its four numbers
 abbrev pub limits_of : LineFault → List ℕ → Result Limits LineFault
 limits_of fault w = limits_in fault (slice_split is_slash w)
 

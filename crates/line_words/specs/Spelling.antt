@@ -11,6 +11,7 @@ use Rattle.hist_acts.specs.Gateways.{is_named}
 abbrev pub are_spelled : List Peer → Bool
 are_spelled gateways = list_all (λ p. is_gateway p.name) gateways
 
+-- the anti-replay window of the entry is 64 numbers wide, the only one that its word stands for
 abbrev pub HasWindow : SpdEntry → Type 0
 HasWindow e = e.window ≡ 64
 
@@ -23,6 +24,7 @@ pub record IsListed (list : List SpdEntry) : Type 0 where
 abbrev pub IsKnown : List Peer → List ℕ → Type 0
 IsKnown gateways g = IsTrue (is_named gateways g)
 
+-- a half can have this name in the SAD's tree
 abbrev pub IsHalfName : List ℕ → Type 0
 IsHalfName name = IsTrue (is_sad_name name)
 

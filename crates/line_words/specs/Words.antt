@@ -15,6 +15,7 @@ use Rattle.yang_values.specs.Numbers.{number_of}
 use Rattle.yang_values.specs.Prefixes.{prefix_of}
 use Rattle.yang_values.specs.HexText.{digits_of}
 
+-- What is read next, by what was read before; where that refuses the line, its reason stays.
 infixl 10 ◌>>=◌
 abbrev pub ◌>>=◌ : {A B : Type 0} → Result A LineFault → (A → Result B LineFault) → Result B LineFault
 (Ok x) >>= f = f x
@@ -30,6 +31,7 @@ abbrev pub one_of : {A : Type 0} → LineFault → Option A → Result A LineFau
 one_of fault (Some x) = Ok x
 one_of fault None = Err fault
 
+-- the octet between two words, 0x20
 abbrev pub is_space : ℕ → Bool
 is_space c = c == 32
 
@@ -61,6 +63,7 @@ lane_of w = one_of faults.Mode (table.lane_of w)
 abbrev pub number_in : LineFault → ℕ → List ℕ → Result ℕ LineFault
 number_in fault most w = or_fault fault (number_of most w)
 
+-- a word that stands for a prefix of addresses, or else the line is refused for this reason
 abbrev pub prefix_in : LineFault → List ℕ → Result Prefix LineFault
 prefix_in fault w = or_fault fault (prefix_of w)
 

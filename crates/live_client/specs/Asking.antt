@@ -99,6 +99,7 @@ pub record Asks (request : List ℕ) (up : Option PeerHeld) (turns : ℕ) (last 
   pub writes : Becomes (wrote request) up asked
   pub replied : Replied asked turns last result
 
+-- The peer that is up was asked and replied. Nothing is said where the link failed or memory ran out.
 abbrev pub Conversed : List ℕ → Option PeerHeld → ℕ → Option PeerHeld → Result Told AskFault → Type 0
 Conversed request up turns last (Ok told) = Asks request up turns last (Ok told)
 Conversed request up turns last (Err faults.LinkFault) = Unit {0}
@@ -124,12 +125,14 @@ Called request before turns after (Err faults.NoMemory) = Unit {0}
 
 -- ---- faults
 
+-- a call on the peer failed, and not what it said
 abbrev pub is_link_fault : AskFault → Bool
 is_link_fault faults.LinkFault = true
 is_link_fault (faults.BadReply octets) = false
 is_link_fault faults.TurnsSpent = false
 is_link_fault faults.NoMemory = false
 
+-- the answer is that a call on the peer failed
 abbrev pub is_link : {A : Type 0} → Result A AskFault → Bool
 is_link (Ok x) = false
 is_link (Err fault) = is_link_fault fault

@@ -41,6 +41,7 @@ EndsBy statuses.TurnsSpent Holds old new = Holds (Err faults.TurnsSpent) × Gain
 EndsBy statuses.NoMemory Holds old new = Holds (Err faults.NoMemory) × Gains old new []
 EndsBy _ Holds old new = ⊥
 
+-- the line of what is told couldn't be written whole
 abbrev pub is_write_fault : Status → Bool
 is_write_fault statuses.WriteFault = true
 is_write_fault _ = false

@@ -7,10 +7,12 @@ use Rattle.ikeless_tree.specs.Words.{app_text, tag_text}
 use Rattle.line_words.specs.Text.{spaced}
 use Rattle.rc_operations.specs.declared.told.Told.{Told}
 
+-- the error-tag of an error; none where the command was accepted
 abbrev pub tag_words : Option Tag → List (List ℕ)
 tag_words None = []
 tag_words (Some tag) = tag_text tag ∷ []
 
+-- the error-app-tag of an error, which says why the controller refused; none where there is none
 abbrev pub app_words : Option App → List (List ℕ)
 app_words None = []
 app_words (Some app) = app_text app ∷ []

@@ -12,6 +12,8 @@ readings_after [] = []
 readings_after (seconds ∷ []) = seconds ∷ []
 readings_after (seconds ∷ second ∷ rest) = second ∷ rest
 
+-- A call gives the next reading, in seconds. A clock either tells its readings before and after a call, or never does; then nothing is
+-- said.
 abbrev pub Tells : Option (List ℕ) → Option (List ℕ) → ℕ → Type 0
 Tells None None seconds = Unit {0}
 Tells None (Some new) seconds = ⊥

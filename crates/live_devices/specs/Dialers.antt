@@ -9,6 +9,7 @@ pub record Pair : Type 0 where
   pub control : Stream
   pub notices : Stream
 
+-- what is still to come from a peer, and all that was written to it
 pub record PeerHeld : Type 0 where
   -- what comes in each session from here on; nothing after these
   pub coming : List Pair
@@ -27,6 +28,7 @@ abbrev pub next_pair : List Pair → Pair
 next_pair [] = record { control = silent; notices = silent }
 next_pair (pair ∷ rest) = pair
 
+-- a dial opens the next session, which takes the place of one that is up
 abbrev pub dialled : PeerHeld → PeerHeld
 dialled p = record p {
   coming = later p.coming;
@@ -40,6 +42,7 @@ dialled p = record p {
 abbrev pub hung_up : PeerHeld → PeerHeld
 hung_up p = record p { is_up = false; control = silent; notices = silent }
 
+-- one more write in the session dialled last
 abbrev pub wrote : List ℕ → PeerHeld → PeerHeld
 wrote octets p = record p { written = p.written ++ octets; pieces = p.pieces ++ (p.dials, length octets) ∷ [] }
 
@@ -54,12 +57,14 @@ Becomes f (Some old) (Some new) = new ≡ f old
 abbrev pub DialGives : {T E : Type 0} → Option PeerHeld → Option PeerHeld → Result T E → Type 0
 DialGives old new result = MatchResult result (λ _. Becomes dialled old new) (λ _. new ≡ old)
 
+-- a read of the control stream took and gave what that has, and nothing else changes; a device that tells nothing says nothing
 abbrev pub Reads : Option PeerHeld → Option PeerHeld → Option ℕ → List ℕ → Type 0
 Reads None None answer buf = Unit {0}
 Reads None (Some new) answer buf = ⊥
 Reads (Some old) None answer buf = ⊥
 Reads (Some old) (Some new) answer buf = (new ≡ record old { control = new.control }) × Read old.control new.control answer buf
 
+-- the same of the notice stream
 abbrev pub ReadsNotice : Option PeerHeld → Option PeerHeld → Option ℕ → List ℕ → Type 0
 ReadsNotice None None answer buf = Unit {0}
 ReadsNotice None (Some new) answer buf = ⊥
@@ -71,6 +76,7 @@ abbrev pub ReadGives : {E : Type 0} → Option PeerHeld → Option PeerHeld → 
 ReadGives old new result buf =
     MatchResult result (λ answer. IfSome answer (λ n. n ≤ length buf) × Reads old new answer buf) (λ _. new ≡ old)
 
+-- a read of the notice stream gives at most what the buffer holds; one that failed gave and took nothing
 abbrev pub NoticeGives : {E : Type 0} → Option PeerHeld → Option PeerHeld → Result (Option ℕ) E → List ℕ → Type 0
 NoticeGives old new result buf =
     MatchResult result (λ answer. IfSome answer (λ n. n ≤ length buf) × ReadsNotice old new answer buf) (λ _. new ≡ old)

@@ -4,6 +4,7 @@ use Rattle.live_devices.specs.Docks.{DockHeld}
 use Rattle.live_devices.specs.StreamMemory.{session_held, stream_held}
 use Rattle.live_devices.specs.declared.dock_memory.MemoryDock.{MemoryDock}
 
+-- what it tells as a dock
 abbrev pub dock_held : MemoryDock → DockHeld
 dock_held d = record {
   coming = map session_held d.coming.now;
@@ -17,6 +18,7 @@ dock_held d = record {
 abbrev pub HasReplyRoom : MemoryDock → ℕ → Type 0
 HasReplyRoom d n = (0 < d.writes) × (vec_len d.replies + n ≤ vec_capacity d.replies)
 
+-- a write is left, and the room for a notice of this many octets
 abbrev pub HasNoticeRoom : MemoryDock → ℕ → Type 0
 HasNoticeRoom d n = (0 < d.writes) × (vec_len d.notices + n ≤ vec_capacity d.notices)
 

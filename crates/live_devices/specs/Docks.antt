@@ -3,6 +3,7 @@ use Rattle.std.specs.Prelude.{◌≡◌, ℕ, ◌≤◌, Bool, true, false, List
 use Rattle.live_devices.specs.Comings.{found, later}
 use Rattle.live_devices.specs.Streams.{Read, Stream}
 
+-- what is still to come in sessions, and all that was written to them
 pub record DockHeld : Type 0 where
   -- what each accept from here on finds: a session, or none that waits in that call
   pub coming : List (Option Stream)
@@ -20,10 +21,12 @@ taken None d = record d { coming = later d.coming }
 taken (Some session) d =
     record d { coming = later d.coming; session = session; begins = d.begins ++ (length d.replies, length d.notices) ∷ [] }
 
+-- something waited in this call
 abbrev pub has_found : {T : Type 0} → Option T → Bool
 has_found None = false
 has_found (Some x) = true
 
+-- an accept takes a session where one waits in this call, and tells whether; a device that tells nothing says nothing
 abbrev pub Accepts : Option DockHeld → Option DockHeld → Bool → Type 0
 Accepts None None answer = Unit {0}
 Accepts None (Some new) answer = ⊥
@@ -40,6 +43,7 @@ taken_after (Ok true) was = true
 taken_after (Ok false) was = was
 taken_after (Err e) was = was
 
+-- a read of the session taken last took and gave what that has, and nothing else changes
 abbrev pub Reads : Option DockHeld → Option DockHeld → Option ℕ → List ℕ → Type 0
 Reads None None answer buf = Unit {0}
 Reads None (Some new) answer buf = ⊥
@@ -70,6 +74,7 @@ abbrev pub WriteTakes : {T E : Type 0} → Option DockHeld → Option DockHeld �
 WriteTakes old new result octets =
     MatchResult result (λ _. Replies old new octets) (λ _. (n : ℕ) × (n ≤ length octets) × Replies old new (take n octets))
 
+-- the same of a write on the notice stream
 abbrev pub NoticeTakes : {T E : Type 0} → Option DockHeld → Option DockHeld → Result T E → List ℕ → Type 0
 NoticeTakes old new result octets =
     MatchResult result (λ _. Notes old new octets) (λ _. (n : ℕ) × (n ≤ length octets) × Notes old new (take n octets))

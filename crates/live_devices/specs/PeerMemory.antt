@@ -5,9 +5,11 @@ use Rattle.live_devices.specs.StreamMemory.{script_held, stream_held}
 use Rattle.live_devices.specs.declared.peer_memory.MemoryPeer.{MemoryPeer}
 use Rattle.live_devices.specs.declared.peer_memory.PairScript.{PairScript}
 
+-- both streams of a session as they come
 abbrev pub pair_held : PairScript → Pair
 pair_held p = record { control = script_held p.control; notices = script_held p.notices }
 
+-- what it tells as a peer of a dialer
 abbrev pub peer_held : MemoryPeer → PeerHeld
 peer_held p = record {
   coming = map pair_held p.coming.now;

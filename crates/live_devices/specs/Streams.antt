@@ -2,6 +2,7 @@
 use Rattle.std.specs.Prelude.{◌≡◌, ◌⊎◌, ℕ, ◌-◌, ◌^◌, ◌<◌, min, Bool, true, false, List, [], ◌∷◌, ◌++◌, length, take, Option, Some, None, IfSome}
 use Rattle.live_devices.specs.Comings.{later}
 
+-- what is still to come from the other end of a session, and how it is spread over the reads
 pub record Stream : Type 0 where
   -- the octets that are left, and how many of them are there at each read from here on; all of them after these reads
   pub left : List ℕ

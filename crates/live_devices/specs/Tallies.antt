@@ -8,6 +8,7 @@ use Rattle.live_devices.specs.declared.tally.Tally.{Tally}
 abbrev pub one_more : ℕ → ℕ
 one_more n = min (n + 1) (2 ^ 64 - 1)
 
+-- the count of calls that failed, after one that did or didn't
 abbrev pub faults_after : Bool → ℕ → ℕ
 faults_after false n = n
 faults_after true n = one_more n

@@ -3,6 +3,7 @@ use Rattle.std.specs.Prelude.{ℕ, ◌+◌, ◌<◌, ◌≤◌, vec_len, vec_cap
 use Rattle.live_devices.specs.Wires.{WireHeld}
 use Rattle.live_devices.specs.declared.wire_memory.MemoryWire.{MemoryWire}
 
+-- what it tells as a wire
 abbrev pub wire_held : MemoryWire → WireHeld
 wire_held w = record { coming = w.coming.now; sent = w.sent.items; sizes = w.sizes.items }
 

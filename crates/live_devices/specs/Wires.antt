@@ -2,6 +2,7 @@
 use Rattle.std.specs.Prelude.{◌≡◌, ℕ, ◌≤◌, min, List, [], ◌∷◌, ◌++◌, length, take, Option, Some, None, IfSome, Result, MatchResult}
 use Rattle.live_devices.specs.Comings.{found, later}
 
+-- what is still to come on a wire, and all that was sent on it
 pub record WireHeld : Type 0 where
   -- what each receipt from here on finds: a datagram, or nothing that waits in that call
   pub coming : List (Option (List ℕ))

@@ -29,9 +29,11 @@ outside_by (acts.Sent name number octets) w = with_datagram octets w
 outside_by (acts.Clear octets) w = with_datagram octets w
 outside_by _ w = w
 
+-- octets written on the control stream of the session
 abbrev pub with_reply : List ℕ → DockHeld → DockHeld
 with_reply octets d = record d { replies = d.replies ++ octets }
 
+-- octets written on the notice stream of the session
 abbrev pub with_notice : List ℕ → DockHeld → DockHeld
 with_notice octets d = record d { notices = d.notices ++ octets }
 
@@ -43,6 +45,7 @@ dock_by now _ d = d
 
 -- ---- one act after another
 
+-- what the acts make of something, from the first act to the last
 abbrev pub after_all : {T : Type 0} → (GwAct → T → T) → List GwAct → T → T
 after_all f [] x = x
 after_all f (act ∷ more) x = after_all f more (f act x)

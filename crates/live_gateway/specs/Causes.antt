@@ -15,14 +15,17 @@ use Rattle.live_gateway.specs.declared.ended.Ended.TheVariants.{TurnsSpent, Insi
 
 -- ---- the device that ended it
 
+-- a call of the wire to the protected side failed
 abbrev pub is_inside_fault : Ended → Bool
 is_inside_fault InsideFault = true
 is_inside_fault _ = false
 
+-- a call of the wire to the unprotected side failed
 abbrev pub is_outside_fault : Ended → Bool
 is_outside_fault OutsideFault = true
 is_outside_fault _ = false
 
+-- an accept failed; a read or a write that fails ends the session alone
 abbrev pub is_dock_fault : Ended → Bool
 is_dock_fault DockFault = true
 is_dock_fault _ = false

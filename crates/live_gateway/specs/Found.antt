@@ -19,22 +19,27 @@ use Rattle.live_gateway.specs.Past.{Accepted, Broken, Came, Came_in, End, Inside
 abbrev pub received : WireHeld → WireHeld
 received w = record w { coming = later w.coming }
 
+-- the datagram as the gateway gets it: octets after the first 65,575 are lost
 abbrev pub cut : Option (List ℕ) → Option (List ℕ)
 cut None = None
 cut (Some octets) = Some (take 65575 octets)
 
+-- a receipt of the wire inside takes what waits there; nothing else that comes changes that wire
 abbrev pub inside_at : Item → WireHeld → WireHeld
 inside_at (Inside datagram) w = received w
 inside_at _ w = w
 
+-- what the wire inside holds after all that came
 abbrev pub inside_of : Config → List Item → WireHeld → WireHeld
 inside_of c [] w = w
 inside_of c (x ∷ past) w = after_all inside_by (acts_at c past x) (inside_at x (inside_of c past w))
 
+-- a receipt of the wire outside takes what waits there
 abbrev pub outside_at : Item → WireHeld → WireHeld
 outside_at (Outside datagram) w = received w
 outside_at _ w = w
 
+-- what the wire outside holds after all that came
 abbrev pub outside_of : Config → List Item → WireHeld → WireHeld
 outside_of c [] w = w
 outside_of c (x ∷ past) w = after_all outside_by (acts_at c past x) (outside_at x (outside_of c past w))
@@ -45,9 +50,11 @@ outside_of c (x ∷ past) w = after_all outside_by (acts_at c past x) (outside_a
 abbrev pub read_size : Stream → ℕ
 read_size s = min (min (length s.left) 65536) (there_now s.there)
 
+-- what is left of the session after a read
 abbrev pub after_read : Stream → Stream
 after_read s = record s { left = drop (read_size s) s.left; there = later s.there }
 
+-- what a read of so many octets gives; where none is left, the end if the stream ends there, and else nothing
 abbrev pub came_by : ℕ → Bool → List ℕ → Came
 came_by size true [] = End
 came_by size false [] = Waiting
@@ -57,10 +64,12 @@ came_by size ends (x ∷ xs) = Piece (take size (x ∷ xs))
 abbrev pub came_of : Stream → Came
 came_of s = if there_now s.there == 0 then Waiting else came_by (read_size s) s.ends s.left
 
+-- a read takes octets of the session; without a session none is read
 abbrev pub read_at : Came → DockHeld → DockHeld
 read_at Unread d = d
 read_at _ d = record d { session = after_read d.session }
 
+-- accepts and reads take what comes; nothing else that comes changes the dock
 abbrev pub dock_at : Item → DockHeld → DockHeld
 dock_at (Accepted is_taken) d = taken (found d.coming) d
 dock_at (Came_in came) d = read_at came d
@@ -71,6 +80,7 @@ abbrev pub written_at : Config → List Item → Item → DockHeld → DockHeld
 written_at c past x d =
     if is_there past then after_all (dock_by (kept_of c (x ∷ past)).clock) (acts_at c past x) d else d
 
+-- what the dock holds after all that came
 abbrev pub dock_of : Config → List Item → DockHeld → DockHeld
 dock_of c [] d = d
 dock_of c (x ∷ past) d = written_at c past x (dock_at x (dock_of c past d))
@@ -94,12 +104,14 @@ IsFound c start past (Came_in came) =
 IsFound c start past (Message message) = IsTunnelled (request_of message)
 IsFound c start past (Broken fault) = Unit {0}
 
+-- each call gave what there was, by what the devices held at the start
 abbrev pub AreFound : Config → Devices → List Item → Type 0
 AreFound c start [] = Unit {0}
 AreFound c start (x ∷ past) = IsFound c start past x × AreFound c start past
 
 -- ---- the clock
 
+-- the readings that the clock has still to give after all that came
 abbrev pub readings_of : List Item → List ℕ → List ℕ
 readings_of [] readings = readings
 readings_of (Seconds now ∷ past) readings = readings_after (readings_of past readings)

@@ -42,6 +42,7 @@ event_of (Came_in came) = None
 event_of (Message message) = Some (Handle (request_of message))
 event_of (Broken fault) = Some (Handle (Err (no_message fault)))
 
+-- one event or none
 abbrev pub events_at : Option Event → List Event
 events_at None = []
 events_at (Some e) = e ∷ []
@@ -56,6 +57,7 @@ abbrev pub kept_by : Config → Option Event → Kept → Kept
 kept_by c None k = k
 kept_by c (Some e) k = (stepped c e k).kept
 
+-- what the gateway does at an event; nothing where none happens
 abbrev pub acts_by : Config → Option Event → Kept → List GwAct
 acts_by c None k = []
 acts_by c (Some e) k = (stepped c e k).acts
@@ -65,6 +67,7 @@ abbrev pub kept_of : Config → List Item → Kept
 kept_of c [] = tables.booted
 kept_of c (x ∷ past) = kept_by c (event_of x) (kept_of c past)
 
+-- what the gateway did at this, by all that came before
 abbrev pub acts_at : Config → List Item → Item → List GwAct
 acts_at c past x = acts_by c (event_of x) (kept_of c past)
 

@@ -53,6 +53,7 @@ pub record IsReader (reader : Feeding) (rest : List ℕ) (past : List Item) : Ty
   pub octets : octets_of past ≡ fed ++ rest
   pub reads : HasRead reader fed (messages_of past)
 
+-- no session is there, and all messages of the last one were taken; or one is, of which this rest of a piece is still to be fed
 abbrev pub IsSession : Option Feeding → List ℕ → List Item → Type 0
 IsSession None rest past = (is_there past ≡ false) × IsHeld past
 IsSession (Some reader) rest past = IsReader reader rest past

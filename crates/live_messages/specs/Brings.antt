@@ -18,6 +18,7 @@ message_in Nothing = []
 message_in (Message message taken) = message ∷ []
 message_in (Fault fault) = []
 
+-- why no message can be read any more, if that was found now
 abbrev pub fault_in : Brought → Option HttpFault
 fault_in Nothing = None
 fault_in (Message message taken) = None

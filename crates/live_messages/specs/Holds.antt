@@ -6,6 +6,7 @@ use Rattle.rc_http.specs.declared.message.Kind.{Kind}
 use Rattle.rc_http.specs.Feeding.{Feeding, HasRead}
 use Rattle.rc_http.specs.Looks.{Looked, Looks, Waits, Fails, Gives}
 
+-- after the whole messages a reader waits for more octets, or has found this fault
 abbrev pub looked_of : Option HttpFault → Looked
 looked_of None = Waits
 looked_of (Some fault) = Fails fault

@@ -10,10 +10,12 @@ is_line_up Down = false
 is_line_up (Called session) = false
 is_line_up (Up session) = true
 
+-- whether a session with the peer is open; false where there is none
 abbrev pub up_of : Option TcpPeer → Bool
 up_of None = false
 up_of (Some p) = is_line_up p.line
 
+-- how often its calls have failed; 0 where there is no peer
 abbrev pub faults_of : Option TcpPeer → ℕ
 faults_of None = 0
 faults_of (Some p) = p.tally.faults
@@ -22,6 +24,7 @@ faults_of (Some p) = p.tally.faults
 abbrev pub up_at : List TcpPeer → ℕ → Bool
 up_at peers g = up_of (slice_get peers g)
 
+-- how often the calls of the peer of this number have failed
 abbrev pub faults_at : List TcpPeer → ℕ → ℕ
 faults_at peers g = faults_of (slice_get peers g)
 

@@ -36,6 +36,7 @@ within_body c = if nat_le (length (compact_text (command_data c))) 1048576 then 
 abbrev pub sent_of : Event → Result Command LineFault
 sent_of e = command_said e >>= within_body
 
+-- the word stays one when the words are joined to a line
 abbrev pub has_no_space : List ℕ → Bool
 has_no_space word = list_all (λ c. not (is_space c)) word
 
@@ -44,9 +45,11 @@ unfoldable pub command_in : List (List ℕ) → Result Command LineFault
 command_in words =
     if list_all has_no_space words then event_of [] (line_text words) >>= sent_of else Err faults.Word
 
+-- the same, as the values of the argument `words`
 abbrev pub command_at : List Row → Result Command LineFault
 command_at rows = values_at (codes "words") rows >>= command_in
 
+-- all that `client` is told, by its matched arguments
 unfoldable pub client_in : List Row → Result ClientWords LineFault
 client_in rows =
     port_at (codes "port") rows >>= (λ p. count_at (codes "turns") rows >>= (λ t.

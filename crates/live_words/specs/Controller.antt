@@ -22,6 +22,7 @@ place_in (name ∷ address ∷ control ∷ notice ∷ []) =
     port_of control >>= (λ c. port_of notice >>= (λ n. Ok (record { front = name ++ 61 ∷ address; link = record { control = c; notice = n } })))
 place_in _ = Err faults.Word
 
+-- one word, cut at its equals signs
 abbrev pub place_of : List ℕ → Result Place LineFault
 place_of word = place_in (slice_split is_equals word)
 
@@ -37,12 +38,15 @@ named_peers places = header_of (naming_line places) >>= (λ h. Ok h.gateways)
 unfoldable pub peering_of : List Place → Result Peering LineFault
 peering_of places = named_peers places >>= (λ peers. Ok (record { peers = peers; links = map (λ p. p.link) places }))
 
+-- one word for each gateway, in the order in which the controller numbers them
 unfoldable pub peering_in : List (List ℕ) → Result Peering LineFault
 peering_in words = each place_of words >>= peering_of
 
+-- the same, as the values of the argument `peers`
 abbrev pub peering_at : List Row → Result Peering LineFault
 peering_at rows = values_at (codes "peers") rows >>= peering_in
 
+-- all that `controller` is told, by its matched arguments
 unfoldable pub controller_in : List Row → Result ControllerWords LineFault
 controller_in rows =
     port_at (codes "commands") rows >>= (λ c. count_at (codes "turns") rows >>= (λ t.

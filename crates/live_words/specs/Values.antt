@@ -50,6 +50,7 @@ matched app words = unless_faults (fault_of app (map string_bytes words)) (match
 abbrev pub matched_by : List ℕ → App → List (String Global) → Result (List Row) LineFault
 matched_by name app words = if begins_with name words then matched app words else Err faults.Word
 
+-- what `clap` found is what is stated, or it refuses where nothing is, unless memory ran out
 abbrev pub GivesRows : Result ArgMatches (OrMemory LineFault) → Result (List Row) LineFault → Type 0
 GivesRows (Ok m) stated = stated ≡ Ok (rows_of (found_of m))
 GivesRows (Err e) stated = Refuses e stated
@@ -76,15 +77,19 @@ port_of w = number_in faults.Number 65535 w >>= not_zero
 abbrev pub count_of : List ℕ → Result ℕ LineFault
 count_of w = number_in faults.Number (2 ^ 32 - 1) w >>= not_zero
 
+-- an IPv4 or IPv6 address, spelled as in scripts
 abbrev pub address_in : List ℕ → Result Addr LineFault
 address_in w = or_fault faults.Number (address_of w)
 
+-- the port, from 1 to 65,535, that is the value of this argument
 abbrev pub port_at : Text → List Row → Result ℕ LineFault
 port_at name rows = value_at name rows >>= port_of
 
+-- the number from 1 to 2^32 - 1 that is the value of this argument
 abbrev pub count_at : Text → List Row → Result ℕ LineFault
 count_at name rows = value_at name rows >>= count_of
 
+-- the address that is the value of this argument
 abbrev pub address_at : Text → List Row → Result Addr LineFault
 address_at name rows = value_at name rows >>= address_in
 

@@ -22,6 +22,7 @@ use Rattle.rc_resource.specs.Messages.{request_fields}
 abbrev pub operations_path : List ℕ
 operations_path = codes "/restconf/operations/ikl-control:"
 
+-- the name is one of the module's operations
 abbrev pub known_name : Option (List ℕ) → Option (List ℕ)
 known_name None = None
 known_name (Some name) = if is_operation name then Some name else None
@@ -30,6 +31,7 @@ known_name (Some name) = if is_operation name then Some name else None
 abbrev pub operation_at : List ℕ → Option (List ℕ)
 operation_at path = known_name (after_front operations_path path)
 
+-- the command of a body, or what is wrong with that
 abbrev pub commanded : Result Command CodecFault → Result Command RcError
 commanded (Ok c) = Ok c
 commanded (Err f) = Err (of_body f)
@@ -44,6 +46,7 @@ abbrev pub by_method : List ℕ → HttpMessage → Result Command RcError
 by_method name m =
     if bytes_eq m.method (codes "POST") then unless_query name (behind_mark 63 m.target) m.body else Err (no_method (codes "POST"))
 
+-- the path must be that of an operation (RFC 8040 section 3.6)
 abbrev pub by_operation : Option (List ℕ) → HttpMessage → Result Command RcError
 by_operation None m = Err no_resource
 by_operation (Some name) m = by_method name m
@@ -59,9 +62,11 @@ pub record IsSound (c : Command) : Type 0 where
 
 -- ---- requests that are written
 
+-- the path of the operation that takes this command
 abbrev pub command_target : Command → List ℕ
 command_target c = operations_path ++ operation_of c
 
+-- the JSON of a command, without spaces
 abbrev pub command_body : Command → List ℕ
 command_body c = compact_text (command_data c)
 

@@ -25,6 +25,7 @@ use Rattle.rc_operations.specs.declared.told.Told.{Told}
 
 -- ---- what is replied
 
+-- the HTTP status of a refused command (RFC 8040 section 7)
 abbrev pub refusal_status : Refusal → ℕ
 refusal_status refusals.UnknownGateway = 404
 refusal_status refusals.SameGateway = 400
@@ -35,6 +36,7 @@ refusal_status refusals.KeySeen = 409
 refusal_status refusals.KeyLength = 400
 refusal_status refusals.KeyLimit = 409
 
+-- the error-tag of a refused command (RFC 8040 section 7.1); the reason itself is its error-app-tag
 abbrev pub refusal_tag : Refusal → Tag
 refusal_tag refusals.UnknownGateway = tags.InvalidValue
 refusal_tag refusals.SameGateway = tags.InvalidValue
@@ -58,9 +60,11 @@ command_reply (Some why) = refusal (command_error why)
 abbrev pub command_response : Option Refusal → List ℕ
 command_response refused = response_text (reply_message (command_reply refused))
 
+-- the response to a request that gives no command
 abbrev pub error_response : RcError → List ℕ
 error_response e = response_text (reply_message (refusal e))
 
+-- the response to octets that are no HTTP request
 abbrev pub fault_response : HttpFault → List ℕ
 fault_response fault = error_response (no_message fault)
 
@@ -76,15 +80,19 @@ CanBeAnswered failures.NoMemory = Unit {0}
 
 -- ---- what is told
 
+-- the command was accepted: 204, without an error
 abbrev pub told_done : Told
 told_done = record { status = 204; tag = None; app = None }
 
+-- the status of an error, with the error-tag and the error-app-tag that its body has
 abbrev pub told_error : ℕ → ErrorTags → Told
 told_error status found = record { status = status; tag = Some found.tag; app = Some found.app }
 
+-- a 204 has no body (RFC 9110 section 15.3.5); one with a body is a bad response
 abbrev pub if_no_body : List ℕ → Result Told BadAnswer
 if_no_body body = if length body == 0 then Ok told_done else Err bad
 
+-- an error of 400 or above must have a body that says its tags
 abbrev pub if_error : HttpMessage → Result Told BadAnswer
 if_error m = error_of m.body >>= (λ found. Ok (told_error m.status found))
 

@@ -47,6 +47,7 @@ unfoldable pub packet_in : List Peer → List (List ℕ) → Result Packet LineF
 packet_in gateways (gateway ∷ octets ∷ []) = known_of gateways gateway >>= (λ g. octets_of octets >>= (λ o. Ok (record { gateway = g; octets = o })))
 packet_in gateways _ = Err faults.Count
 
+-- at a gateway, under a half and with a sequence number below 2^64, these octets were sent or given
 unfoldable pub sealed_of : List Peer → List ℕ → List ℕ → List ℕ → List ℕ → Result Sealed LineFault
 sealed_of gateways gateway name number octets =
     known_of gateways gateway >>= (λ g. half_name_of name >>= (λ n. number_in faults.Number (2 ^ 64 - 1) number >>= (λ k. octets_of octets >>= (λ o.
@@ -62,6 +63,7 @@ unfoldable pub drop_in : List Peer → List (List ℕ) → Result Act LineFault
 drop_in gateways (gateway ∷ w ∷ []) = known_of gateways gateway >>= (λ g. why_of w >>= (λ y. Ok (acts.Drop g y)))
 drop_in gateways _ = Err faults.Count
 
+-- the half of one word is installed at a gateway of the header
 unfoldable pub put_at : List Peer → List ℕ → List ℕ → Result Act LineFault
 put_at gateways gateway half = known_of gateways gateway >>= (λ g. half_of half >>= (λ e. Ok (acts.Put g e)))
 
@@ -70,6 +72,7 @@ unfoldable pub put_in : List Peer → List (List ℕ) → Result Act LineFault
 put_in gateways (gateway ∷ half ∷ []) = put_at gateways gateway half
 put_in gateways _ = Err faults.Count
 
+-- a half, by its name, is gone at a gateway of the header, for this reason
 unfoldable pub gone_at : List Peer → List ℕ → List ℕ → List ℕ → Result Act LineFault
 gone_at gateways gateway name w =
     known_of gateways gateway >>= (λ g. half_name_of name >>= (λ n. gone_of w >>= (λ y. Ok (acts.Gone g n y))))
@@ -89,6 +92,7 @@ opening_in gateways _ = Err faults.Count
 abbrev pub shown_of : List ℕ → Result (List ℕ) LineFault
 shown_of w = octets_of w >>= (λ o. if nat_le (length o) 4096 then Ok o else Err faults.Hex)
 
+-- at most 4,096 octets are under way on a lane of a gateway
 unfoldable pub under_way_at : List Peer → List ℕ → List ℕ → List ℕ → Result Act LineFault
 under_way_at gateways gateway lane octets =
     known_of gateways gateway >>= (λ g. lane_of lane >>= (λ l. shown_of octets >>= (λ o. Ok (acts.Wire g l o))))
@@ -98,10 +102,12 @@ unfoldable pub under_way_in : List Peer → List (List ℕ) → Result Act LineF
 under_way_in gateways (gateway ∷ lane ∷ octets ∷ []) = under_way_at gateways gateway lane octets
 under_way_in gateways _ = Err faults.Count
 
+-- why the controller refused a command, and no more words
 unfoldable pub refused_in : List (List ℕ) → Result Act LineFault
 refused_in (w ∷ []) = refusal_of w >>= (λ y. Ok (acts.Refused y))
 refused_in _ = Err faults.Count
 
+-- an order by its place and its words: the gateway, its session, the number in it, and what is ordered
 unfoldable pub order_at : List Peer → List ℕ → List ℕ → List ℕ → List ℕ → List (List ℕ) → Result Act LineFault
 order_at gateways gateway session request w ws =
     place_of gateways gateway session request >>= (λ p. order_of w ws >>= (λ o. Ok (acts.Order p.gateway p.session p.request o)))

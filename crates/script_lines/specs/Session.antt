@@ -40,17 +40,21 @@ listed_in entries =
     then entries_of entries >>= (λ list. unless_fault (spd_fault list) list >>= (λ good. Ok (orders.Policy good)))
     else Err faults.Count
 
+-- a reading, with no more words
 unfoldable pub read_in : List (List ℕ) → Result Order LineFault
 read_in [] = Ok orders.Read
 read_in _ = Err faults.Count
 
+-- the put of a half that can be installed, which is one word
 unfoldable pub put_in : List (List ℕ) → Result Order LineFault
 put_in (half ∷ []) = half_of half >>= (λ e. Ok (orders.Put e))
 put_in _ = Err faults.Count
 
+-- the removal of a half by its name
 unfoldable pub remove_of : List ℕ → Result Order LineFault
 remove_of name = half_name_of name >>= (λ n. Ok (orders.Remove n))
 
+-- a removal, with one word and no more
 unfoldable pub remove_in : List (List ℕ) → Result Order LineFault
 remove_in (name ∷ []) = remove_of name
 remove_in _ = Err faults.Count
@@ -74,10 +78,12 @@ tag_of w = if bytes_eq w (codes "-") then Ok None else one_of faults.Word (table
 unfoldable pub names_of : List ℕ → Result (List (List ℕ)) LineFault
 names_of w = if bytes_eq w (codes "-") then Ok [] else each half_name_of (slice_split is_comma w)
 
+-- A status below 65,536, an error tag of RESTCONF or none (RFC 8040 section 7), and the names that a reading tells.
 unfoldable pub answer_of : List ℕ → List ℕ → List ℕ → Result Answer LineFault
 answer_of status tag names =
     number_in faults.Number 65535 status >>= (λ n. tag_of tag >>= (λ t. names_of names >>= (λ ns. Ok (record { status = n; tag = t; names = ns }))))
 
+-- an answer by the place of its request, and its own three words
 unfoldable pub replied_of : List Peer → List ℕ → List ℕ → List ℕ → List ℕ → List ℕ → List ℕ → Result Replied LineFault
 replied_of gateways gateway session request status tag names =
     place_of gateways gateway session request >>= (λ p. answer_of status tag names >>= (λ a. Ok (record { place = p; answer = a })))
@@ -93,6 +99,7 @@ replied_in gateways _ = Err faults.Count
 abbrev pub is_whole : Prefix → Bool
 is_whole p = p.len == bits_of p.addr
 
+-- the selector tells one protocol of the next layer, not any
 abbrev pub has_proto : Option ℕ → Bool
 has_proto None = false
 has_proto (Some n) = true
@@ -108,16 +115,20 @@ unfoldable pub is_packet : Selector → Bool
 is_packet s =
     is_whole s.local && is_whole s.remote && is_one_family s.local.addr s.remote.addr && has_proto s.proto && is_one_port s.local_ports && is_one_port s.remote_ports
 
+-- a name that an entry of the SPD can have
 abbrev pub policy_name_of : List ℕ → Result (List ℕ) LineFault
 policy_name_of w = if is_spd_name w then Ok w else Err faults.Entry
 
+-- a selector that tells a single packet's flow, as an acquire does (RFC 4301 section 4.4.1)
 abbrev pub packet_of : Selector → Result Selector LineFault
 packet_of s = if is_packet s then Ok s else Err faults.Entry
 
+-- A packet found no half to seal it: the name of the entry that says protect, and the packet's flow.
 unfoldable pub acquire_of : List ℕ → List ℕ → Result Notice LineFault
 acquire_of name selector =
     policy_name_of name >>= (λ n. selector_in (slice_split is_comma selector) >>= (λ s. packet_of s >>= (λ good. Ok (notices.Acquire n good))))
 
+-- an acquire, with two words and no more
 unfoldable pub acquire_in : List (List ℕ) → Result Notice LineFault
 acquire_in (name ∷ selector ∷ []) = acquire_of name selector
 acquire_in _ = Err faults.Count
@@ -126,21 +137,26 @@ acquire_in _ = Err faults.Count
 abbrev pub soft_of : List ℕ → Result Bool LineFault
 soft_of w = one_of faults.Word (table.softness_of w)
 
+-- A half's limit is reached: its name, whether the limit is a soft one, and its counts at that moment.
 unfoldable pub expire_of : List ℕ → List ℕ → List ℕ → Result Notice LineFault
 expire_of name soft counts =
     half_name_of name >>= (λ n. soft_of soft >>= (λ b. limits_of faults.Limits counts >>= (λ c. Ok (notices.Expire n b c))))
 
+-- an expiry, with three words and no more
 unfoldable pub expire_in : List (List ℕ) → Result Notice LineFault
 expire_in (name ∷ soft ∷ counts ∷ []) = expire_of name soft counts
 expire_in _ = Err faults.Count
 
+-- the sequence numbers of the half of this name are used up
 unfoldable pub overflow_of : List ℕ → Result Notice LineFault
 overflow_of name = half_name_of name >>= (λ n. Ok (notices.SeqOverflow n))
 
+-- an overflow, with one word and no more
 unfoldable pub overflow_in : List (List ℕ) → Result Notice LineFault
 overflow_in (name ∷ []) = overflow_of name
 overflow_in _ = Err faults.Count
 
+-- a datagram came with an SPI that no half has; one word and no more
 unfoldable pub bad_spi_in : List (List ℕ) → Result Notice LineFault
 bad_spi_in (spi ∷ []) = number_in faults.Number (2 ^ 32 - 1) spi >>= (λ n. Ok (notices.BadSpi n))
 bad_spi_in _ = Err faults.Count
@@ -154,6 +170,7 @@ notice_of w ws =
     else if bytes_eq w (codes "bad-spi") then bad_spi_in ws
     else Err faults.Word
 
+-- a notice by its gateway, its session, the word that says what it is of, and the words after that
 unfoldable pub noticed_of : List Peer → List ℕ → List ℕ → List ℕ → List (List ℕ) → Result Noticed LineFault
 noticed_of gateways gateway session w ws =
     known_of gateways gateway >>= (λ g. number_in faults.Number (2 ^ 32 - 1) session >>= (λ s. notice_of w ws >>= (λ n.

@@ -12,15 +12,18 @@ use Rattle.script_lines.specs.Session.{is_packet}
 use Rattle.ikeless_tree.specs.Typed.{AreOctets, AreTypedPolicies, IsTypedHalf, IsTypedOrder, IsTypedAnswer, IsTypedNotice}
 use Rattle.line_words.specs.Spelling.{IsKnown, IsListed, IsHalfName, IsInstallable}
 
+-- The list can be in force, the half can be installed, or the name is one that a half can have; a reading is always spelled.
 abbrev pub IsOrderSpelled : Order → Type 0
 IsOrderSpelled orders.Read = Unit {0}
 IsOrderSpelled (orders.Policy list) = IsListed list
 IsOrderSpelled (orders.Put e) = IsInstallable e
 IsOrderSpelled (orders.Remove name) = IsHalfName name
 
+-- all are names that a half can have
 abbrev pub AreHalfNames : List (List ℕ) → Type 0
 AreHalfNames names = All IsHalfName names
 
+-- its names are those that an entry or a half can have, and an acquire tells a single packet's flow
 abbrev pub IsNoticeSpelled : Notice → Type 0
 IsNoticeSpelled (notices.Acquire policy s) = IsTrue (is_spd_name policy) × IsTrue (is_packet s)
 IsNoticeSpelled (notices.Expire name soft counts) = IsHalfName name

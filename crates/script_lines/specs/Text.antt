@@ -18,19 +18,23 @@ abbrev pub names_text : List (List ℕ) → List ℕ
 names_text [] = codes "-"
 names_text (n ∷ ns) = n ++ flat_map (λ m. 44 ∷ m) ns
 
+-- a dash for none, or the error tag as RFC 8040 section 7 spells it
 abbrev pub tag_word : Option Tag → List ℕ
 tag_word None = codes "-"
 tag_word (Some t) = tag_text t
 
+-- the word that says what is ordered, and what that needs
 abbrev pub order_words : Order → List (List ℕ)
 order_words orders.Read = codes "read" ∷ []
 order_words (orders.Policy list) = codes "policy" ∷ map entry_text list
 order_words (orders.Put e) = codes "put" ∷ half_text e ∷ []
 order_words (orders.Remove name) = codes "remove" ∷ name ∷ []
 
+-- the status, the error tag and the names of an answer
 abbrev pub answer_words : Answer → List (List ℕ)
 answer_words a = decimal a.status ∷ tag_word a.tag ∷ names_text a.names ∷ []
 
+-- the word that says what the notice is of, and what that needs
 abbrev pub notice_words : Notice → List (List ℕ)
 notice_words (notices.Acquire policy s) = codes "acquire" ∷ policy ∷ selector_text s ∷ []
 notice_words (notices.Expire name soft counts) = codes "expire" ∷ name ∷ softness_text soft ∷ limits_text counts ∷ []
@@ -66,6 +70,7 @@ act_words (acts.Refused w) = codes "refused" ∷ refusal_text w ∷ []
 unfoldable pub act_text : Act → List ℕ
 act_text a = line_text (act_words a)
 
+-- one act as a line of a transcript, with its LF
 abbrev pub line_of : Act → List ℕ
 line_of a = act_text a ++ 10 ∷ []
 

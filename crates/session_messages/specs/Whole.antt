@@ -25,6 +25,7 @@ abbrev pub ask_in : Result HttpMessage HttpFault → Result Ask RcError
 ask_in (Ok m) = request_of m
 ask_in (Err fault) = Err (no_message fault)
 
+-- the answer, where the response is one that the order can have
 abbrev pub if_good : Result Answer BadAnswer → Option Answer
 if_good (Ok a) = Some a
 if_good (Err e) = None

@@ -17,11 +17,13 @@ requests request g s [] = []
 requests request g s (acts.Order f t k o ∷ h) = if is_session f t g s then requests request g s h ++ request h o ∷ [] else requests request g s h
 requests request g s (_ ∷ h) = requests request g s h
 
+-- the messages of the answers that the gateway gave in a session, oldest first, heard or not
 abbrev pub responses : (List Act → Answer → List ℕ) → List ℕ → ℕ → List Act → List (List ℕ)
 responses response g s [] = []
 responses response g s (acts.Handled f t k a ∷ h) = if is_session f t g s then responses response g s h ++ response h a ∷ [] else responses response g s h
 responses response g s (_ ∷ h) = responses response g s h
 
+-- the messages of the notices that the gateway gave in a session, oldest first, heard or not
 abbrev pub lines : (List Act → Notice → List ℕ) → List ℕ → ℕ → List Act → List (List ℕ)
 lines line g s [] = []
 lines line g s (acts.Notice f t n ∷ h) = if is_session f t g s then lines line g s h ++ line h n ∷ [] else lines line g s h

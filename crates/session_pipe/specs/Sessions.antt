@@ -18,6 +18,7 @@ MayStand (acts.Notice g s n) h = s ≡ session_taken g h
 MayStand (acts.Heard g s n) h = (s ≡ openings g h) × (next_notice g h ≡ Some n)
 MayStand _ h = Unit {0}
 
+-- each act of sessions stands where it may, after those before it
 abbrev pub KeepsSessions : List Act → Type 0
 KeepsSessions [] = Unit {0}
 KeepsSessions (a ∷ h) = MayStand a h × KeepsSessions h

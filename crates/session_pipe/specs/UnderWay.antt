@@ -5,6 +5,7 @@ use Rattle.std.specs.List.{flat_map}
 use Rattle.ikeless_tree.specs.declared.order.Lane.{Lane}
 use Rattle.ikeless_tree.specs.declared.order.Lane.TheVariants as lanes
 
+-- A session as both its ends see it. The gateway may have it still where the controller saw it end, and the other way round.
 pub record UnderWay : Type 0 where
   -- how many sessions were opened; the last one has this number
   pub openings : ℕ
@@ -17,11 +18,13 @@ pub record UnderWay : Type 0 where
   pub up : List (List ℕ)
   pub note : List (List ℕ)
 
+-- the whole messages on a lane that its reading end has not taken, oldest first
 abbrev pub unread : Lane → UnderWay → List (List ℕ)
 unread lanes.Down p = p.down
 unread lanes.Up p = p.up
 unread lanes.Note p = p.note
 
+-- the same session, with these messages on a lane in place of its own
 abbrev pub with_unread : Lane → List (List ℕ) → UnderWay → UnderWay
 with_unread lanes.Down messages p = record p { down = messages }
 with_unread lanes.Up messages p = record p { up = messages }
@@ -47,6 +50,7 @@ after_boot p = record p { is_taken = false; down = [] }
 abbrev pub after_push : Lane → List ℕ → UnderWay → UnderWay
 after_push lane message p = if p.is_open && p.is_taken then with_unread lane (unread lane p ++ message ∷ []) p else p
 
+-- the reading end takes the oldest message, if there is one
 abbrev pub after_take : Lane → UnderWay → UnderWay
 after_take lane p = with_unread lane (drop 1 (unread lane p)) p
 

@@ -44,6 +44,7 @@ found h (events.Up g) = record { order = None; answer = next_answer g h; notice 
 found h (events.Note g) = record { order = None; answer = None; notice = next_notice g h }
 found h _ = record { order = None; answer = None; notice = None }
 
+-- Every part of the world is what this past says of it: gateways, their pipes and counts, the controller, the datagrams sent and the clock.
 pub record StandsFor (header : Header) (p : Past) (w : World) : Type 0 where
   -- what the world keeps is what the past says
   pub nodes : w.nodes ≡ map (node_of header p.world) header.gateways

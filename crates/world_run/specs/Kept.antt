@@ -31,6 +31,7 @@ Stepped header p e old new w gos.On =
 Stepped header p e old new w gos.Forged =
     (new ≡ old ++ block (under_way header) header p e) × (is_forged_event header p e ≡ true)
 
+-- the event was no forged arrival, so that another one can be taken
 abbrev pub does_go_on : Go → Bool
 does_go_on gos.On = true
 does_go_on gos.Forged = false

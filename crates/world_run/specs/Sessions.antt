@@ -25,14 +25,17 @@ pub record IsCutIn (g : List ℕ) (before after : Node) (acts_before acts_after 
 
 -- ---- what the controller hears
 
+-- the world with this gateway changed, or the same where there is none
 abbrev pub changed_at : (Node → Node) → Option Node → World → World
 changed_at f None w = w
 changed_at f (Some n) w = with_node (f n) w
 
+-- the gateway's next answer is heard by the controller, if there was one, before what the controller does then
 abbrev pub answer_heard : Option Answer → List ℕ → World → World
 answer_heard None g w = w
 answer_heard (Some a) g w = changed_at heard_answer (node_at g w) w
 
+-- the gateway's next notice is heard by the controller, if there was one, before what the controller does then
 abbrev pub notice_heard : Option Notice → List ℕ → World → World
 notice_heard None g w = w
 notice_heard (Some t) g w = changed_at heard_notice (node_at g w) w

@@ -13,6 +13,7 @@ use Rattle.world_run.specs.declared.go.Go.TheVariants as gos
 abbrev pub IsLast : ℕ → Type 0
 IsLast n = (1 ≤ n) × (n ≤ 4294967295)
 
+-- a forged arrival ends the script, and every other event lets it go on
 abbrev pub go_of : Bool → Go
 go_of true = gos.Forged
 go_of false = gos.On
@@ -38,6 +39,7 @@ pub record IsRoomy (n : Node) : Type 0 where
   pub answered : n.answered < 2 ^ 62
   pub orders : n.orders < 2 ^ 62
 
+-- the numbers of every gateway can grow by those of one event
 abbrev pub IsRoom : World → Type 0
 IsRoom w = All IsRoomy w.nodes
 

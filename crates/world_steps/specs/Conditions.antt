@@ -42,6 +42,7 @@ IsWritten (done.Notice n) = IsNotice n
 IsWritten (done.Reply r) = IsWritableResponse (reply_message r)
 IsWritten _ = Unit {0}
 
+-- what the gateway says at an event can be written; where there is no such gateway, nothing is said
 abbrev pub TellsAt : Event → Option Node → Type 0
 TellsAt e None = Unit {0}
 TellsAt e (Some n) = All IsWritten (outcome n e).acts
@@ -51,6 +52,7 @@ pub record IsSent (host : Addr) (o : Order) : Type 0 where
   pub order : IsOrder o
   pub writable : IsWritableRequest (order_message host o)
 
+-- an order goes to a gateway of the script, and has a request there; a refusal goes nowhere
 abbrev pub IsGiven : List Node → CtlAct → Type 0
 IsGiven ns (given.Order i o) = (n : Node) × (slice_get ns i ≡ Some n) × IsSent n.config.address o
 IsGiven ns (given.Refused why) = Unit {0}
@@ -68,6 +70,7 @@ pub record IsNextRequest (n : Node) (o : Order) : Type 0 where
   pub asks : request_of (order_message n.config.address o) ≡ Ok (ask_of o)
   pub tells : All IsWritten (outcome n (Handle (Ok (ask_of o)))).acts
 
+-- the next request is that of this order, or none is there to be read
 abbrev pub Asks : Node → Option Order → Type 0
 Asks n None = next_message lanes.Down n.pipe ≡ None
 Asks n (Some o) = IsNextRequest n o
@@ -81,6 +84,7 @@ pub record IsNextAnswer (n : Node) (i : ℕ) (c : Core) (a : Answer) : Type 0 wh
   pub expected : expected c i ≡ Some order
   pub says : answer_of order (reply_message reply) ≡ Ok a
 
+-- the next response is that of this answer, and what the controller orders then has its requests; or none is there to be read
 abbrev pub Answers : Node → World → Option Answer → Type 0
 Answers n w None = next_message lanes.Up n.pipe ≡ None
 Answers n w (Some a) = IsNextAnswer n (number_of n.name w) w.controller a × Gives (told.Answered (number_of n.name w) a) w
@@ -91,6 +95,7 @@ pub record IsNextNotice (n : Node) (t : Notice) : Type 0 where
   pub next : next_message lanes.Note n.pipe ≡ Some (line_text t seconds)
   pub heard : IsHeard t (line_text t seconds)
 
+-- the next line is that of this notice, and what the controller orders then has its requests; or none is there to be read
 abbrev pub Notices : Node → World → Option Notice → Type 0
 Notices n w None = next_message lanes.Note n.pipe ≡ None
 Notices n w (Some t) = IsNextNotice n t × Gives (told.Noticed (number_of n.name w) t) w
@@ -106,10 +111,12 @@ pub record IsCounted (taken : ℕ) (n : Node) : Type 0 where
 
 -- ---- the step
 
+-- this holds of the gateway, if there is one
 abbrev pub at : (Node → Type 0) → Option Node → Type 0
 at f None = Unit {0}
 at f (Some n) = f n
 
+-- the messages that the event takes are those of what is found, and all that is said at it can be written
 abbrev pub CanTake : Found → script.Event → World → Type 0
 CanTake r (events.Let g o) w = TellsAt (Let o) (node_at g w)
 CanTake r (events.Arrive g o) w = TellsAt (Arrive o) (node_at g w)

@@ -19,6 +19,7 @@ use Rattle.gw_core.specs.Machine.{Event, Clock, Handle, Session_taken, stepped}
 use Rattle.gw_law.specs.Told.{Naming}
 use Rattle.gw_history.specs.Told.{told}
 
+-- A gateway with its session. The three counts begin anew where one is opened; a restart begins that of requests handled anew.
 pub record Node : Type 0 where
   pub name : List ℕ
   pub config : Config
@@ -53,6 +54,7 @@ naming n = record { name = n.name; openings = n.pipe.openings; session = session
 
 -- ---- what a gateway does, as acts and as messages
 
+-- what it does, as acts of the transcript, with its name and the numbers of its session and requests from before the event
 abbrev pub acts_told : Node → List GwAct → List Act
 acts_told n xs = map (told (naming n)) xs
 
@@ -62,6 +64,7 @@ piped now (done.Reply r) p = after_push lanes.Up (response_text (reply_message r
 piped now (done.Notice n) p = after_push lanes.Note (line_text n now) p
 piped now _ p = p
 
+-- all that it says, one message after another
 abbrev pub all_piped : ℕ → List GwAct → UnderWay → UnderWay
 all_piped now [] p = p
 all_piped now (x ∷ xs) p = all_piped now xs (piped now x p)
@@ -71,6 +74,7 @@ abbrev pub sent_of : GwAct → List (List ℕ)
 sent_of (done.Sent name number o) = o ∷ []
 sent_of _ = []
 
+-- the datagrams that leave it sealed, in their order; packets in clear aren't among them
 abbrev pub all_sent : List GwAct → List (List ℕ)
 all_sent [] = []
 all_sent (x ∷ xs) = sent_of x ++ all_sent xs
@@ -102,6 +106,7 @@ opened n = record n {
   answered = 0;
 }
 
+-- the controller sees its session end; the gateway isn't told and goes on
 abbrev pub cut : Node → Node
 cut n = record n { pipe = after_cut n.pipe }
 
@@ -121,5 +126,6 @@ ordered o n = record n { pipe = after_push lanes.Down (request_text (order_messa
 abbrev pub heard_answer : Node → Node
 heard_answer n = record n { pipe = after_take lanes.Up n.pipe; answered = n.answered + 1 }
 
+-- the controller hears the next notice
 abbrev pub heard_notice : Node → Node
 heard_notice n = record n { pipe = after_take lanes.Note n.pipe }

@@ -34,9 +34,11 @@ pub record Done : Type 0 where
   pub world : World
   pub is_forged : Bool
 
+-- these acts, of which none is a forged arrival
 abbrev pub did : List Act → World → Done
 did xs w = record { acts = xs; world = w; is_forged = false }
 
+-- the same with these acts before its own
 abbrev pub behind : List Act → Done → Done
 behind xs d = record d { acts = xs ++ d.acts }
 
@@ -49,6 +51,7 @@ pub record Found : Type 0 where
 
 -- ---- the gateways
 
+-- the datagrams among what was done are the last ones sent
 abbrev pub sent_with : List GwAct → World → World
 sent_with xs w = record w { sent = w.sent ++ all_sent xs }
 
@@ -56,6 +59,7 @@ sent_with xs w = record w { sent = w.sent ++ all_sent xs }
 abbrev pub stepped_at : Event → Node → World → World
 stepped_at e n w = sent_with (outcome n e).acts (with_node (after_event e n) w)
 
+-- A packet comes from inside. Where there is no such gateway, nothing happens, here and at the events below.
 abbrev pub let_at : List ℕ → World → Option Node → Done
 let_at o w None = did [] w
 let_at o w (Some n) = did (acts.Let n.name o ∷ acts_told n (outcome n (Let o)).acts) (stepped_at (Let o) n w)
@@ -70,9 +74,11 @@ did_open _ = false
 abbrev pub is_forged_at : List ℕ → World → Node → Bool
 is_forged_at o w n = list_any did_open (outcome n (Arrive o)).acts && not (was_sent (esp_of o) w.sent)
 
+-- the arrival alone, which nothing answers
 abbrev pub forged_at : List ℕ → World → Node → Done
 forged_at o w n = record { acts = acts.Arrived n.name o ∷ []; world = w; is_forged = true }
 
+-- a datagram comes from outside
 abbrev pub arrive_at : List ℕ → World → Option Node → Done
 arrive_at o w None = did [] w
 arrive_at o w (Some n) =
@@ -83,6 +89,7 @@ arrive_at o w (Some n) =
 abbrev pub clock_acts : ℕ → List Node → List Act
 clock_acts t ns = flat_map (λ n. acts_told n (outcome n (Clock t)).acts) ns
 
+-- the clock is the greatest reading so far, and each gateway has done what it does at this one
 abbrev pub clock_read : ℕ → World → World
 clock_read t w = record w {
   nodes = map (after_event (Clock t)) w.nodes;
@@ -90,28 +97,34 @@ clock_read t w = record w {
   clock = max t w.clock;
 }
 
+-- the gateway restarts, and is told the greatest reading of the clock so far
 abbrev pub boot_at : World → Option Node → Done
 boot_at w None = did [] w
 boot_at w (Some n) = did (acts.Boot n.name ∷ []) (with_node (restarted w.clock n) w)
 
+-- the gateway handles the request of this order
 abbrev pub handle : Order → World → Node → Done
 handle o w n =
     did (acts_told n (outcome n (Handle (Ok (ask_of o)))).acts) (sent_with (outcome n (Handle (Ok (ask_of o)))).acts (with_node (after_request o n) w))
 
+-- the gateway handles the next request, if one was found
 abbrev pub down_at : Option Order → World → Option Node → Done
 down_at None w n = did [] w
 down_at (Some o) w None = did [] w
 down_at (Some o) w (Some n) = handle o w n
 
+-- what is under way at the gateway; nothing where there is none of its name
 abbrev pub pipe_of : Option Node → UnderWay
 pipe_of None = no_session
 pipe_of (Some n) = n.pipe
 
+-- the first octets under way on a lane, also where there is no such gateway: none then
 abbrev pub wire_at : List ℕ → Lane → World → Option Node → Done
 wire_at g lane w n = did (acts.Wire g lane (first_octets lane (pipe_of n)) ∷ []) w
 
 -- ---- the controller
 
+-- The controller orders something of a gateway, and then what comes next. An order for no gateway is passed over.
 abbrev pub order_at : Order → List CtlAct → World → Option Node → (World → Done) → Done
 order_at o xs w None next = next w
 order_at o xs w (Some n) next = behind (acts.Order n.name n.pipe.openings (n.orders + 1) o ∷ []) (next (with_node (ordered o n) w))
@@ -126,31 +139,37 @@ giving (given.Refused why ∷ xs) w = behind (acts.Refused why ∷ []) (giving x
 abbrev pub controlled : CtlEvent → World → Done
 controlled e w = giving (stepped w.controller e).acts (record w { controller = (stepped w.controller e).core })
 
+-- the controller opens a session, where it sees none open
 abbrev pub open_at : World → Option Node → Done
 open_at w None = did [] w
 open_at w (Some n) =
     if n.pipe.is_open then did [] w
     else behind (acts.Opened n.name (n.pipe.openings + 1) ∷ []) (controlled (told.Opened (number_of n.name w)) (with_node (opened n) w))
 
+-- the controller sees its session end, where one is open
 abbrev pub cut_at : World → Option Node → Done
 cut_at w None = did [] w
 cut_at w (Some n) =
     if n.pipe.is_open then behind (acts.Cut n.name n.pipe.openings ∷ []) (controlled (told.Cut (number_of n.name w)) (with_node (cut n) w))
     else did [] w
 
+-- the controller hears this answer from the gateway
 abbrev pub answer : Answer → World → Node → Done
 answer a w n =
     behind (acts.Answered n.name n.pipe.openings (n.answered + 1) a ∷ []) (controlled (told.Answered (number_of n.name w) a) (with_node (heard_answer n) w))
 
+-- the controller hears the next answer, if one was found
 abbrev pub up_at : Option Answer → World → Option Node → Done
 up_at None w n = did [] w
 up_at (Some a) w None = did [] w
 up_at (Some a) w (Some n) = answer a w n
 
+-- the controller hears this notice from the gateway
 abbrev pub notice : Notice → World → Node → Done
 notice t w n =
     behind (acts.Heard n.name n.pipe.openings t ∷ []) (controlled (told.Noticed (number_of n.name w) t) (with_node (heard_notice n) w))
 
+-- the controller hears the next notice, if one was found
 abbrev pub note_at : Option Notice → World → Option Node → Done
 note_at None w n = did [] w
 note_at (Some t) w None = did [] w

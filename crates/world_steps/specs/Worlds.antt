@@ -7,6 +7,7 @@ use Rattle.hist_halves.specs.Sealed.{esp_of}
 use Rattle.ctl_core.specs.Core.{Core, told_nothing}
 use Rattle.world_steps.specs.Nodes.{Node, begun}
 
+-- All that is kept while a script is run. What happened isn't kept.
 pub record World : Type 0 where
   -- one for each gateway of the header, in its order
   pub nodes : List Node
@@ -43,6 +44,7 @@ abbrev pub placed : Node → List Node → List Node
 placed n [] = []
 placed n (m ∷ ms) = if bytes_eq m.name n.name then n ∷ ms else m ∷ placed n ms
 
+-- the world with the gateway of this name as it is now; the same where it has none
 abbrev pub with_node : Node → World → World
 with_node n w = record w { nodes = placed n w.nodes }
 
