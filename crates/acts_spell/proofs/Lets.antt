@@ -13,9 +13,9 @@ use Rattle.ikeless_tree.specs.declared.entry.Action.TheVariants as actions
 use Rattle.ikeless_tree.specs.declared.entry.Direction.TheVariants.{Out}
 use Rattle.ikeless_tree.specs.declared.entry.SpdEntry.{SpdEntry}
 use Rattle.ikeless_tree.specs.declared.order.Notice.TheVariants as notices
-use Rattle.ikeless_tree.specs.declared.reply.DropWhy.TheVariants as why
-use Rattle.ikeless_tree.specs.declared.reply.TreeFault.{TreeFault}
-use Rattle.ikeless_tree.specs.declared.reply.TreeFault.TheVariants as faults
+use Rattle.ikeless_tree.specs.declared.drops.DropWhy.TheVariants as why
+use Rattle.ikeless_tree.specs.declared.fault.TreeFault.{TreeFault}
+use Rattle.ikeless_tree.specs.declared.fault.TreeFault.TheVariants as faults
 use Rattle.ikeless_tree.specs.declared.sad.SadEntry.{SadEntry}
 use Rattle.esp_frame.specs.Esp.{esp_len, keying, pad_len}
 use Rattle.esp_frame.specs.Laws.{SealedLength}

@@ -5,8 +5,8 @@ use Rattle.ikeless_tree.specs.Check.{is_sad_name, sad_fault}
 use Rattle.ikeless_tree.specs.Typed.{IsTypedLimits}
 use Rattle.ikeless_tree.specs.declared.command.Peer.{Peer}
 use Rattle.ikeless_tree.specs.declared.order.Notice.{Notice}
-use Rattle.ikeless_tree.specs.declared.reply.GoneWhy.TheVariants as gone
-use Rattle.ikeless_tree.specs.declared.reply.TreeFault.{TreeFault}
+use Rattle.ikeless_tree.specs.declared.ends.GoneWhy.TheVariants as gone
+use Rattle.ikeless_tree.specs.declared.fault.TreeFault.{TreeFault}
 use Rattle.ikeless_tree.specs.declared.sad.Limits.{Limits}
 use Rattle.ikeless_tree.specs.declared.sad.SadEntry.{SadEntry}
 use Rattle.life_count.specs.Lifetime.{counts_at, cut, expiry, is_reached}

@@ -12,7 +12,7 @@ use Rattle.ikeless_tree.specs.declared.order.Lane.{Lane}
 use Rattle.ikeless_tree.specs.declared.order.Lane.TheVariants as lanes
 use Rattle.ikeless_tree.specs.declared.order.Order.{Order}
 use Rattle.ikeless_tree.specs.declared.order.Order.TheVariants as asks
-use Rattle.ikeless_tree.specs.declared.reply.GoneWhy.TheVariants as gone
+use Rattle.ikeless_tree.specs.declared.ends.GoneWhy.TheVariants as gone
 use Rattle.ikeless_tree.specs.declared.sad.SadEntry.{SadEntry}
 use Rattle.ikeless_tree.specs.Check.{is_sad_name}
 use Rattle.hist_acts.specs.declared.act.Act.{Act}

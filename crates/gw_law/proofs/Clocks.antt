@@ -1,7 +1,7 @@
 -- What a reading of the clock does is what the law of a gateway does.
 use Rattle.std.proofs.Common.{◌≡◌, ℕ, Bool, true, false, max, nat_lt, List, [], ◌∷◌, ◌++◌, None, refl, sym, ap, ◌∙◌, arith, subst, if◌then◌else◌}
 use Rattle.ikeless_tree.specs.declared.order.Notice.{Notice}
-use Rattle.ikeless_tree.specs.declared.reply.GoneWhy.TheVariants as gone
+use Rattle.ikeless_tree.specs.declared.ends.GoneWhy.TheVariants as gone
 use Rattle.life_count.specs.Lifetime.{counts_of, event_at, expiry, is_reached}
 use Rattle.sad_store.specs.declared.half.Half.{Half}
 use Rattle.hist_acts.specs.declared.act.Act.{Act}

@@ -3,9 +3,9 @@ use Rattle.std.proofs.Common.{◌≡◌, ◌⊎◌, ℕ, Bool, true, false, not,
 use Rattle.std.proofs.lemmas.Bool.Decides.{nat_tests}
 use Rattle.ikl_base.specs.Address.{is_one_family}
 use Rattle.ikeless_tree.specs.declared.sad.SadEntry.{SadEntry}
-use Rattle.ikeless_tree.specs.declared.reply.TreeFault.{TreeFault}
-use Rattle.ikeless_tree.specs.declared.reply.TreeFault.TheVariants as faults
-use Rattle.ikeless_tree.specs.declared.reply.Feature.TheVariants as features
+use Rattle.ikeless_tree.specs.declared.fault.TreeFault.{TreeFault}
+use Rattle.ikeless_tree.specs.declared.fault.TreeFault.TheVariants as faults
+use Rattle.ikeless_tree.specs.declared.fault.Feature.TheVariants as features
 use Rattle.ikeless_tree.specs.Check.{sad_fault, is_sad_name, is_key_length, is_window, has_empty_range, has_many_ranges}
 
 passed : (b : Bool) (fault : TreeFault) (rest : Option TreeFault) → (if b then Some fault else rest) ≡ None → (b ≡ false) × (rest ≡ None)

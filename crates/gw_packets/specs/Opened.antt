@@ -2,7 +2,7 @@
 use Rattle.std.specs.Prelude.{ℕ, List, length, Option, Some, None}
 use Rattle.esp_frame.specs.Open.{InnerPacket, inner_packet}
 use Rattle.ikeless_tree.specs.declared.sad.SadEntry.{SadEntry}
-use Rattle.ikeless_tree.specs.declared.reply.DropWhy.TheVariants as why
+use Rattle.ikeless_tree.specs.declared.drops.DropWhy.TheVariants as why
 use Rattle.sad_store.specs.declared.half.Half.{Half}
 use Rattle.sad_store.specs.Halves.{take_number}
 use Rattle.gw_tables.specs.Kept.{Kept}

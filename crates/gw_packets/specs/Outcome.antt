@@ -1,7 +1,7 @@
 -- What a packet, a datagram or a reading of the clock does, and what is kept then.
 use Rattle.std.specs.Prelude.{ℕ, List, [], ◌∷◌, Option, Some}
 use Rattle.ikeless_tree.specs.declared.order.Notice.{Notice}
-use Rattle.ikeless_tree.specs.declared.reply.DropWhy.{DropWhy}
+use Rattle.ikeless_tree.specs.declared.drops.DropWhy.{DropWhy}
 use Rattle.gw_tables.specs.Kept.{Kept}
 use Rattle.gw_packets.specs.declared.done.PacketAnswer.{PacketAnswer}
 use Rattle.gw_packets.specs.declared.done.PacketAnswer.TheVariants as answers

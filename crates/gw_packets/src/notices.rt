@@ -1,7 +1,7 @@
 // Notices, and what a use of a half tells.
 ghost use Rattle.std.specs.Prelude.{◌≡◌, ◌++◌, ◌∷◌, [], Some, None, Option, List, ℕ, IfOk, OnOk};
 ghost use Rattle.ikeless_tree.specs.declared.order.Notice.TheVariants as notices;
-ghost use Rattle.ikeless_tree.specs.declared.reply.DropWhy.TheVariants as why;
+ghost use Rattle.ikeless_tree.specs.declared.drops.DropWhy.TheVariants as why;
 ghost use Rattle.life_count.specs.Lifetime.{counted, counts_of, event_at, expiry};
 ghost use Rattle.gw_tables.specs.Kept.{Kept};
 ghost use Rattle.gw_packets.specs.declared.done.PacketAnswer.TheVariants as answers;

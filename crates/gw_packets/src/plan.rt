@@ -1,6 +1,6 @@
 // What is to be done and changed, made before it is carried out.
 ghost use Rattle.std.specs.Prelude.{◌≡◌, ◌∷◌, [], Some, None};
-ghost use Rattle.ikeless_tree.specs.declared.reply.DropWhy.TheVariants as why;
+ghost use Rattle.ikeless_tree.specs.declared.drops.DropWhy.TheVariants as why;
 ghost use Rattle.gw_packets.specs.declared.done.PacketAnswer.TheVariants as answers;
 ghost use Rattle.gw_packets.specs.Change.{Fits, applied, gone_from, planned};
 ghost use Rattle.gw_tables.specs.Kept.{Kept};

@@ -5,7 +5,7 @@ use Rattle.std.specs.Str.{bytes_eq}
 use Rattle.ikeless_tree.specs.declared.sad.SadEntry.{SadEntry}
 use Rattle.ikeless_tree.specs.declared.sad.SadRow.{SadRow}
 use Rattle.ikeless_tree.specs.declared.sad.Tree.{Tree}
-use Rattle.ikeless_tree.specs.declared.reply.GoneWhy.TheVariants as gone
+use Rattle.ikeless_tree.specs.declared.ends.GoneWhy.TheVariants as gone
 use Rattle.ikeless_tree.specs.Half.{is_inbound}
 use Rattle.reply_table.specs.declared.ask.Ask.{Ask}
 use Rattle.reply_table.specs.declared.ask.Change.{Change}

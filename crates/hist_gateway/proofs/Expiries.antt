@@ -6,7 +6,7 @@ use Rattle.std.specs.List.{list_any}
 use Rattle.std.specs.Str.{bytes_eq}
 use Rattle.ikeless_tree.specs.declared.sad.Limits.{Limits}
 use Rattle.ikeless_tree.specs.declared.sad.SadEntry.{SadEntry}
-use Rattle.ikeless_tree.specs.declared.reply.GoneWhy.TheVariants as gone
+use Rattle.ikeless_tree.specs.declared.ends.GoneWhy.TheVariants as gone
 use Rattle.life_count.specs.declared.event.LifeEvent.TheVariants as life
 use Rattle.life_count.specs.Lifetime.{is_reached, expiry}
 use Rattle.hist_acts.specs.declared.act.Act.{Act}

@@ -20,8 +20,8 @@ use Rattle.hist_gateway.specs.State.{GatewayState, life_of, half_of, state_of, q
 use Rattle.hist_gateway.specs.May.{has_half, IsNewHalf}
 use Rattle.std.proofs.lemmas.Slice.Eq.{bytes_eq-Decides}
 use Rattle.std.proofs.lemmas.List.Sums.{fold-append}
-use Rattle.ikeless_tree.specs.declared.reply.DropWhy.{DropWhy}
-use Rattle.ikeless_tree.specs.declared.reply.GoneWhy.{GoneWhy}
+use Rattle.ikeless_tree.specs.declared.drops.DropWhy.{DropWhy}
+use Rattle.ikeless_tree.specs.declared.ends.GoneWhy.{GoneWhy}
 use Rattle.esp_frame.specs.Esp.{spi_of}
 use Rattle.hist_halves.specs.Sealed.{by_spi, number_from}
 use Rattle.hist_halves.specs.Halves.{number_if, number_for, arrival_number}

@@ -5,7 +5,7 @@ use Rattle.std.specs.Str.{bytes_eq}
 use Rattle.ip_packet.specs.View.{Packet}
 use Rattle.ikeless_tree.specs.declared.sad.SadEntry.{SadEntry}
 use Rattle.ikeless_tree.specs.declared.entry.Direction.TheVariants.{Out}
-use Rattle.ikeless_tree.specs.declared.reply.GoneWhy.{GoneWhy}
+use Rattle.ikeless_tree.specs.declared.ends.GoneWhy.{GoneWhy}
 use Rattle.ikeless_tree.specs.Half.{is_inbound}
 use Rattle.spd_match.specs.Match.{holds_packet}
 use Rattle.sad_store.specs.Halves.{may_seal}

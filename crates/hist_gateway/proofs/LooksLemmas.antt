@@ -6,7 +6,7 @@ use Rattle.std.specs.List.{list_any}
 use Rattle.std.specs.Str.{bytes_eq}
 use Rattle.ikeless_tree.specs.declared.sad.Limits.{Limits}
 use Rattle.ikeless_tree.specs.declared.order.Notice.TheVariants as notices
-use Rattle.ikeless_tree.specs.declared.reply.GoneWhy.TheVariants as gone
+use Rattle.ikeless_tree.specs.declared.ends.GoneWhy.TheVariants as gone
 use Rattle.life_count.specs.declared.event.LifeEvent.{LifeEvent}
 use Rattle.life_count.specs.declared.event.LifeEvent.TheVariants as events
 use Rattle.life_count.specs.Lifetime.{counts_of, event_at, expiry, is_reached, is_soft, with_told}

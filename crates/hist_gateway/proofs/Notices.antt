@@ -15,7 +15,7 @@ use Rattle.ikeless_tree.specs.declared.sad.Limits.{Limits}
 use Rattle.ikeless_tree.specs.declared.sad.SadEntry.{SadEntry}
 use Rattle.ikeless_tree.specs.declared.order.Notice.{Notice}
 use Rattle.ikeless_tree.specs.declared.order.Notice.TheVariants as notices
-use Rattle.ikeless_tree.specs.declared.reply.DropWhy.TheVariants as why
+use Rattle.ikeless_tree.specs.declared.drops.DropWhy.TheVariants as why
 use Rattle.reply_table.specs.declared.ask.Change.{Change}
 use Rattle.reply_table.specs.declared.ask.Change.TheVariants as changes
 use Rattle.reply_table.specs.Reply as table

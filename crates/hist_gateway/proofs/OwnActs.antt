@@ -11,8 +11,8 @@ use Rattle.ikeless_tree.specs.declared.entry.Action.TheVariants as actions
 use Rattle.ikeless_tree.specs.declared.entry.Direction.TheVariants.{In, Out}
 use Rattle.ikeless_tree.specs.declared.order.Notice.{Notice}
 use Rattle.ikeless_tree.specs.declared.order.Notice.TheVariants as notices
-use Rattle.ikeless_tree.specs.declared.reply.DropWhy.TheVariants as why
-use Rattle.ikeless_tree.specs.declared.reply.GoneWhy.TheVariants as gone
+use Rattle.ikeless_tree.specs.declared.drops.DropWhy.TheVariants as why
+use Rattle.ikeless_tree.specs.declared.ends.GoneWhy.TheVariants as gone
 use Rattle.reply_table.specs.declared.ask.Ask.{Ask}
 use Rattle.reply_table.specs.declared.ask.Change.{Change}
 use Rattle.reply_table.specs.declared.ask.Change.TheVariants as changes
@@ -41,7 +41,7 @@ use Rattle.hist_gateway.specs.Handle.{Fault, answer_of, fault_answer, handle_act
 use Rattle.hist_gateway.specs.Block.{Gateway, GatewayEvent, Let, Arrive, Clock, Handle, Session_taken, gw_block}
 use Rattle.hist_gateway.specs.Answers.{is_strange, are_strange, is_clock_reading}
 use Rattle.std.specs.Str.{bytes_eq}
-use Rattle.ikeless_tree.specs.declared.reply.DropWhy.{DropWhy}
+use Rattle.ikeless_tree.specs.declared.drops.DropWhy.{DropWhy}
 use Rattle.hist_gateway.specs.State.{state_of, quiet, is_at}
 use Rattle.hist_gateway.specs.May.{IsNewHalf}
 use Rattle.hist_gateway.proofs.KeepsLemmas.{keeps, did-away, same-refl, same-is}

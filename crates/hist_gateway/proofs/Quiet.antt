@@ -7,7 +7,7 @@ use Rattle.ikeless_tree.specs.declared.entry.SpdEntry.{SpdEntry}
 use Rattle.ikeless_tree.specs.declared.entry.Action.{Action}
 use Rattle.ikeless_tree.specs.declared.entry.Action.TheVariants as actions
 use Rattle.ikeless_tree.specs.declared.entry.Direction.TheVariants.{In, Out}
-use Rattle.ikeless_tree.specs.declared.reply.DropWhy.TheVariants as why
+use Rattle.ikeless_tree.specs.declared.drops.DropWhy.TheVariants as why
 use Rattle.reply_table.specs.declared.ask.Ask.{Ask}
 use Rattle.reply_table.specs.declared.ask.Change.{Change}
 use Rattle.reply_table.specs.declared.ask.Change.TheVariants as changes

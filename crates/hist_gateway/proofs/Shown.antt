@@ -19,11 +19,11 @@ use Rattle.ikeless_tree.specs.declared.entry.Selector.{Selector}
 use Rattle.ikeless_tree.specs.declared.entry.SpdEntry.{SpdEntry}
 use Rattle.ikeless_tree.specs.declared.order.Answer.{Answer}
 use Rattle.ikeless_tree.specs.declared.order.Notice.TheVariants as notices
-use Rattle.ikeless_tree.specs.declared.reply.DropWhy.{DropWhy}
-use Rattle.ikeless_tree.specs.declared.reply.DropWhy.TheVariants as why
-use Rattle.ikeless_tree.specs.declared.reply.GoneWhy.TheVariants as gone
-use Rattle.ikeless_tree.specs.declared.reply.Tag.{Tag}
-use Rattle.ikeless_tree.specs.declared.reply.Tag.TheVariants as tags
+use Rattle.ikeless_tree.specs.declared.drops.DropWhy.{DropWhy}
+use Rattle.ikeless_tree.specs.declared.drops.DropWhy.TheVariants as why
+use Rattle.ikeless_tree.specs.declared.ends.GoneWhy.TheVariants as gone
+use Rattle.ikeless_tree.specs.declared.error.Tag.{Tag}
+use Rattle.ikeless_tree.specs.declared.error.Tag.TheVariants as tags
 use Rattle.reply_table.specs.declared.ask.Ask.TheVariants as asks
 use Rattle.reply_table.specs.declared.ask.Place.TheVariants as places
 use Rattle.reply_table.specs.Reply.{reply}

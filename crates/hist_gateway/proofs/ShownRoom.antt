@@ -5,7 +5,7 @@ use Rattle.std.proofs.lemmas.List.{length-append, length-map}
 use Rattle.std.specs.List.{list_any}
 use Rattle.std.specs.Str.{bytes_eq}
 use Rattle.ikeless_tree.specs.declared.sad.SadEntry.{SadEntry}
-use Rattle.ikeless_tree.specs.declared.reply.Tag.TheVariants as tags
+use Rattle.ikeless_tree.specs.declared.error.Tag.TheVariants as tags
 use Rattle.ikeless_tree.specs.Half.{is_inbound, out_name}
 use Rattle.reply_table.specs.declared.ask.Ask.TheVariants as asks
 use Rattle.reply_table.specs.declared.ask.Change.TheVariants as changes

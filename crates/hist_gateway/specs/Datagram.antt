@@ -19,8 +19,8 @@ use Rattle.ikeless_tree.specs.declared.sad.SadEntry.{SadEntry}
 use Rattle.ikeless_tree.specs.declared.entry.Direction.TheVariants.{Out}
 use Rattle.ikeless_tree.specs.declared.entry.Range.{Range}
 use Rattle.ikeless_tree.specs.declared.entry.Selector.{Selector}
-use Rattle.ikeless_tree.specs.declared.reply.DropWhy.{DropWhy}
-use Rattle.ikeless_tree.specs.declared.reply.DropWhy.TheVariants as why
+use Rattle.ikeless_tree.specs.declared.drops.DropWhy.{DropWhy}
+use Rattle.ikeless_tree.specs.declared.drops.DropWhy.TheVariants as why
 use Rattle.esp_frame.specs.Esp.{esp, keying}
 use Rattle.spd_match.specs.Match.{local_port, remote_port}
 

@@ -5,7 +5,7 @@ use Rattle.std.specs.Str.{bytes_eq}
 use Rattle.ip_packet.specs.Field.{next_header}
 use Rattle.ikeless_tree.specs.declared.sad.SadEntry.{SadEntry}
 use Rattle.ikeless_tree.specs.declared.command.Peer.{Peer}
-use Rattle.ikeless_tree.specs.declared.reply.DropWhy.{DropWhy}
+use Rattle.ikeless_tree.specs.declared.drops.DropWhy.{DropWhy}
 use Rattle.esp_frame.specs.Esp.{seq_of, spi_of}
 use Rattle.replay_win.specs.Marks.{greatest, is_among}
 use Rattle.ikeless_tree.specs.Half.{other_half}

@@ -22,8 +22,8 @@ use Rattle.ikeless_tree.specs.declared.entry.Selector.{Selector}
 use Rattle.ikeless_tree.specs.declared.entry.SpdEntry.{SpdEntry}
 use Rattle.ikeless_tree.specs.declared.order.Order.TheVariants as asks
 use Rattle.ikeless_tree.specs.declared.order.Notice.TheVariants as notices
-use Rattle.ikeless_tree.specs.declared.reply.DropWhy.TheVariants as why
-use Rattle.ikeless_tree.specs.declared.reply.GoneWhy.TheVariants as gone
+use Rattle.ikeless_tree.specs.declared.drops.DropWhy.TheVariants as why
+use Rattle.ikeless_tree.specs.declared.ends.GoneWhy.TheVariants as gone
 use Rattle.ikeless_tree.specs.Half.{other_half, in_half}
 use Rattle.spd_match.specs.Match.{first_entry, holds_packet}
 use Rattle.esp_frame.specs.Esp.{esp, iv_of, pad_len, padded, seq_of, spi_of}

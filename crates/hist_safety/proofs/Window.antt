@@ -11,7 +11,7 @@ use Rattle.ikeless_tree.specs.declared.entry.Selector.{Selector}
 use Rattle.ikeless_tree.specs.declared.order.Order.{Order}
 use Rattle.ikeless_tree.specs.declared.order.Order.TheVariants as asks
 use Rattle.ikeless_tree.specs.declared.order.Answer.{Answer}
-use Rattle.ikeless_tree.specs.declared.reply.GoneWhy.TheVariants as gone
+use Rattle.ikeless_tree.specs.declared.ends.GoneWhy.TheVariants as gone
 use Rattle.ikeless_tree.specs.Half.{is_inbound, other_half, in_half, out_half}
 use Rattle.spd_match.specs.Match.{holds_packet, lies_in, local_port, port_fits, proto_fits, remote_port}
 use Rattle.esp_frame.specs.Esp.{EspOpens, Inner, esp, pad_len, padded, seq_of, spi_of}

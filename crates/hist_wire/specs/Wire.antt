@@ -5,7 +5,7 @@ use Rattle.ikeless_tree.specs.declared.order.Answer.{Answer}
 use Rattle.ikeless_tree.specs.declared.order.Lane.{Lane}
 use Rattle.ikeless_tree.specs.declared.order.Notice.{Notice}
 use Rattle.ikeless_tree.specs.declared.order.Order.{Order}
-use Rattle.ikeless_tree.specs.declared.reply.GoneWhy.TheVariants as gone
+use Rattle.ikeless_tree.specs.declared.ends.GoneWhy.TheVariants as gone
 use Rattle.reply_table.specs.Order.{ask_of}
 use Rattle.reply_table.specs.Reply.{Outcome, reply}
 use Rattle.rc_http.specs.Written.{request_text, response_text}

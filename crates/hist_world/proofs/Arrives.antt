@@ -15,8 +15,8 @@ use Rattle.ikeless_tree.specs.declared.entry.Action.{Action}
 use Rattle.ikeless_tree.specs.declared.entry.Action.TheVariants as actions
 use Rattle.ikeless_tree.specs.declared.entry.Direction.TheVariants.{In}
 use Rattle.ikeless_tree.specs.declared.order.Notice.TheVariants as notices
-use Rattle.ikeless_tree.specs.declared.reply.DropWhy.{DropWhy}
-use Rattle.ikeless_tree.specs.declared.reply.DropWhy.TheVariants as why
+use Rattle.ikeless_tree.specs.declared.drops.DropWhy.{DropWhy}
+use Rattle.ikeless_tree.specs.declared.drops.DropWhy.TheVariants as why
 use Rattle.esp_frame.specs.Esp.{EspOpens, Inner, Keying, NoInner, keying, spi_of}
 use Rattle.esp_frame.specs.Open as esp
 use Rattle.esp_frame.proofs.Opens.{opened_finds, opened_is, packet_finds, packet_is}

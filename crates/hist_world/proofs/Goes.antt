@@ -7,7 +7,7 @@ use Rattle.ip_packet.specs.View.{Packet, view_of}
 use Rattle.ikeless_tree.specs.declared.sad.SadEntry.{SadEntry}
 use Rattle.ikeless_tree.specs.declared.entry.Direction.TheVariants.{In}
 use Rattle.ikeless_tree.specs.declared.order.Notice.TheVariants as notices
-use Rattle.ikeless_tree.specs.declared.reply.DropWhy.TheVariants as why
+use Rattle.ikeless_tree.specs.declared.drops.DropWhy.TheVariants as why
 use Rattle.esp_frame.specs.Esp.{keying, seq_of, spi_of}
 use Rattle.esp_frame.specs.Open.{opened}
 use Rattle.replay_win.specs.declared.verdict.Verdict.TheVariants.{Fresh, Seen}

@@ -14,7 +14,7 @@ use Rattle.ikeless_tree.specs.declared.entry.Direction.TheVariants as directions
 use Rattle.ikeless_tree.specs.declared.entry.Selector.{Selector}
 use Rattle.ikeless_tree.specs.declared.entry.SpdEntry.{SpdEntry}
 use Rattle.ikeless_tree.specs.declared.order.Answer.{Answer}
-use Rattle.ikeless_tree.specs.declared.reply.Tag.{Tag}
+use Rattle.ikeless_tree.specs.declared.error.Tag.{Tag}
 use Rattle.hist_acts.specs.declared.event.Header.{Header}
 use Rattle.hist_controller.specs.Acts.{Association, PlacedTunnel, Way}
 use Rattle.hist_gateway.specs.Datagram.{datagram}

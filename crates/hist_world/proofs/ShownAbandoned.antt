@@ -2,7 +2,7 @@
 use Rattle.std.proofs.Common.{◌≡◌, List, [], ◌∷◌, ◌++◌, codes, refl}
 use Rattle.std.specs.Fmt.{digits}
 use Rattle.ikeless_tree.specs.declared.order.Order.TheVariants as asks
-use Rattle.ikeless_tree.specs.declared.reply.Tag.TheVariants as tags
+use Rattle.ikeless_tree.specs.declared.error.Tag.TheVariants as tags
 use Rattle.ikeless_tree.specs.Half.{in_name, out_name}
 use Rattle.reply_table.specs.Reply.{reply}
 use Rattle.hist_acts.specs.declared.act.Act.{Act}

@@ -5,7 +5,7 @@ use Rattle.ip_packet.specs.Ipv6.{upper_of}
 use Rattle.ip_packet.specs.Outer.{outer_header}
 use Rattle.ip_packet.specs.Ttl.{with_ttl}
 use Rattle.ip_packet.specs.View.{view_of}
-use Rattle.ikeless_tree.specs.declared.reply.DropWhy.TheVariants as why
+use Rattle.ikeless_tree.specs.declared.drops.DropWhy.TheVariants as why
 use Rattle.gcm_seal.specs.Gcm.{sealed, tag_of}
 use Rattle.esp_frame.specs.Esp.{Keying, aad_of, esp, iv_of, keying, seq_of, spi_of, text_of}
 use Rattle.esp_frame.specs.Open.{opened, inner_packet}

@@ -3,7 +3,7 @@
 use Rattle.std.proofs.Common.{◌≡◌, not, ◌&&◌, ◌∙◌, ℕ, Bool, true, List, [], ◌∷◌, ◌++◌, refl, ap, if◌then◌else◌}
 use Rattle.ip_packet.specs.Outer.{outer_header}
 use Rattle.ip_packet.specs.View.{view_of}
-use Rattle.ikeless_tree.specs.declared.reply.DropWhy.TheVariants as why
+use Rattle.ikeless_tree.specs.declared.drops.DropWhy.TheVariants as why
 use Rattle.gcm_seal.specs.Gcm.{sealed, tag_of}
 use Rattle.esp_frame.specs.Esp.{esp, keying, spi_of}
 use Rattle.esp_frame.specs.Open.{opened}

@@ -8,7 +8,7 @@ use Rattle.ikeless_tree.specs.declared.entry.SpdEntry.{SpdEntry}
 use Rattle.hist_safety.proofs.Basics.{eq-nat, some-is}
 use Rattle.ip_packet.specs.View.{view_of}
 use Rattle.ikeless_tree.specs.declared.order.Order.TheVariants as asks
-use Rattle.ikeless_tree.specs.declared.reply.DropWhy.TheVariants as why
+use Rattle.ikeless_tree.specs.declared.drops.DropWhy.TheVariants as why
 use Rattle.reply_table.specs.Reply.{reply}
 use Rattle.spd_match.specs.Match.{holds_packet}
 use Rattle.hist_acts.specs.declared.act.Act.{Act}

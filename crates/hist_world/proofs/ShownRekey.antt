@@ -6,7 +6,7 @@ use Rattle.ip_packet.specs.Outer.{outer_header}
 use Rattle.ip_packet.specs.View.{view_of}
 use Rattle.ikeless_tree.specs.declared.order.Notice.TheVariants as notices
 use Rattle.ikeless_tree.specs.declared.order.Order.TheVariants as asks
-use Rattle.ikeless_tree.specs.declared.reply.GoneWhy.TheVariants as gone
+use Rattle.ikeless_tree.specs.declared.ends.GoneWhy.TheVariants as gone
 use Rattle.ikeless_tree.specs.Half.{in_name, out_name}
 use Rattle.reply_table.specs.Reply.{reply}
 use Rattle.gcm_seal.specs.Gcm.{sealed, tag_of}

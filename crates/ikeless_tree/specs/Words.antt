@@ -3,16 +3,16 @@
 -- project's own.
 use Rattle.std.specs.Prelude.{ℕ, Bool, true, false, List, [], ◌∷◌, codes, find, Option}
 use Rattle.std.specs.Str.{bytes_eq}
-use Rattle.ikeless_tree.specs.declared.reply.Tag.{Tag}
-use Rattle.ikeless_tree.specs.declared.reply.Tag.TheVariants as tags
+use Rattle.ikeless_tree.specs.declared.error.Tag.{Tag}
+use Rattle.ikeless_tree.specs.declared.error.Tag.TheVariants as tags
 use Rattle.ikeless_tree.specs.declared.command.Refusal.{Refusal}
 use Rattle.ikeless_tree.specs.declared.command.Refusal.TheVariants as refusals
-use Rattle.ikeless_tree.specs.declared.reply.App.{App}
-use Rattle.ikeless_tree.specs.declared.reply.App.TheVariants as apps
-use Rattle.ikeless_tree.specs.declared.reply.DropWhy.{DropWhy}
-use Rattle.ikeless_tree.specs.declared.reply.DropWhy.TheVariants as drops
-use Rattle.ikeless_tree.specs.declared.reply.GoneWhy.{GoneWhy}
-use Rattle.ikeless_tree.specs.declared.reply.GoneWhy.TheVariants as ends
+use Rattle.ikeless_tree.specs.declared.error.App.{App}
+use Rattle.ikeless_tree.specs.declared.error.App.TheVariants as apps
+use Rattle.ikeless_tree.specs.declared.drops.DropWhy.{DropWhy}
+use Rattle.ikeless_tree.specs.declared.drops.DropWhy.TheVariants as drops
+use Rattle.ikeless_tree.specs.declared.ends.GoneWhy.{GoneWhy}
+use Rattle.ikeless_tree.specs.declared.ends.GoneWhy.TheVariants as ends
 use Rattle.ikeless_tree.specs.declared.entry.Action.{Action}
 use Rattle.ikeless_tree.specs.declared.entry.Action.TheVariants as actions
 use Rattle.ikeless_tree.specs.declared.entry.Direction.{Direction}

@@ -5,7 +5,7 @@ ghost use Rattle.ikl_base.specs.Address.{AreOneFamily};
 ghost use Rattle.ikeless_tree.specs.Check.{is_word_octet, is_path_octet, is_spd_name, is_serial, has_front, is_sad_name, is_window, is_empty_range, has_empty_range, has_many_ranges, is_named, entry_fault, entries_fault, spd_fault, is_gateway_octet, is_gateway, is_key_length, sad_fault};
 
 use crate::entry::{Entries, Range, Selector, SpdEntry};
-use crate::reply::{Feature, TreeFault};
+use crate::fault::{Feature, TreeFault};
 use crate::sad::SadEntry;
 
 const MOST_ENTRIES: usize = 256;

@@ -1,6 +1,6 @@
 // Orders to a gateway, its answers and its notices.
 use crate::entry::{Entries, Selector};
-use crate::reply::Tag;
+use crate::error::Tag;
 use crate::sad::{Limits, SadEntry};
 use ikl_base::{Duplicate, ListOf, Name, NoMemory};
 

@@ -1,10 +1,10 @@
 // The words of enumerations, as they stand in lines, in replies and in the tree.
 ghost use Rattle.std.specs.Prelude.{◌≡◌, ℕ, Bool, List, Some};
-ghost use Rattle.ikeless_tree.specs.declared.reply.Tag.{Tag};
+ghost use Rattle.ikeless_tree.specs.declared.error.Tag.{Tag};
 ghost use Rattle.ikeless_tree.specs.declared.command.Refusal.{Refusal};
-ghost use Rattle.ikeless_tree.specs.declared.reply.App.{App};
-ghost use Rattle.ikeless_tree.specs.declared.reply.DropWhy.{DropWhy};
-ghost use Rattle.ikeless_tree.specs.declared.reply.GoneWhy.{GoneWhy};
+ghost use Rattle.ikeless_tree.specs.declared.error.App.{App};
+ghost use Rattle.ikeless_tree.specs.declared.drops.DropWhy.{DropWhy};
+ghost use Rattle.ikeless_tree.specs.declared.ends.GoneWhy.{GoneWhy};
 ghost use Rattle.ikeless_tree.specs.declared.entry.Action.{Action};
 ghost use Rattle.ikeless_tree.specs.declared.entry.Direction.{Direction};
 ghost use Rattle.ikeless_tree.specs.declared.sad.Df.{Df};
@@ -12,9 +12,11 @@ ghost use Rattle.ikeless_tree.specs.declared.order.Lane.{Lane};
 ghost use Rattle.ikeless_tree.specs.Words.{tag_text, refusal_text, app_text, drop_text, gone_text, action_text, direction_text, df_text, lane_text, tag_of, refusal_of, app_of, drop_of, gone_of, action_of, direction_of, df_of, lane_of, direction_word, direction_of_word, mode_text, mode_of, softness_text, softness_of};
 
 use crate::command::Refusal;
+use crate::drops::DropWhy;
+use crate::ends::GoneWhy;
 use crate::entry::{Action, Direction};
+use crate::error::{App, Tag};
 use crate::order::Lane;
-use crate::reply::{App, DropWhy, GoneWhy, Tag};
 use crate::sad::Df;
 
 const TAGS: [Tag; 7] = [

@@ -7,7 +7,7 @@ use Rattle.ikl_base.specs.declared.address.Prefix.{Prefix}
 use Rattle.ikeless_tree.specs.declared.command.Command.{Command}
 use Rattle.ikeless_tree.specs.declared.command.Command.TheVariants as commands
 use Rattle.ikeless_tree.specs.declared.command.TunnelSpec.{TunnelSpec}
-use Rattle.ikeless_tree.specs.declared.reply.TreeFault.{TreeFault}
+use Rattle.ikeless_tree.specs.declared.fault.TreeFault.{TreeFault}
 use Rattle.ikeless_tree.specs.Check.{is_window, spd_fault, is_gateway}
 use Rattle.json_values.specs.declared.fault.Fault.{Fault}
 use Rattle.json_codec.specs.declared.command_read.FirstEnd.{FirstEnd}

@@ -11,7 +11,7 @@ use Rattle.ikeless_tree.specs.declared.sad.SadEntry.{SadEntry}
 use Rattle.ikeless_tree.specs.declared.sad.SadRow.{SadRow}
 use Rattle.json_tree.specs.SadEntryWritten.{is_row_named, ArePassed}
 use Rattle.ikeless_tree.specs.Check.{is_sad_name, is_serial, has_front, is_word_octet, sad_fault, is_path_octet, is_spd_name, entry_fault, entries_fault, first_of, spd_fault}
-use Rattle.ikeless_tree.specs.declared.reply.TreeFault.{TreeFault}
+use Rattle.ikeless_tree.specs.declared.fault.TreeFault.{TreeFault}
 use Rattle.ikeless_tree.specs.declared.entry.SpdEntry.{SpdEntry}
 use Rattle.json_values.specs.Written.{is_named_well}
 

@@ -9,7 +9,7 @@ use Rattle.ikeless_tree.specs.declared.entry.Action.{Action}
 use Rattle.ikeless_tree.specs.declared.entry.Action.TheVariants as actions
 use Rattle.ikeless_tree.specs.declared.entry.Selector.{Selector}
 use Rattle.ikeless_tree.specs.declared.entry.SpdEntry.{SpdEntry}
-use Rattle.ikeless_tree.specs.declared.reply.TreeFault.{TreeFault}
+use Rattle.ikeless_tree.specs.declared.fault.TreeFault.{TreeFault}
 use Rattle.ikeless_tree.specs.Check.{is_spd_name, spd_fault}
 use Rattle.json_tree.specs.declared.selector_read.Side.{Side}
 use Rattle.json_tree.specs.declared.policy_read.PolicyConfig.{PolicyConfig}

@@ -13,8 +13,8 @@ use Rattle.ikeless_tree.specs.Check.{is_sad_name, is_key_length, is_window, has_
 use Rattle.ikeless_tree.specs.declared.sad.Df.{Df}
 use Rattle.ikeless_tree.specs.declared.sad.Df.TheVariants as dfs
 use Rattle.ikeless_tree.specs.declared.sad.SadEntry.{SadEntry}
-use Rattle.ikeless_tree.specs.declared.reply.TreeFault.TheVariants as tree_faults
-use Rattle.ikeless_tree.specs.declared.reply.Feature.TheVariants as features
+use Rattle.ikeless_tree.specs.declared.fault.TreeFault.TheVariants as tree_faults
+use Rattle.ikeless_tree.specs.declared.fault.Feature.TheVariants as features
 use Rattle.yang_values.proofs.QuadText.{also}
 use Rattle.yang_values.specs.Addresses.{IsAddress, address_text}
 use Rattle.yang_values.specs.HexText.{digits_text}

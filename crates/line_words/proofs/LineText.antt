@@ -18,9 +18,9 @@ use Rattle.ikeless_tree.specs.declared.command.Peer.{Peer}
 use Rattle.ikeless_tree.specs.declared.entry.SpdEntry.{SpdEntry}
 use Rattle.ikeless_tree.specs.declared.order.Lane.{Lane}
 use Rattle.ikeless_tree.specs.declared.order.Lane.TheVariants as lanes
-use Rattle.ikeless_tree.specs.declared.reply.TreeFault.{TreeFault}
-use Rattle.ikeless_tree.specs.declared.reply.TreeFault.TheVariants as tree_faults
-use Rattle.ikeless_tree.specs.declared.reply.Feature.TheVariants as features
+use Rattle.ikeless_tree.specs.declared.fault.TreeFault.{TreeFault}
+use Rattle.ikeless_tree.specs.declared.fault.TreeFault.TheVariants as tree_faults
+use Rattle.ikeless_tree.specs.declared.fault.Feature.TheVariants as features
 use Rattle.hist_acts.specs.Gateways.{is_named as is_gateway_of}
 use Rattle.hex.specs.Hex.{encode_with}
 use Rattle.yang_values.proofs.QuadText.{also}

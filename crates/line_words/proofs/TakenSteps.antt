@@ -9,7 +9,7 @@ use Rattle.ikl_base.specs.declared.status.LineFault.TheVariants as faults
 use Rattle.ikeless_tree.specs.Check.{spd_fault}
 use Rattle.ikeless_tree.specs.declared.command.Peer.{Peer}
 use Rattle.ikeless_tree.specs.declared.entry.SpdEntry.{SpdEntry}
-use Rattle.ikeless_tree.specs.declared.reply.TreeFault.{TreeFault}
+use Rattle.ikeless_tree.specs.declared.fault.TreeFault.{TreeFault}
 use Rattle.hist_acts.specs.Gateways.{is_named}
 use Rattle.yang_values.specs.declared.value.BadValue.TheVariants as bad
 use Rattle.yang_values.specs.Numbers.{is_number, number_of}

@@ -10,7 +10,7 @@ use Rattle.ikeless_tree.specs.Words as table
 use Rattle.ikeless_tree.specs.declared.entry.Range.{Range}
 use Rattle.ikeless_tree.specs.declared.entry.Selector.{Selector}
 use Rattle.ikeless_tree.specs.declared.entry.SpdEntry.{SpdEntry}
-use Rattle.ikeless_tree.specs.declared.reply.TreeFault.{TreeFault}
+use Rattle.ikeless_tree.specs.declared.fault.TreeFault.{TreeFault}
 use Rattle.line_words.specs.declared.entry.Use.{Use}
 use Rattle.line_words.specs.Words.{◌>>=◌, one_of, each, number_in, prefix_in}
 

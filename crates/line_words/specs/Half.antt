@@ -8,7 +8,7 @@ use Rattle.ikeless_tree.specs.Check.{sad_fault}
 use Rattle.ikeless_tree.specs.declared.sad.Df.{Df}
 use Rattle.ikeless_tree.specs.Words as table
 use Rattle.ikeless_tree.specs.declared.sad.SadEntry.{SadEntry}
-use Rattle.ikeless_tree.specs.declared.reply.TreeFault.{TreeFault}
+use Rattle.ikeless_tree.specs.declared.fault.TreeFault.{TreeFault}
 use Rattle.yang_values.specs.Addresses.{address_of}
 use Rattle.yang_values.specs.HexText.{digits_of}
 use Rattle.line_words.specs.declared.halves.HalfNumbers.{HalfNumbers}

@@ -1,8 +1,8 @@
 -- The line that `client` prints.
 use Rattle.std.specs.Prelude.{ℕ, List, [], ◌∷◌, ◌++◌, Option, Some, None}
 use Rattle.std.specs.Fmt.{decimal}
-use Rattle.ikeless_tree.specs.declared.reply.App.{App}
-use Rattle.ikeless_tree.specs.declared.reply.Tag.{Tag}
+use Rattle.ikeless_tree.specs.declared.error.App.{App}
+use Rattle.ikeless_tree.specs.declared.error.Tag.{Tag}
 use Rattle.ikeless_tree.specs.Words.{app_text, tag_text}
 use Rattle.line_words.specs.Text.{spaced}
 use Rattle.rc_operations.specs.declared.told.Told.{Told}

@@ -6,8 +6,8 @@ use Rattle.serde_json.specs.Find.{get, as_array}
 use Rattle.ikeless_tree.specs.declared.order.Answer.{Answer}
 use Rattle.ikeless_tree.specs.declared.order.Order.{Order}
 use Rattle.ikeless_tree.specs.declared.order.Order.TheVariants as orders
-use Rattle.ikeless_tree.specs.declared.reply.Tag.{Tag}
-use Rattle.ikeless_tree.specs.declared.reply.App.{App}
+use Rattle.ikeless_tree.specs.declared.error.Tag.{Tag}
+use Rattle.ikeless_tree.specs.declared.error.App.{App}
 use Rattle.ikeless_tree.specs.Check.{is_sad_name}
 use Rattle.ikeless_tree.specs.Words.{tag_of, app_of}
 use Rattle.json_codec.specs.Bodies.{json_of}

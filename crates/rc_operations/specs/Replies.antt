@@ -5,9 +5,9 @@ use Rattle.ikl_base.specs.declared.fault.OrMemory.{OrMemory}
 use Rattle.ikl_base.specs.declared.fault.OrMemory.TheVariants as failures
 use Rattle.ikeless_tree.specs.declared.command.Refusal.{Refusal}
 use Rattle.ikeless_tree.specs.declared.command.Refusal.TheVariants as refusals
-use Rattle.ikeless_tree.specs.declared.reply.Tag.{Tag}
-use Rattle.ikeless_tree.specs.declared.reply.Tag.TheVariants as tags
-use Rattle.ikeless_tree.specs.declared.reply.App.TheVariants as apps
+use Rattle.ikeless_tree.specs.declared.error.Tag.{Tag}
+use Rattle.ikeless_tree.specs.declared.error.Tag.TheVariants as tags
+use Rattle.ikeless_tree.specs.declared.error.App.TheVariants as apps
 use Rattle.reply_table.specs.declared.ask.Change.TheVariants as changes
 use Rattle.json_values.specs.Faults.{◌>>=◌}
 use Rattle.rc_http.specs.declared.message.HttpFault.{HttpFault}

@@ -3,10 +3,10 @@
 use Rattle.std.specs.Prelude.{ℕ, List, [], if◌then◌else◌, Option, Some, None, Result, Ok, Err}
 use Rattle.std.specs.Str.{bytes_eq}
 use Rattle.ikeless_tree.specs.declared.entry.SpdEntry.{SpdEntry}
-use Rattle.ikeless_tree.specs.declared.reply.Tag.{Tag}
-use Rattle.ikeless_tree.specs.declared.reply.Tag.TheVariants as tags
-use Rattle.ikeless_tree.specs.declared.reply.App.{App}
-use Rattle.ikeless_tree.specs.declared.reply.App.TheVariants as apps
+use Rattle.ikeless_tree.specs.declared.error.Tag.{Tag}
+use Rattle.ikeless_tree.specs.declared.error.Tag.TheVariants as tags
+use Rattle.ikeless_tree.specs.declared.error.App.{App}
+use Rattle.ikeless_tree.specs.declared.error.App.TheVariants as apps
 use Rattle.json_values.specs.declared.fault.CodecFault.{CodecFault}
 use Rattle.json_codec.specs.Bodies.{spd_of, spd_entry_of, sad_entry_of}
 use Rattle.rc_http.specs.declared.message.HttpFault.{HttpFault}

@@ -1,9 +1,9 @@
 -- Refusals, and the body of a refusal (RFC 8040 section 7.1). The app tags are of this project.
 use Rattle.std.specs.Prelude.{ℕ, Bool, true, false, List, ◌++◌, codes, if◌then◌else◌, Option, Some, None}
 use Rattle.serde_json.specs.Data.{Data, string, array, object, no_items, item, Members, no_members, put}
-use Rattle.ikeless_tree.specs.declared.reply.Tag.{Tag}
-use Rattle.ikeless_tree.specs.declared.reply.App.{App}
-use Rattle.ikeless_tree.specs.declared.reply.App.TheVariants as apps
+use Rattle.ikeless_tree.specs.declared.error.Tag.{Tag}
+use Rattle.ikeless_tree.specs.declared.error.App.{App}
+use Rattle.ikeless_tree.specs.declared.error.App.TheVariants as apps
 use Rattle.ikeless_tree.specs.Words.{tag_text, app_text}
 use Rattle.json_values.specs.Written.{only}
 

@@ -1,8 +1,8 @@
 -- Replies with their text.
 use Rattle.std.specs.Prelude.{ℕ, List, [], Option, Some, None}
 use Rattle.serde_json.specs.Written.{compact_text}
-use Rattle.ikeless_tree.specs.declared.reply.Tag.{Tag}
-use Rattle.ikeless_tree.specs.declared.reply.App.{App}
+use Rattle.ikeless_tree.specs.declared.error.Tag.{Tag}
+use Rattle.ikeless_tree.specs.declared.error.App.{App}
 use Rattle.reply_table.specs.declared.ask.Change.{Change}
 use Rattle.reply_table.specs.declared.ask.Change.TheVariants as changes
 use Rattle.reply_table.specs.Reply.{Shown, Nothing, Policies, Policy, Halves, Half, Location, Nowhere, At_policy, At_half, Outcome}

@@ -13,8 +13,8 @@ ghost use Rattle.rc_resource.specs.Messages.{reply_message};
 ghost use Rattle.rc_resource.specs.Lists.{IsTree, AreDistinct};
 ghost use Rattle.rc_request.specs.Paths.{half_path};
 ghost use Rattle.rc_resource.specs.Replies.{reply_of, plain_refusal, made_reply};
-ghost use Rattle.ikeless_tree.specs.declared.reply.Tag.TheVariants as tags;
-ghost use Rattle.ikeless_tree.specs.declared.reply.App.TheVariants as apps;
+ghost use Rattle.ikeless_tree.specs.declared.error.Tag.TheVariants as tags;
+ghost use Rattle.ikeless_tree.specs.declared.error.App.TheVariants as apps;
 
 use crate::halves::{
     find_half, half_named, has_half, has_spi, is_inbound, names_of, remove_half, unused,

@@ -1,8 +1,8 @@
 -- What an association without a fault says of its window.
 use Rattle.std.proofs.Common.{◌≡◌, Bool, true, false, not, nat_lt, length, Option, Some, None, refl, if◌then◌else◌}
 use Rattle.ikeless_tree.specs.declared.sad.SadEntry.{SadEntry}
-use Rattle.ikeless_tree.specs.declared.reply.TreeFault.{TreeFault}
-use Rattle.ikeless_tree.specs.declared.reply.TreeFault.TheVariants as faults
+use Rattle.ikeless_tree.specs.declared.fault.TreeFault.{TreeFault}
+use Rattle.ikeless_tree.specs.declared.fault.TreeFault.TheVariants as faults
 use Rattle.ikeless_tree.specs.Check.{sad_fault, is_sad_name, is_key_length, is_window}
 
 passed : (b : Bool) (fault : TreeFault) (rest : Option TreeFault) → (if b then Some fault else rest) ≡ None → (b ≡ false) × (rest ≡ None)

@@ -22,8 +22,8 @@ use Rattle.ikeless_tree.specs.declared.order.Notice.{Notice}
 use Rattle.ikeless_tree.specs.declared.order.Notice.TheVariants as notices
 use Rattle.ikeless_tree.specs.declared.order.Order.{Order}
 use Rattle.ikeless_tree.specs.declared.order.Order.TheVariants as orders
-use Rattle.ikeless_tree.specs.declared.reply.Tag.{Tag}
-use Rattle.ikeless_tree.specs.declared.reply.Tag.TheVariants as tags
+use Rattle.ikeless_tree.specs.declared.error.Tag.{Tag}
+use Rattle.ikeless_tree.specs.declared.error.Tag.TheVariants as tags
 use Rattle.hist_acts.specs.declared.act.Act.TheVariants as acts
 use Rattle.hist_acts.specs.Gateways.{is_named as is_gateway_of}
 use Rattle.yang_values.proofs.QuadText.{also}

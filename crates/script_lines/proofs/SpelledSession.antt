@@ -14,7 +14,7 @@ use Rattle.ikeless_tree.specs.declared.order.Notice.{Notice}
 use Rattle.ikeless_tree.specs.declared.order.Notice.TheVariants as notices
 use Rattle.ikeless_tree.specs.declared.order.Order.{Order}
 use Rattle.ikeless_tree.specs.declared.order.Order.TheVariants as orders
-use Rattle.ikeless_tree.specs.declared.reply.TreeFault.{TreeFault}
+use Rattle.ikeless_tree.specs.declared.fault.TreeFault.{TreeFault}
 use Rattle.hist_acts.specs.declared.act.Act.{Act}
 use Rattle.hist_acts.specs.declared.act.Act.TheVariants as acts
 use Rattle.hist_acts.specs.Gateways.{is_named}

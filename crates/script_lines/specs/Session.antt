@@ -16,7 +16,7 @@ use Rattle.ikeless_tree.specs.declared.order.Notice.{Notice}
 use Rattle.ikeless_tree.specs.declared.order.Notice.TheVariants as notices
 use Rattle.ikeless_tree.specs.declared.order.Order.{Order}
 use Rattle.ikeless_tree.specs.declared.order.Order.TheVariants as orders
-use Rattle.ikeless_tree.specs.declared.reply.Tag.{Tag}
+use Rattle.ikeless_tree.specs.declared.error.Tag.{Tag}
 use Rattle.script_lines.specs.declared.session.Place.{Place}
 use Rattle.script_lines.specs.declared.session.Replied.{Replied}
 use Rattle.script_lines.specs.declared.session.Noticed.{Noticed}

@@ -8,7 +8,7 @@ use Rattle.ikeless_tree.specs.declared.order.Notice.{Notice}
 use Rattle.ikeless_tree.specs.declared.order.Notice.TheVariants as notices
 use Rattle.ikeless_tree.specs.declared.order.Order.{Order}
 use Rattle.ikeless_tree.specs.declared.order.Order.TheVariants as orders
-use Rattle.ikeless_tree.specs.declared.reply.Tag.{Tag}
+use Rattle.ikeless_tree.specs.declared.error.Tag.{Tag}
 use Rattle.hist_acts.specs.declared.act.Act.{Act}
 use Rattle.hist_acts.specs.declared.act.Act.TheVariants as acts
 use Rattle.line_words.specs.Text.{hex_text, limits_text, selector_text, entry_text, half_text, line_text}

@@ -4,10 +4,10 @@ use Rattle.serde_json.specs.Data.{array, item, no_items, no_members, Members, st
 use Rattle.serde_json.specs.Written.{compact_text}
 use Rattle.ikeless_tree.specs.declared.command.Refusal.{Refusal}
 use Rattle.ikeless_tree.specs.declared.command.Refusal.TheVariants as refusals
-use Rattle.ikeless_tree.specs.declared.reply.App.{App}
-use Rattle.ikeless_tree.specs.declared.reply.App.TheVariants as apps
-use Rattle.ikeless_tree.specs.declared.reply.Tag.{Tag}
-use Rattle.ikeless_tree.specs.declared.reply.Tag.TheVariants as tags
+use Rattle.ikeless_tree.specs.declared.error.App.{App}
+use Rattle.ikeless_tree.specs.declared.error.App.TheVariants as apps
+use Rattle.ikeless_tree.specs.declared.error.Tag.{Tag}
+use Rattle.ikeless_tree.specs.declared.error.Tag.TheVariants as tags
 use Rattle.ikeless_tree.specs.Words.{app_text, refusal_text, tag_text}
 use Rattle.json_values.specs.Written.{only}
 use Rattle.rc_http.specs.Written.{is_value, IsWritableResponse}

@@ -13,8 +13,8 @@ use Rattle.ikeless_tree.specs.declared.entry.SpdEntry.{SpdEntry}
 use Rattle.ikeless_tree.specs.declared.order.Order.{Order}
 use Rattle.ikeless_tree.specs.declared.order.Order.TheVariants as orders
 use Rattle.ikeless_tree.specs.declared.sad.SadEntry.{SadEntry}
-use Rattle.ikeless_tree.specs.declared.reply.Feature.TheVariants as features
-use Rattle.ikeless_tree.specs.declared.reply.TreeFault.TheVariants as faults
+use Rattle.ikeless_tree.specs.declared.fault.Feature.TheVariants as features
+use Rattle.ikeless_tree.specs.declared.fault.TreeFault.TheVariants as faults
 use Rattle.ikeless_tree.specs.Check.{entries_fault, entry_fault, has_empty_range, has_many_ranges, is_key_length, is_named, is_path_octet, is_sad_name, is_spd_name, is_window, sad_fault, spd_fault}
 use Rattle.ikeless_tree.specs.Typed.{AreTypedPolicies, IsTypedHalf, IsTypedOrder, IsTypedPolicy}
 use Rattle.yang_values.specs.Addresses.{IsAddress, address_text}

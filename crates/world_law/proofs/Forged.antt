@@ -16,7 +16,7 @@ use Rattle.ikeless_tree.specs.declared.entry.Direction.TheVariants.{In}
 use Rattle.ikeless_tree.specs.declared.entry.SpdEntry.{SpdEntry}
 use Rattle.ikeless_tree.specs.declared.order.Notice.{Notice}
 use Rattle.ikeless_tree.specs.declared.order.Notice.TheVariants as notices
-use Rattle.ikeless_tree.specs.declared.reply.DropWhy.TheVariants as why
+use Rattle.ikeless_tree.specs.declared.drops.DropWhy.TheVariants as why
 use Rattle.ikeless_tree.specs.declared.sad.SadEntry.{SadEntry}
 use Rattle.ikeless_tree.specs.Half.{in_half, other_half, out_half}
 use Rattle.esp_frame.specs.Esp.{esp as esp_octets, keying, spi_of}
