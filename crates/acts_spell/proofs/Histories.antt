@@ -32,9 +32,11 @@ history-from sizes header p (e ∷ es) h s t l =
     by-forgery m (is_forged_event header p e) refl (λ u. history-from sizes header q es h s.1 u fits)
   where
     by-forgery : Meets header p e → (b : Bool) → is_forged_event header p e ≡ b
-        → (IsTold header (past_after (under_way header) header p e) → AreSpelled header.gateways (history (under_way header) header (past_after (under_way header) header p e) es))
+        → (IsTold header (past_after (under_way header) header p e)
+            → AreSpelled header.gateways (history (under_way header) header (past_after (under_way header) header p e) es))
         → AreSpelled header.gateways
-        (block (under_way header) header p e ++ unless_forged b (history (under_way header) header (past_after (under_way header) header p e) es))
+        (block (under_way header) header p e
+            ++ unless_forged b (history (under_way header) header (past_after (under_way header) header p e) es))
     by-forgery m true f more =
         subst (AreSpelled header.gateways) (sym (append-nil (block (under_way header) header p e))) (block-spelled header p e m)
     by-forgery m false f more =
@@ -47,7 +49,8 @@ pub history-spelled : SealedLength → (header : Header) (es : List Event) → I
     → All (IsSpelled header.gateways) (history (under_way header) header nothing es)
 history-spelled sizes header es h s l =
     All-from_recursion (IsSpelled header.gateways) (history (under_way header) header nothing es)
-    (history-from sizes header nothing es h (recursion_from_All (IsSpelledEvent header.gateways) es s) (told-nothing header) (omega (arith, l)))
+    (history-from sizes header nothing es h (recursion_from_All (IsSpelledEvent header.gateways) es s) (told-nothing header)
+        (omega (arith, l)))
 
 -- ---- one event
 

@@ -43,7 +43,8 @@ pub s_table_at : (x : ℕ) → x < 256 → slice_index S_TABLE x ≡ s_box x
 s_table_at x lt = eqb-true (slice_index S_TABLE x) (s_box x) (all_below_at (λ x. slice_index S_TABLE x == s_box x) 256 x table_is_s lt)
 
 pub round_constant_at : (i : ℕ) → i < 14 → slice_index ROUND_CONSTANTS i ≡ power 8 0x1b 2 i
-round_constant_at i lt = eqb-true (slice_index ROUND_CONSTANTS i) (power 8 0x1b 2 i) (all_below_at (λ i. slice_index ROUND_CONSTANTS i == power 8 0x1b 2 i) 14 i constants lt)
+round_constant_at i lt = eqb-true (slice_index ROUND_CONSTANTS i) (power 8 0x1b 2 i)
+    (all_below_at (λ i. slice_index ROUND_CONSTANTS i == power 8 0x1b 2 i) 14 i constants lt)
 
 pub times_two_low : (x : ℕ) → x < 128 → times 2 x ≡ x * 2
 times_two_low x lt = eqb-true (times 2 x) (x * 2) (all_below_at (λ x. times 2 x == x * 2) 128 x doubles_low lt)

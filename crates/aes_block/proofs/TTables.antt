@@ -24,7 +24,8 @@ octets_xor x y =
     (λ i. e3 i ∷ e2 i ∷ e1 i ∷ e0 i ∷ [])
 
 is_entry : ℕ → ℕ → ℕ → Bool
-is_entry at k x = all_below (λ r. slice_index (to_be_bytes w32 (slice_index T (at + x))) r == times (slice_index (matrix r) k) (slice_index S_TABLE x)) 4
+is_entry at k x = all_below (λ r. slice_index (to_be_bytes w32 (slice_index T (at + x))) r == times (slice_index (matrix r) k)
+    (slice_index S_TABLE x)) 4
 
 t0_is : all_below (is_entry 0 0) 256 ≡ true
 unfolding is_entry times multiply product times_x remainder
@@ -48,7 +49,8 @@ entry_of at k x lt h =
     let b : List ℕ = to_be_bytes w32 (slice_index T (at + x)) in
     let all = all_below_at (is_entry at k) 256 x h lt in
     let row : (r : ℕ) → r < 4 → slice_index b r ≡ times (slice_index (matrix r) k) (s_box x) =
-    λ r less. eqb-true (slice_index b r) (times (slice_index (matrix r) k) (slice_index S_TABLE x)) (all_below_at (λ r. slice_index b r == times (slice_index (matrix r) k) (slice_index S_TABLE x)) 4 r all less)
+    λ r less. eqb-true (slice_index b r) (times (slice_index (matrix r) k) (slice_index S_TABLE x))
+        (all_below_at (λ r. slice_index b r == times (slice_index (matrix r) k) (slice_index S_TABLE x)) 4 r all less)
     ∙ ap (times (slice_index (matrix r) k)) (s_table_at x lt) in
     let e0 = row 0 (lit< tt) in
     let e1 = row 1 (lit< tt) in
@@ -70,7 +72,8 @@ t3_at x lt = entry_of 768 3 x lt t3_is
 
 pub column_is : (p q r s k a b c d : ℕ) → to_be_bytes w32 p ≡ contribution 0 a → to_be_bytes w32 q ≡ contribution 1 b
     → to_be_bytes w32 r ≡ contribution 2 c → to_be_bytes w32 s ≡ contribution 3 d
-    → to_be_bytes w32 (bit_xor (bit_xor (bit_xor (bit_xor p q) r) s) k) ≡ add_words (mix_word (sub_word (a ∷ b ∷ c ∷ d ∷ []))) (to_be_bytes w32 k)
+    → to_be_bytes w32 (bit_xor (bit_xor (bit_xor (bit_xor p q) r) s) k) ≡ add_words (mix_word (sub_word (a ∷ b ∷ c ∷ d ∷ [])))
+        (to_be_bytes w32 k)
 column_is p q r s k a b c d ep eq er es =
     let two = octets_xor p q ∙ (λ i. add_words (ep i) (eq i)) in
     let three = octets_xor (bit_xor p q) r ∙ (λ i. add_words (two i) (er i)) in
@@ -78,7 +81,8 @@ column_is p q r s k a b c d ep eq er es =
     octets_xor (bit_xor (bit_xor (bit_xor p q) r) s) k ∙ ap (λ (l : List ℕ). add_words l (to_be_bytes w32 k)) four
 
 unfoldable pub mixed : List ℕ → ℕ → List ℕ
-mixed s c = mix_word (sub_word (slice_index (to_be_bytes w32 (slice_index s c)) 0 ∷ slice_index (to_be_bytes w32 (slice_index s ((c + 1) % 4))) 1
+mixed s c = mix_word (sub_word (slice_index (to_be_bytes w32 (slice_index s c)) 0
+    ∷ slice_index (to_be_bytes w32 (slice_index s ((c + 1) % 4))) 1
     ∷ slice_index (to_be_bytes w32 (slice_index s ((c + 2) % 4))) 2 ∷ slice_index (to_be_bytes w32 (slice_index s ((c + 3) % 4))) 3 ∷ []))
 
 key_at : (w : List ℕ) (n : ℕ) → n < length w → get_or (map (to_be_bytes w32) w) n [] ≡ to_be_bytes w32 (get_or w n 0)
@@ -102,7 +106,10 @@ round_is w s i p q r t le hp hq hr ht =
     let e1 = hq ∙ (λ j. add_words (mixed s 1) (k1 j)) in
     let e2 = hr ∙ (λ j. add_words (mixed s 2) (k2 j)) in
     let e3 = ht ∙ (λ j. add_words (mixed s 3) (k3 j)) in
-    (λ j. slice_index (e0 j) 0 ∷ slice_index (e0 j) 1 ∷ slice_index (e0 j) 2 ∷ slice_index (e0 j) 3 ∷ slice_index (e1 j) 0 ∷ slice_index (e1 j) 1 ∷ slice_index (e1 j) 2 ∷ slice_index (e1 j) 3 ∷ slice_index (e2 j) 0 ∷ slice_index (e2 j) 1 ∷ slice_index (e2 j) 2 ∷ slice_index (e2 j) 3 ∷ slice_index (e3 j) 0 ∷ slice_index (e3 j) 1 ∷ slice_index (e3 j) 2 ∷ slice_index (e3 j) 3 ∷ [])
+    (λ j. slice_index (e0 j) 0 ∷ slice_index (e0 j) 1 ∷ slice_index (e0 j) 2 ∷ slice_index (e0 j) 3 ∷ slice_index (e1 j) 0
+        ∷ slice_index (e1 j) 1 ∷ slice_index (e1 j) 2 ∷ slice_index (e1 j) 3 ∷ slice_index (e2 j) 0 ∷ slice_index (e2 j) 1
+        ∷ slice_index (e2 j) 2 ∷ slice_index (e2 j) 3 ∷ slice_index (e3 j) 0 ∷ slice_index (e3 j) 1 ∷ slice_index (e3 j) 2
+        ∷ slice_index (e3 j) 3 ∷ [])
 
 -- ---- the first addition
 pub first_is : (w b : List ℕ) (p q r t : ℕ) → 4 ≤ length w
@@ -120,9 +127,13 @@ first_is w b p q r t le hp hq hr ht =
     let e1 = hq ∙ (λ j. add_words (get_or b 4 0 ∷ get_or b 5 0 ∷ get_or b 6 0 ∷ get_or b 7 0 ∷ []) (k1 j)) in
     let e2 = hr ∙ (λ j. add_words (get_or b 8 0 ∷ get_or b 9 0 ∷ get_or b 10 0 ∷ get_or b 11 0 ∷ []) (k2 j)) in
     let e3 = ht ∙ (λ j. add_words (get_or b 12 0 ∷ get_or b 13 0 ∷ get_or b 14 0 ∷ get_or b 15 0 ∷ []) (k3 j)) in
-    (λ j. slice_index (e0 j) 0 ∷ slice_index (e0 j) 1 ∷ slice_index (e0 j) 2 ∷ slice_index (e0 j) 3 ∷ slice_index (e1 j) 0 ∷ slice_index (e1 j) 1 ∷ slice_index (e1 j) 2 ∷ slice_index (e1 j) 3 ∷ slice_index (e2 j) 0 ∷ slice_index (e2 j) 1 ∷ slice_index (e2 j) 2 ∷ slice_index (e2 j) 3 ∷ slice_index (e3 j) 0 ∷ slice_index (e3 j) 1 ∷ slice_index (e3 j) 2 ∷ slice_index (e3 j) 3 ∷ [])
+    (λ j. slice_index (e0 j) 0 ∷ slice_index (e0 j) 1 ∷ slice_index (e0 j) 2 ∷ slice_index (e0 j) 3 ∷ slice_index (e1 j) 0
+        ∷ slice_index (e1 j) 1 ∷ slice_index (e1 j) 2 ∷ slice_index (e1 j) 3 ∷ slice_index (e2 j) 0 ∷ slice_index (e2 j) 1
+        ∷ slice_index (e2 j) 2 ∷ slice_index (e2 j) 3 ∷ slice_index (e3 j) 0 ∷ slice_index (e3 j) 1 ∷ slice_index (e3 j) 2
+        ∷ slice_index (e3 j) 3 ∷ [])
 
-pub loaded_xor : (x k a b c d : ℕ) → to_be_bytes w32 x ≡ a ∷ b ∷ c ∷ d ∷ [] → to_be_bytes w32 (bit_xor x k) ≡ add_words (a ∷ b ∷ c ∷ d ∷ []) (to_be_bytes w32 k)
+pub loaded_xor : (x k a b c d : ℕ) → to_be_bytes w32 x ≡ a ∷ b ∷ c ∷ d ∷ [] → to_be_bytes w32 (bit_xor x k) ≡ add_words (a ∷ b ∷ c ∷ d ∷ [])
+    (to_be_bytes w32 k)
 loaded_xor x k a b c d e = octets_xor x k ∙ ap (λ (l : List ℕ). add_words l (to_be_bytes w32 k)) e
 
 -- ---- the last round
@@ -131,8 +142,10 @@ subbed s c = sub_word (slice_index (to_be_bytes w32 (slice_index s c)) 0 ∷ sli
     ∷ slice_index (to_be_bytes w32 (slice_index s ((c + 2) % 4))) 2 ∷ slice_index (to_be_bytes w32 (slice_index s ((c + 3) % 4))) 3 ∷ [])
 
 abbrev pub joined : List ℕ → List ℕ → List ℕ → List ℕ → List ℕ
-joined p q r t = slice_index p 0 ∷ slice_index p 1 ∷ slice_index p 2 ∷ slice_index p 3 ∷ slice_index q 0 ∷ slice_index q 1 ∷ slice_index q 2 ∷ slice_index q 3
-    ∷ slice_index r 0 ∷ slice_index r 1 ∷ slice_index r 2 ∷ slice_index r 3 ∷ slice_index t 0 ∷ slice_index t 1 ∷ slice_index t 2 ∷ slice_index t 3 ∷ []
+joined p q r t = slice_index p 0 ∷ slice_index p 1 ∷ slice_index p 2 ∷ slice_index p 3 ∷ slice_index q 0 ∷ slice_index q 1 ∷ slice_index q 2
+    ∷ slice_index q 3
+    ∷ slice_index r 0 ∷ slice_index r 1 ∷ slice_index r 2 ∷ slice_index r 3 ∷ slice_index t 0 ∷ slice_index t 1 ∷ slice_index t 2
+        ∷ slice_index t 3 ∷ []
 
 pub last_is : (w s : List ℕ) (i : ℕ) (p q r t : List ℕ) → 4 * i + 4 ≤ length w
     → p ≡ add_words (subbed s 0) (to_be_bytes w32 (get_or w (4 * i) 0))
@@ -162,7 +175,8 @@ summed b p q r t =
     ∷ x 8 r 0 ∷ x 9 r 1 ∷ x 10 r 2 ∷ x 11 r 3 ∷ x 12 t 0 ∷ x 13 t 1 ∷ x 14 t 2 ∷ x 15 t 3 ∷ []
 
 pub add_key_is : (w b : List ℕ) (i : ℕ) (p q r t : List ℕ) → 4 * i + 4 ≤ length w → p ≡ to_be_bytes w32 (get_or w (4 * i) 0)
-    → q ≡ to_be_bytes w32 (get_or w (4 * i + 1) 0) → r ≡ to_be_bytes w32 (get_or w (4 * i + 2) 0) → t ≡ to_be_bytes w32 (get_or w (4 * i + 3) 0)
+    → q ≡ to_be_bytes w32 (get_or w (4 * i + 1) 0) → r ≡ to_be_bytes w32 (get_or w (4 * i + 2) 0)
+        → t ≡ to_be_bytes w32 (get_or w (4 * i + 3) 0)
     → summed b p q r t ≡ add_key (map (to_be_bytes w32) w) i b
 add_key_is w b i p q r t le hp hq hr ht =
     let z : 4 * i ≡ 4 * i + 0 = omega arith in
@@ -177,4 +191,6 @@ pub packed_is : (ws : List (List ℕ)) (packed : List ℕ) → length packed ≡
     → ((k : ℕ) → k < length ws → to_be_bytes w32 (get_or packed k 0) ≡ get_or ws k []) → map (to_be_bytes w32) packed ≡ ws
 packed_is ws packed same held =
     same_lists (map (to_be_bytes w32) packed) ws (length-map packed (to_be_bytes w32) ∙ same)
-    (λ k d lt. get_or-map (to_be_bytes w32) packed k 0 d (omega (arith, length-map packed (to_be_bytes w32))) ∙ held k (omega (arith, length-map packed (to_be_bytes w32))) ∙ get_or_default ws k [] d (omega (arith, length-map packed (to_be_bytes w32))))
+    (λ k d lt. get_or-map (to_be_bytes w32) packed k 0 d (omega (arith, length-map packed (to_be_bytes w32)))
+        ∙ held k (omega (arith, length-map packed (to_be_bytes w32)))
+        ∙ get_or_default ws k [] d (omega (arith, length-map packed (to_be_bytes w32))))

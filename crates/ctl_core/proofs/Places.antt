@@ -22,7 +22,8 @@ drop-all [] (suc i) l = refl
 drop-all (x ∷ xs) zero l = absurd (omega arith)
 drop-all (x ∷ xs) (suc i) l = drop-all xs i (omega arith)
 
-pub at-set : (f : Station → Station) (g : ℕ) (ss : List Station) (x : Station) → g < length ss → x ≡ get_or ss g x → set ss g (f x) ≡ at g f ss
+pub at-set : (f : Station → Station) (g : ℕ) (ss : List Station) (x : Station) → g < length ss → x ≡ get_or ss g x
+    → set ss g (f x) ≡ at g f ss
 at-set f g [] x l e = absurd (omega arith)
 at-set f zero (s ∷ ss) x l e = ap (λ y. f y ∷ ss) e
 at-set f (suc k) (s ∷ ss) x l e =
@@ -37,7 +38,8 @@ at-none f g (s ∷ ss) l =
     let z : (g == 0) ≡ false = grind arith in
     ap (λ y. s ∷ y) (at-none f (g - 1) ss (omega arith)) ∙ ap (λ b. if b then f s ∷ ss else s ∷ at (g - 1) f ss) (sym z)
 
-pub queued-set : (g : ℕ) (w : Waiting) (qs : List (List Waiting)) (x : List Waiting) → g < length qs → x ≡ get_or qs g x → set qs g (x ++ w ∷ []) ≡ queued g w qs
+pub queued-set : (g : ℕ) (w : Waiting) (qs : List (List Waiting)) (x : List Waiting) → g < length qs → x ≡ get_or qs g x
+    → set qs g (x ++ w ∷ []) ≡ queued g w qs
 queued-set g w [] x l e = absurd (omega arith)
 queued-set zero w (q ∷ qs) x l e = ap (λ y. (y ++ w ∷ []) ∷ qs) e
 queued-set (suc k) w (q ∷ qs) x l e =

@@ -24,7 +24,8 @@ changed (changes.Ended r) d p = if d.reqid == r then steps.ended p else p
 changed (changes.Rekeyed r) d p = steps.wanted_if (d.reqid == r) p
 changed (changes.Cut g) d p = steps.cut (d.sender == g) (d.receiver == g) p
 changed (changes.Answered o status) d p = steps.answered o status p
-changed (changes.Read g shown) d p = steps.read (d.sender == g) (d.receiver == g) (contains nat_eq shown.inbound) (contains nat_eq shown.outbound) p
+changed (changes.Read g shown) d p = steps.read (d.sender == g) (d.receiver == g) (contains nat_eq shown.inbound)
+    (contains nat_eq shown.outbound) p
 changed (changes.Acquired g reqids) d p = steps.wanted_if ((d.sender == g) && has_reqid reqids.items d.reqid && steps.is_settled p) p
 changed (changes.Worn g half) d p = steps.wanted_if (steps.has_newest (d.sender == g) (d.receiver == g) half p) p
 

@@ -96,7 +96,8 @@ pass_draft ss ks ch ready (t ∷ ts) (p ∷ ps) x = pass_draft ss ks ch ready ts
 abbrev pub pass_pairs : List Station → List (List ℕ) → Effect → List Bool → List Tunnel → List Pair → Drafted → List Pair
 pass_pairs ss ks ch ready [] ps x = []
 pass_pairs ss ks ch ready (t ∷ ts) [] x = []
-pass_pairs ss ks ch ready (t ∷ ts) (p ∷ ps) x = advanced_pair ss ks ch ready t p x ∷ pass_pairs ss ks ch ready ts ps (draft_pair ss ks ch ready t p x)
+pass_pairs ss ks ch ready (t ∷ ts) (p ∷ ps) x = advanced_pair ss ks ch ready t p x
+    ∷ pass_pairs ss ks ch ready ts ps (draft_pair ss ks ch ready t p x)
 
 -- each gateway, with what its queue gets at its end
 abbrev pub with_queues : List Station → List (List Waiting) → List Station

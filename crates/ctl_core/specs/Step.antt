@@ -100,7 +100,8 @@ opening_with c g x = with_station g (λ t. record t { session = sessions.Unread 
 
 -- A session is opened at the gateway of this number: its halves are read, and it gets its newest list. Nothing happens if one is open.
 abbrev pub opened : Core → ℕ → Outcome
-opened c g = if core.is_closed_at c.stations g then opening_with c g (with_list g (core.list_at c.stations g) (given g tree.Read None (no_draft c))) else still c
+opened c g = if core.is_closed_at c.stations g
+    then opening_with c g (with_list g (core.list_at c.stations g) (given g tree.Read None (no_draft c))) else still c
 
 -- from now on the session of this gateway counts as read, or not
 abbrev pub set_ready : ℕ → Bool → List Bool → List Bool
@@ -113,7 +114,8 @@ cut_effect g d p = steps.cut (d.sender == g) (d.receiver == g) p
 
 -- the session of the gateway ends, and what waits in its queue with it
 abbrev pub closing : Core → ℕ → Outcome
-closing c g = with_station g (λ t. record t { session = sessions.Closed; queue = [] }) (ran c (cut_effect g) (set_ready g false (readiness c.stations)) (no_draft c))
+closing c g = with_station g (λ t. record t { session = sessions.Closed; queue = [] })
+    (ran c (cut_effect g) (set_ready g false (readiness c.stations)) (no_draft c))
 
 -- the session of the gateway of this number is cut; nothing happens if none is open
 abbrev pub cut : Core → ℕ → Outcome
@@ -139,7 +141,8 @@ answer_effect g a o (Some half) = λ d p. steps.answered half a.status p
 
 -- The oldest waiting order is answered, so the session is read: its first order was a reading.
 abbrev pub answering : Core → ℕ → Effect → Outcome
-answering c g ch = with_station g (λ t. record t { session = sessions.Read; queue = core.without_front t.queue }) (ran c ch (set_ready g true (readiness c.stations)) (no_draft c))
+answering c g ch = with_station g (λ t. record t { session = sessions.Read; queue = core.without_front t.queue })
+    (ran c ch (set_ready g true (readiness c.stations)) (no_draft c))
 
 -- what an answer to the oldest waiting order changes
 abbrev pub front_effect : ℕ → Answer → Option Waiting → Effect
@@ -170,7 +173,8 @@ worn_effect g (Some half) = λ d p. steps.wanted_if (steps.has_newest (d.sender 
 
 -- what a notice changes, with the newest list of its gateway
 abbrev pub notice_effect : ℕ → Option (List SpdEntry) → Notice → Effect
-notice_effect g list (notices.Acquire name s) = λ d p. steps.wanted_if ((d.sender == g) && has_reqid (reqids_in name list) d.reqid && steps.is_settled p) p
+notice_effect g list (notices.Acquire name s) = λ d p. steps.wanted_if ((d.sender == g) && has_reqid (reqids_in name list) d.reqid
+    && steps.is_settled p) p
 notice_effect g list (notices.Expire name soft l) = worn_effect g (half_named name)
 notice_effect g list (notices.SeqOverflow name) = worn_effect g (half_named name)
 notice_effect g list (notices.BadSpi spi) = nothing
@@ -186,7 +190,8 @@ asked_again g ws (notices.BadSpi spi) x = if core.has_reading ws then x else giv
 abbrev pub noticed : Core → ℕ → Notice → Outcome
 noticed c g n =
     if core.is_open_at c.stations g
-    then ran c (notice_effect g (core.list_at c.stations g) n) (readiness c.stations) (asked_again g (core.queue_at c.stations g) n (no_draft c))
+    then ran c (notice_effect g (core.list_at c.stations g) n) (readiness c.stations)
+        (asked_again g (core.queue_at c.stations g) n (no_draft c))
     else still c
 
 -- ## commands
@@ -205,7 +210,8 @@ policy_at c g l = if nat_lt g (length c.stations) then policy_taken c g l else r
 
 -- the spent tunnels are forgotten, and one more comes last; with `now` it wants associations at once
 abbrev pub with_tunnel : Core → Tunnel → Bool → Core
-with_tunnel c t now = record c { tunnels = unspent_tunnels c.tunnels c.pairs ++ t ∷ []; pairs = unspent_pairs c.tunnels c.pairs ++ tunnels.begun now ∷ [] }
+with_tunnel c t now = record c { tunnels = unspent_tunnels c.tunnels c.pairs ++ t ∷ []; pairs = unspent_pairs c.tunnels c.pairs
+    ++ tunnels.begun now ∷ [] }
 
 -- the tunnel is accepted, and gets its first orders where sessions are read and keys are left
 abbrev pub tunnel_taken : Core → Tunnel → Bool → Outcome
@@ -218,7 +224,8 @@ tunnel_by c spec first second None = tunnel_taken c (tunnels.of_spec spec first 
 
 -- a tunnel is commanded between the gateways of two names
 abbrev pub tunneled : Core → TunnelSpec → Outcome
-tunneled c spec = tunnel_by c spec (core.number_of spec.first c.stations) (core.number_of spec.second c.stations) (tunnel_refusal c spec.reqid (core.number_of spec.first c.stations) (core.number_of spec.second c.stations))
+tunneled c spec = tunnel_by c spec (core.number_of spec.first c.stations) (core.number_of spec.second c.stations)
+    (tunnel_refusal c spec.reqid (core.number_of spec.first c.stations) (core.number_of spec.second c.stations))
 
 -- a command for the tunnel of this reqid, refused where none is or it is ended
 abbrev pub known : Core → ℕ → Effect → Outcome

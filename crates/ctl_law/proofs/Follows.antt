@@ -26,7 +26,8 @@ pub record Follows (ps : List Peer) (h : List ControllerAct) (os : List Controll
 pub follows-still : (ps : List Peer) (h : List ControllerAct) (c : Core) → StandsFor ps h c → Follows ps h [] (step.still c)
 follows-still ps h c s = record { acts = refl; stands = s }
 
-pub follows-run : (ps : List Peer) (h os : List ControllerAct) (a : ControllerAct) (c : Core) (ch : passes.Effect) (ready : List Bool) (x : Drafted) → done_at ps a ≡ [] → Ran ps h (a ∷ h) os c ch ready x
+pub follows-run : (ps : List Peer) (h os : List ControllerAct) (a : ControllerAct) (c : Core) (ch : passes.Effect) (ready : List Bool)
+    (x : Drafted) → done_at ps a ≡ [] → Ran ps h (a ∷ h) os c ch ready x
     → numbered (longer ps h (all_orders (a ∷ h) os)) 0 ps ≡ numbered (station_of ps (after (a ∷ h) (all_orders (a ∷ h) os))) 0 ps
     → Follows ps h (a ∷ all_orders (a ∷ h) os) (step.ran c ch ready x)
 follows-run ps h os a c ch ready x n r w = record {
@@ -35,7 +36,8 @@ follows-run ps h os a c ch ready x n r w = record {
 }
 
 -- where a gateway is changed at last
-pub follows-at : (ps : List Peer) (h os : List ControllerAct) (a : ControllerAct) (c : Core) (ch : passes.Effect) (ready : List Bool) (x : Drafted) (g : ℕ) (f : Station → Station) → done_at ps a ≡ [] → Ran ps h (a ∷ h) os c ch ready x
+pub follows-at : (ps : List Peer) (h os : List ControllerAct) (a : ControllerAct) (c : Core) (ch : passes.Effect) (ready : List Bool)
+    (x : Drafted) (g : ℕ) (f : Station → Station) → done_at ps a ≡ [] → Ran ps h (a ∷ h) os c ch ready x
     → at g f (numbered (longer ps h (all_orders (a ∷ h) os)) 0 ps) ≡ numbered (station_of ps (after (a ∷ h) (all_orders (a ∷ h) os))) 0 ps
     → Follows ps h (a ∷ all_orders (a ∷ h) os) (step.with_station g f (step.ran c ch ready x))
 follows-at ps h os a c ch ready x g f n r w = record {
@@ -43,13 +45,16 @@ follows-at ps h os a c ch ready x g f n r w = record {
   stands = record { gateways = ap (at g f) r.stations ∙ w; tunnels = r.tunnels; keys = r.keys; serials = r.serials };
 }
 
-refused-tunnels : (h : List ControllerAct) (w : Refusal) (ds : List Way) (ts : List Tunnel) (qs : List Pair) → TunnelsStand h ds ts qs → TunnelsStand (Refused w ∷ h) ds ts qs
+refused-tunnels : (h : List ControllerAct) (w : Refusal) (ds : List Way) (ts : List Tunnel) (qs : List Pair) → TunnelsStand h ds ts qs
+    → TunnelsStand (Refused w ∷ h) ds ts qs
 refused-tunnels h w _ _ _ no_more = no_more
 refused-tunnels h w _ _ _ (left_out d e ds ts qs a b r) = left_out d e ds ts qs a b (refused-tunnels h w ds ts qs r)
 refused-tunnels h w _ _ _ (stands d e ds t ts qs a r) = stands d e ds t ts qs a (refused-tunnels h w ds ts qs r)
 
-pub follows-refused : (ps : List Peer) (h : List ControllerAct) (c : Core) (w : Refusal) → StandsFor ps h c → Follows ps h (Refused w ∷ []) (step.refused c w)
+pub follows-refused : (ps : List Peer) (h : List ControllerAct) (c : Core) (w : Refusal) → StandsFor ps h c
+    → Follows ps h (Refused w ∷ []) (step.refused c w)
 follows-refused ps h c w s = record {
   acts = refl;
-  stands = record { gateways = s.gateways ∙ numbered-same (station_of ps h) (station_of ps (Refused w ∷ h)) 0 ps (λ j p l. refl); tunnels = refused-tunnels h w (directions h) c.tunnels c.pairs s.tunnels; keys = s.keys; serials = s.serials };
+  stands = record { gateways = s.gateways ∙ numbered-same (station_of ps h) (station_of ps (Refused w ∷ h)) 0 ps (λ j p l. refl); tunnels =
+      refused-tunnels h w (directions h) c.tunnels c.pairs s.tunnels; keys = s.keys; serials = s.serials };
 }

@@ -38,7 +38,8 @@ orders-given h d _ (in_was_put k r f s y u v w) = tt
 
 pub orders-pass : (h : List ControllerAct) (ds : List Way) → Orders (pass h ds)
 orders-pass h [] = tt
-orders-pass h (d ∷ ds) = orders-more (give h d) (pass (after h (give h d)) ds) (orders-given h d (give h d) (given h d)) (orders-pass (after h (give h d)) ds)
+orders-pass h (d ∷ ds) = orders-more (give h d) (pass (after h (give h d)) ds) (orders-given h d (give h d) (given h d))
+    (orders-pass (after h (give h d)) ds)
 
 -- the orders among them for a gateway
 abbrev pub orders_for : ℕ → List ControllerAct → List ControllerOrder
@@ -59,7 +60,8 @@ same-after h (Opened g s ∷ os) j a = absurd a
 same-after h (Cut g s ∷ os) j a = absurd a
 same-after h (Answered g s n c ∷ os) j a = absurd a
 same-after h (Heard g s t ∷ os) j a = absurd a
-same-after h (Ordered g s n o ∷ os) j a = let ih = same-after (Ordered g s n o ∷ h) os j a in record { up = ih.up; first = ih.first; list = ih.list }
+same-after h (Ordered g s n o ∷ os) j a = let ih = same-after (Ordered g s n o ∷ h) os j a in
+    record { up = ih.up; first = ih.first; list = ih.list }
 same-after h (Accepted c ∷ os) j a = absurd a
 same-after h (Refused w ∷ os) j a = absurd a
 
@@ -83,7 +85,8 @@ ways-after-orders h (Ordered g s n o ∷ os) a = ways-after-orders (Ordered g s 
 ways-after-orders h (Accepted c ∷ os) a = absurd a
 ways-after-orders h (Refused w ∷ os) a = absurd a
 
-add-one-for : (b : Bool) (q os : List ControllerOrder) (o : ControllerOrder) → (if b then q ++ o ∷ [] else q) ++ os ≡ q ++ (if b then o ∷ os else os)
+add-one-for : (b : Bool) (q os : List ControllerOrder) (o : ControllerOrder) → (if b then q ++ o ∷ [] else q) ++ os ≡ q
+    ++ (if b then o ∷ os else os)
 add-one-for true q os o = append_assoc q (o ∷ []) os
 add-one-for false q os o = refl
 
@@ -109,10 +112,13 @@ drafted-acts ps (Ordered g s n o ∷ os) x a = drafted-acts ps os (with_order ps
 drafted-acts ps (Accepted c ∷ os) x a = absurd a
 drafted-acts ps (Refused w ∷ os) x a = absurd a
 
-one-more : (ps : List Peer) (b : Bool) (q : List ControllerOrder) (o : ControllerOrder) → b ≡ true → map (waiting_of ps) q ++ waiting_of ps o ∷ [] ≡ map (waiting_of ps) (if b then q ++ o ∷ [] else q)
+one-more : (ps : List Peer) (b : Bool) (q : List ControllerOrder) (o : ControllerOrder) → b ≡ true → map (waiting_of ps) q
+    ++ waiting_of ps o ∷ [] ≡ map (waiting_of ps) (if b then q ++ o ∷ [] else q)
 one-more ps b q o e = rw e (sym (map-more (waiting_of ps) q (o ∷ [])))
 
-pub drafted-queues : (ps : List Peer) (os : List ControllerAct) (x : Drafted) (before : ℕ → List ControllerOrder) → Orders os → x.queues ≡ numbered (λ j p. map (waiting_of ps) (before j)) 0 ps → (drafting ps os x).queues ≡ numbered (λ j p. map (waiting_of ps) (before j ++ orders_for j os)) 0 ps
+pub drafted-queues : (ps : List Peer) (os : List ControllerAct) (x : Drafted) (before : ℕ → List ControllerOrder) → Orders os
+    → x.queues ≡ numbered (λ j p. map (waiting_of ps) (before j)) 0 ps
+    → (drafting ps os x).queues ≡ numbered (λ j p. map (waiting_of ps) (before j ++ orders_for j os)) 0 ps
 drafted-queues ps [] x before a e = e ∙ numbered-same _ _ 0 ps (λ j p l. ap (map (waiting_of ps)) (sym (append-nil (before j))))
 drafted-queues ps (Opened g s ∷ os) x before a e = absurd a
 drafted-queues ps (Cut g s ∷ os) x before a e = absurd a
@@ -121,7 +127,8 @@ drafted-queues ps (Heard g s t ∷ os) x before a e = absurd a
 drafted-queues ps (Ordered g s n o ∷ os) x before a e =
     drafted-queues ps os (with_order ps g o x) (λ j. if j == g then before j ++ o ∷ [] else before j) a
     (ap (queued g (waiting_of ps o)) e
-    ∙ numbered-queued (waiting_of ps o) (λ j p. map (waiting_of ps) (before j)) (λ j p. map (waiting_of ps) (if j == g then before j ++ o ∷ [] else before j)) g 0 g ps (omega arith)
+    ∙ numbered-queued (waiting_of ps o) (λ j p. map (waiting_of ps) (before j)) (λ j p. map (waiting_of ps) (if j == g then before j ++ o
+        ∷ [] else before j)) g 0 g ps (omega arith)
     (λ p. one-more ps (g == g) (before g) o (grind arith))
     (λ j p t. rw t refl))
     ∙ numbered-same _ _ 0 ps (λ j p l. ap (map (waiting_of ps)) (add-one-for (j == g) (before j) (orders_for j os) o))

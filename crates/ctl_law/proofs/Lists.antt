@@ -54,17 +54,20 @@ pub filter-passes : {A : Type 0} (p : A → Bool) (xs : List A) (x : A) → Has 
 filter-passes p [] x i = absurd i
 filter-passes p (y ∷ ys) x i = case (p y) refl (λ j. filter-passes p ys x j) i
   where
-    case : (b : Bool) → p y ≡ b → (Has x (filter p ys) → Has x ys × (p x ≡ true)) → Has x (if b then y ∷ filter p ys else filter p ys) → Has x (y ∷ ys) × (p x ≡ true)
+    case : (b : Bool) → p y ≡ b → (Has x (filter p ys) → Has x ys × (p x ≡ true)) → Has x (if b then y ∷ filter p ys else filter p ys)
+        → Has x (y ∷ ys) × (p x ≡ true)
     case true t f (inl e) = (inl e, ap p e ∙ t)
     case true t f (inr j) = (inr (f j).0, (f j).1)
     case false t f j = (inr (f j).0, (f j).1)
 
 -- where what passes the first test passes the second
-pub any-filter : {A : Type 0} (p r : A → Bool) (xs : List A) → ((x : A) → Has x xs → p x ≡ true → r x ≡ true) → list_any p xs ≡ list_any p (filter r xs)
+pub any-filter : {A : Type 0} (p r : A → Bool) (xs : List A) → ((x : A) → Has x xs → p x ≡ true → r x ≡ true)
+    → list_any p xs ≡ list_any p (filter r xs)
 any-filter p r [] e = refl
 any-filter p r (x ∷ xs) e = case (r x) refl (p x) refl (any-filter p r xs (λ y i. e y (inr i)))
   where
-    case : (b : Bool) → r x ≡ b → (c : Bool) → p x ≡ c → list_any p xs ≡ list_any p (filter r xs) → (p x || list_any p xs) ≡ list_any p (if b then x ∷ filter r xs else filter r xs)
+    case : (b : Bool) → r x ≡ b → (c : Bool) → p x ≡ c → list_any p xs ≡ list_any p (filter r xs)
+        → (p x || list_any p xs) ≡ list_any p (if b then x ∷ filter r xs else filter r xs)
     case true t c u ih = rw ih refl
     case false t true u ih = absurd (let w : true ≡ false = sym (e x (inl refl) u) ∙ t in cc)
     case false t false u ih = rw u ih

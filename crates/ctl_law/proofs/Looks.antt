@@ -28,7 +28,8 @@ peer-at g [] l = absurd (omega arith)
 peer-at zero (p ∷ ps) l = (p, refl)
 peer-at (suc g) (p ∷ ps) l = peer-at g ps (omega arith)
 
-station-at : (ps : List Peer) (h : List ControllerAct) (ss : List Station) (g : ℕ) → ss ≡ numbered (station_of ps h) 0 ps → g < length ps → (p : Peer) × (slice_get ss g ≡ Some (station_of ps h g p))
+station-at : (ps : List Peer) (h : List ControllerAct) (ss : List Station) (g : ℕ) → ss ≡ numbered (station_of ps h) 0 ps → g < length ps
+    → (p : Peer) × (slice_get ss g ≡ Some (station_of ps h g p))
 station-at ps h ss g e l =
     let q = peer-at g ps l in
     (q.0, ap (λ xs. slice_get xs g) e ∙ numbered-get (station_of ps h) g 0 g ps (omega arith) ∙ ap (option_map (station_of ps h g)) q.1)
@@ -43,19 +44,25 @@ ready-of false b = refl
 ready-of true false = refl
 ready-of true true = refl
 
-pub open-at : (ps : List Peer) (h : List ControllerAct) (ss : List Station) (g : ℕ) → ss ≡ numbered (station_of ps h) 0 ps → g < length ps → core.is_open_at ss g ≡ is_open g h
+pub open-at : (ps : List Peer) (h : List ControllerAct) (ss : List Station) (g : ℕ) → ss ≡ numbered (station_of ps h) 0 ps → g < length ps
+    → core.is_open_at ss g ≡ is_open g h
 open-at ps h ss g e l = let q = station-at ps h ss g e l in ap core.open_or_not q.1 ∙ open-of (is_open g h) (is_first_answered g h)
 
-pub closed-at : (ps : List Peer) (h : List ControllerAct) (ss : List Station) (g : ℕ) → ss ≡ numbered (station_of ps h) 0 ps → g < length ps → core.is_closed_at ss g ≡ not (is_open g h)
-closed-at ps h ss g e l = let q = station-at ps h ss g e l in ap core.closed_or_not q.1 ∙ ap not (open-of (is_open g h) (is_first_answered g h))
+pub closed-at : (ps : List Peer) (h : List ControllerAct) (ss : List Station) (g : ℕ) → ss ≡ numbered (station_of ps h) 0 ps → g < length ps
+    → core.is_closed_at ss g ≡ not (is_open g h)
+closed-at ps h ss g e l = let q = station-at ps h ss g e l in
+    ap core.closed_or_not q.1 ∙ ap not (open-of (is_open g h) (is_first_answered g h))
 
-pub list-at : (ps : List Peer) (h : List ControllerAct) (ss : List Station) (g : ℕ) → ss ≡ numbered (station_of ps h) 0 ps → g < length ps → core.list_at ss g ≡ newest_list g h
+pub list-at : (ps : List Peer) (h : List ControllerAct) (ss : List Station) (g : ℕ) → ss ≡ numbered (station_of ps h) 0 ps → g < length ps
+    → core.list_at ss g ≡ newest_list g h
 list-at ps h ss g e l = let q = station-at ps h ss g e l in ap core.list_or_none q.1
 
-pub queue-at : (ps : List Peer) (h : List ControllerAct) (ss : List Station) (g : ℕ) → ss ≡ numbered (station_of ps h) 0 ps → g < length ps → core.queue_at ss g ≡ map (waiting_of ps) (queue g h)
+pub queue-at : (ps : List Peer) (h : List ControllerAct) (ss : List Station) (g : ℕ) → ss ≡ numbered (station_of ps h) 0 ps → g < length ps
+    → core.queue_at ss g ≡ map (waiting_of ps) (queue g h)
 queue-at ps h ss g e l = let q = station-at ps h ss g e l in ap core.queue_or_none q.1
 
-pub oldest-at : (ps : List Peer) (h : List ControllerAct) (ss : List Station) (g : ℕ) → ss ≡ numbered (station_of ps h) 0 ps → g < length ps → core.oldest_or_none (slice_get ss g) ≡ core.order_or_none (core.front (map (waiting_of ps) (queue g h)))
+pub oldest-at : (ps : List Peer) (h : List ControllerAct) (ss : List Station) (g : ℕ) → ss ≡ numbered (station_of ps h) 0 ps → g < length ps
+    → core.oldest_or_none (slice_get ss g) ≡ core.order_or_none (core.front (map (waiting_of ps) (queue g h)))
 oldest-at ps h ss g e l = let q = station-at ps h ss g e l in ap core.oldest_or_none q.1
 
 reading-of : (ps : List Peer) (o : ControllerOrder) → core.is_reading (waiting_of ps o).order ≡ is_reading o
@@ -73,22 +80,30 @@ reading-waits ps (o ∷ q) = rw (reading-of ps o, reading-waits ps q) refl
 pub count-of : (ps : List Peer) (h : List ControllerAct) (ss : List Station) → ss ≡ numbered (station_of ps h) 0 ps → length ss ≡ length ps
 count-of ps h ss e = ap length e ∙ numbered-length (station_of ps h) 0 ps
 
-pub reads-at : (ps : List Peer) (h : List ControllerAct) (ss : List Station) (g : ℕ) → ss ≡ numbered (station_of ps h) 0 ps → g < length ps → passes.is_read (readiness ss) g ≡ is_read g h
+pub reads-at : (ps : List Peer) (h : List ControllerAct) (ss : List Station) (g : ℕ) → ss ≡ numbered (station_of ps h) 0 ps → g < length ps
+    → passes.is_read (readiness ss) g ≡ is_read g h
 reads-at ps h ss g e l =
     let q = peer-at g ps l in
     ap (λ xs. passes.is_read (readiness xs) g) e
     ∙ ap (λ xs. passes.is_read xs g) (numbered-map (λ s. core.is_ready s.session) (station_of ps h) 0 ps)
-    ∙ ap passes.or_false (numbered-get (λ j p. core.is_ready (session_of (is_open j h) (is_first_answered j h))) g 0 g ps (omega arith) ∙ ap (option_map (λ p. core.is_ready (session_of (is_open g h) (is_first_answered g h)))) q.1)
+    ∙ ap passes.or_false (numbered-get (λ j p. core.is_ready (session_of (is_open j h) (is_first_answered j h))) g 0 g ps (omega arith)
+        ∙ ap (option_map (λ p. core.is_ready (session_of (is_open g h) (is_first_answered g h)))) q.1)
     ∙ ready-of (is_open g h) (is_first_answered g h)
 
-pub reads-set : (ps : List Peer) (h : List ControllerAct) (ss : List Station) (g j : ℕ) (b : Bool) → ss ≡ numbered (station_of ps h) 0 ps → g < length ps → j < length ps → passes.is_read (set_ready g b (readiness ss)) j ≡ (if j == g then b else is_read j h)
+pub reads-set : (ps : List Peer) (h : List ControllerAct) (ss : List Station) (g j : ℕ) (b : Bool) → ss ≡ numbered (station_of ps h) 0 ps
+    → g < length ps → j < length ps → passes.is_read (set_ready g b (readiness ss)) j ≡ (if j == g then b else is_read j h)
 reads-set ps h ss g j b e l m =
-    let c : length (readiness ss) ≡ length ps = ap (λ xs. length (readiness xs)) e ∙ ap length (numbered-map (λ s. core.is_ready s.session) (station_of ps h) 0 ps) ∙ numbered-length (λ j p. core.is_ready (session_of (is_open j h) (is_first_answered j h))) 0 ps in
+    let c : length (readiness ss) ≡ length ps = ap (λ xs. length (readiness xs)) e
+        ∙ ap length (numbered-map (λ s. core.is_ready s.session) (station_of ps h) 0 ps)
+        ∙ numbered-length (λ j p. core.is_ready (session_of (is_open j h) (is_first_answered j h))) 0 ps in
     set-get g j b (readiness ss) (rw c l) ∙ ap (λ z. if j == g then b else z) (reads-at ps h ss j e m)
 
 -- ## a gateway after more orders
 
-pub station-after : (ps : List Peer) (k xs : List ControllerAct) (j : ℕ) (p : Peer) → Orders xs → station_of ps (after k xs) j p ≡ record { name = p.name; address = p.address; session = session_of (is_open j k) (is_first_answered j k); list = newest_list j k; queue = map (waiting_of ps) (queue j k) ++ map (waiting_of ps) (orders_for j xs) }
+pub station-after : (ps : List Peer) (k xs : List ControllerAct) (j : ℕ) (p : Peer) → Orders xs
+    → station_of ps (after k xs) j p ≡ record { name = p.name; address = p.address; session =
+    session_of (is_open j k) (is_first_answered j k); list = newest_list j k; queue = map (waiting_of ps) (queue j k)
+    ++ map (waiting_of ps) (orders_for j xs) }
 station-after ps k xs j p a =
     let s = same-after k xs j a in
     let u : is_open j (after k xs) ≡ is_open j k = s.up in
@@ -104,5 +119,7 @@ pub changes : (ch : passes.Effect) (h k : List ControllerAct) (ds : List Way) (t
     → ((d : Way) → Has d ds → IsSpent h d → IsSpent k d)
     → Changed ch k ds ts qs
 changes ch h k _ _ _ no_more f g = none_changed
-changes ch h k _ _ _ (left_out d e ds ts qs a b r) f g = spent_too d e ds ts qs (g d (inl refl) (spent-parts h d a)) (g e (inr (inl refl)) (spent-parts h e b)) (changes ch h k ds ts qs r (λ z i. f z (inr (inr i))) (λ z i. g z (inr (inr i))))
-changes ch h k _ _ _ (stands d e ds t ts qs a r) f g = changed d e ds t ts _ qs a (f d (inl refl)) (f e (inr (inl refl))) (changes ch h k ds ts qs r (λ z i. f z (inr (inr i))) (λ z i. g z (inr (inr i))))
+changes ch h k _ _ _ (left_out d e ds ts qs a b r) f g = spent_too d e ds ts qs (g d (inl refl) (spent-parts h d a))
+    (g e (inr (inl refl)) (spent-parts h e b)) (changes ch h k ds ts qs r (λ z i. f z (inr (inr i))) (λ z i. g z (inr (inr i))))
+changes ch h k _ _ _ (stands d e ds t ts qs a r) f g = changed d e ds t ts _ qs a (f d (inl refl)) (f e (inr (inl refl)))
+    (changes ch h k ds ts qs r (λ z i. f z (inr (inr i))) (λ z i. g z (inr (inr i))))

@@ -51,7 +51,8 @@ serial_in (Some o) = o.serial
 task-of : (t u : Task) (m n : ℕ) → half t m ≡ half u n → (t ≡ u) × (m ≡ n)
 task-of t u m n e = (ap task_in e, ap serial_in e)
 
-own-puts : (d : Way) (xs : List Association) (o : ControllerOrder) (t : Task) (n : ℕ) → is_own d xs o ≡ true → half_of o ≡ half t n → is_put_of d o ≡ lives.puts t
+own-puts : (d : Way) (xs : List Association) (o : ControllerOrder) (t : Task) (n : ℕ) → is_own d xs o ≡ true → half_of o ≡ half t n
+    → is_put_of d o ≡ lives.puts t
 own-puts d xs Read t n e f = cc
 own-puts d xs (Policy l) t n e f = cc
 own-puts d xs (PutIn y) t n e f = e ∙ ap lives.puts (task-of tasks.PutIn t y.serial n f).0
@@ -75,12 +76,15 @@ record Loses (h : List ControllerAct) (d : Way) (f : ℕ) (os : List ControllerO
 loses : (p : ℕ) (h : List ControllerAct) (d : Way) (f : ℕ) → IsControllerPast p h → Has d (directions h) → Loses h d f (own_at d h f)
 loses p h d f l i = record {
   puts = any-filter (is_put_of d) (is_own d (left d h)) (queue f h) (λ o j e. put-own d (left d h) o e);
-  serials = λ x k. any-filter (puts_serial x.serial) (is_own d (left d h)) (queue f h) (λ o j e. is-own x k o j e (is_own d (left d h) o) refl);
+  serials = λ x k. any-filter (puts_serial x.serial) (is_own d (left d h)) (queue f h) (λ o j e. is-own x k o j e (is_own d (left d h) o)
+      refl);
 }
   where
-    is-own : (x : Association) → Has x (left d h) → (o : ControllerOrder) → Has o (queue f h) → puts_serial x.serial o ≡ true → (b : Bool) → is_own d (left d h) o ≡ b → b ≡ true
+    is-own : (x : Association) → Has x (left d h) → (o : ControllerOrder) → Has o (queue f h) → puts_serial x.serial o ≡ true → (b : Bool)
+        → is_own d (left d h) o ≡ b → b ≡ true
     is-own x k o j e true t = refl
-    is-own x k o j e false t = absurd (let u = foreign p h l d i f o j t x k in let v = serial-of x.serial o e in let w : true ≡ false = sym v ∙ u in cc)
+    is-own x k o j e false t = absurd (let u = foreign p h l d i f o j t x k in let v = serial-of x.serial o e in
+        let w : true ≡ false = sym v ∙ u in cc)
 
 -- with these orders lost
 abbrev after_loss : List ControllerAct → Way → List ControllerOrder → Option HalfOrder → Progress
@@ -88,17 +92,22 @@ after_loss h d os q = progress (is_over d h) (list_any (is_put_of d) os || is_wa
     (option_map (λ x. lives.ended_if (list_any (puts_serial x.serial) os) (life_of h x)) (older_left d h))
     (option_map (λ x. lives.ended_if (list_any (puts_serial x.serial) os) (life_of h x)) (newest_left d h))
 
-at-cut : (p : ℕ) (h : List ControllerAct) (d : Way) (f s : ℕ) (os : List ControllerOrder) → Loses h d f os → progress_of (Cut f s ∷ h) d ≡ after_loss h d os (first_half (own_orders d (Cut f s ∷ h)))
+at-cut : (p : ℕ) (h : List ControllerAct) (d : Way) (f s : ℕ) (os : List ControllerOrder) → Loses h d f os
+    → progress_of (Cut f s ∷ h) d ≡ after_loss h d os (first_half (own_orders d (Cut f s ∷ h)))
 at-cut p h d f s os k = same-progress _ _ _ _ _ _ _ _ _ _ refl (ap (λ b. b || is_wanted d h) k.puts) refl
-    (same-first (life_of (Cut f s ∷ h)) (λ x. lives.ended_if (list_any (puts_serial x.serial) os) (life_of h x)) (older_left d h) (λ x e. ap (λ b. lives.ended_if b (life_of h x)) (k.serials x (older-left d h x e))))
-    (same-first (life_of (Cut f s ∷ h)) (λ x. lives.ended_if (list_any (puts_serial x.serial) os) (life_of h x)) (newest_left d h) (λ x e. ap (λ b. lives.ended_if b (life_of h x)) (k.serials x (newest-left d h x e))))
+    (same-first (life_of (Cut f s ∷ h)) (λ x. lives.ended_if (list_any (puts_serial x.serial) os) (life_of h x)) (older_left d h)
+        (λ x e. ap (λ b. lives.ended_if b (life_of h x)) (k.serials x (older-left d h x e))))
+    (same-first (life_of (Cut f s ∷ h)) (λ x. lives.ended_if (list_any (puts_serial x.serial) os) (life_of h x)) (newest_left d h)
+        (λ x e. ap (λ b. lives.ended_if b (life_of h x)) (k.serials x (newest-left d h x e))))
 
 filter-if : {A : Type 0} (r : A → Bool) (b : Bool) (xs : List A) → filter r (if b then [] else xs) ≡ (if b then [] else filter r xs)
 filter-if r true xs = refl
 filter-if r false xs = refl
 
-own-cut : (h : List ControllerAct) (d : Way) (f s : ℕ) → own_orders d (Cut f s ∷ h) ≡ (if d.sender == f then [] else own_at d h d.sender) ++ (if d.receiver == f then [] else own_at d h d.receiver)
-own-cut h d f s = rw (filter-if (is_own d (left d h)) (d.sender == f) (queue d.sender h), filter-if (is_own d (left d h)) (d.receiver == f) (queue d.receiver h)) refl
+own-cut : (h : List ControllerAct) (d : Way) (f s : ℕ) → own_orders d (Cut f s ∷ h) ≡ (if d.sender == f then [] else own_at d h d.sender)
+    ++ (if d.receiver == f then [] else own_at d h d.receiver)
+own-cut h d f s = rw (filter-if (is_own d (left d h)) (d.sender == f) (queue d.sender h), filter-if (is_own d (left d h)) (d.receiver == f)
+    (queue d.receiver h)) refl
 
 none-lost : (p : ℕ) (h : List ControllerAct) (d : Way) (f s : ℕ) → IsControllerPast p h → Has d (directions h) → own_at d h f ≡ []
     → first_half (own_orders d (Cut f s ∷ h)) ≡ first_half (own_orders d h)
@@ -110,7 +119,8 @@ none-lost p h d f s l i e q w =
     let b : after_loss h d [] (first_half (own_orders d (Cut f s ∷ h))) ≡ progress_of h d = ap (after_loss h d []) q in
     a ∙ b ∙ sym w
 
-one-lost : (p : ℕ) (h : List ControllerAct) (d : Way) (f s : ℕ) (o : ControllerOrder) (t : Task) (n : ℕ) → IsControllerPast p h → Has d (directions h) → own_at d h f ≡ o ∷ []
+one-lost : (p : ℕ) (h : List ControllerAct) (d : Way) (f s : ℕ) (o : ControllerOrder) (t : Task) (n : ℕ) → IsControllerPast p h
+    → Has d (directions h) → own_at d h f ≡ o ∷ []
     → half_of o ≡ half t n → is_own d (left d h) o ≡ true
     → first_half (own_orders d (Cut f s ∷ h)) ≡ None
     → first_half (own_orders d h) ≡ half t n
@@ -123,19 +133,26 @@ one-lost p h d f s o t n l i e u v q w r =
     let c : cut_effect f (direction_of d) (progress_of h d) ≡ steps.lost (record { task = t; serial = n }) (progress_of h d) = taken in
     a ∙ ap (after_loss h d (o ∷ [])) q ∙ m ∙ sym c
   where
-    life : (x : Association) → steps.lost_life (record { task = t; serial = n }) (life_of h x) ≡ lives.ended_if (list_any (puts_serial x.serial) (o ∷ [])) (life_of h x)
+    life : (x : Association) → steps.lost_life (record { task = t; serial = n }) (life_of h x) ≡ lives.ended_if
+        (list_any (puts_serial x.serial) (o ∷ [])) (life_of h x)
     life x = ap (λ b. lives.ended_if b (life_of h x)) (sym (or-false (puts_serial x.serial o) ∙ serial-puts x.serial o t n u))
 
     lost : after_loss h d (o ∷ []) None ≡ steps.lost (record { task = t; serial = n }) (progress_of h d)
-    lost = same-progress _ _ _ _ _ _ _ _ _ _ refl (ap (λ b. b || is_wanted d h) (or-false (is_put_of d o) ∙ own-puts d (left d h) o t n v u)) refl
-        (sym (made-first (steps.lost_life (record { task = t; serial = n })) (life_of h) (λ x. lives.ended_if (list_any (puts_serial x.serial) (o ∷ [])) (life_of h x)) (older_left d h) (λ x j. life x)))
-        (sym (made-first (steps.lost_life (record { task = t; serial = n })) (life_of h) (λ x. lives.ended_if (list_any (puts_serial x.serial) (o ∷ [])) (life_of h x)) (newest_left d h) (λ x j. life x)))
+    lost = same-progress _ _ _ _ _ _ _ _ _ _ refl (ap (λ b. b || is_wanted d h) (or-false (is_put_of d o)
+        ∙ own-puts d (left d h) o t n v u)) refl
+        (sym (made-first (steps.lost_life (record { task = t; serial = n })) (life_of h)
+            (λ x. lives.ended_if (list_any (puts_serial x.serial) (o ∷ [])) (life_of h x)) (older_left d h) (λ x j. life x)))
+        (sym (made-first (steps.lost_life (record { task = t; serial = n })) (life_of h)
+            (λ x. lives.ended_if (list_any (puts_serial x.serial) (o ∷ [])) (life_of h x)) (newest_left d h) (λ x j. life x)))
 
-    taken : steps.cut_waits (d.sender == f) (d.receiver == f) (progress_of h d) (first_half (own_orders d h)) ≡ steps.lost (record { task = t; serial = n }) (progress_of h d)
-    taken = ap (steps.cut_waits (d.sender == f) (d.receiver == f) (progress_of h d)) w ∙ ap (λ b. if b then steps.lost (record { task = t; serial = n }) (progress_of h d) else progress_of h d) r
+    taken : steps.cut_waits (d.sender == f) (d.receiver == f) (progress_of h d) (first_half (own_orders d h)) ≡ steps.lost
+        (record { task = t; serial = n }) (progress_of h d)
+    taken = ap (steps.cut_waits (d.sender == f) (d.receiver == f) (progress_of h d)) w
+        ∙ ap (λ b. if b then steps.lost (record { task = t; serial = n }) (progress_of h d) else progress_of h d) r
 
 -- nothing of it waits at another gateway
-elsewhere : (p : ℕ) (h : List ControllerAct) (d : Way) (f : ℕ) → IsControllerPast p h → Has d (directions h) → (d.sender == f) ≡ false → (d.receiver == f) ≡ false → own_at d h f ≡ []
+elsewhere : (p : ℕ) (h : List ControllerAct) (d : Way) (f : ℕ) → IsControllerPast p h → Has d (directions h) → (d.sender == f) ≡ false
+    → (d.receiver == f) ≡ false → own_at d h f ≡ []
 elsewhere p h d f l i a b = filter-none (is_own d (left d h)) (queue f h) (λ o j. not-own o j (is_own d (left d h) o) refl)
   where
     not-home : (b : Bool) → f ≡ (if b then d.receiver else d.sender) → ⊥
@@ -149,35 +166,58 @@ elsewhere p h d f l i a b = filter-none (is_own d (left d h)) (queue f h) (λ o 
 is-at : (a b : Bool) (t : Task) (c : Bool) → lives.is_inbound t ≡ c → steps.is_at a b t ≡ (if c then b else a)
 is-at a b t c e = ap (λ z. if z then b else a) e
 
-pub progress-cut : (p : ℕ) (h : List ControllerAct) (f s : ℕ) (d : Way) → IsControllerPast p h → Has d (directions h) → (d.sender == d.receiver) ≡ false → progress_of (Cut f s ∷ h) d ≡ cut_effect f (direction_of d) (progress_of h d)
+pub progress-cut : (p : ℕ) (h : List ControllerAct) (f s : ℕ) (d : Way) → IsControllerPast p h → Has d (directions h)
+    → (d.sender == d.receiver) ≡ false → progress_of (Cut f s ∷ h) d ≡ cut_effect f (direction_of d) (progress_of h d)
 progress-cut p h f s d l i n = case (d.sender == f) (d.receiver == f) refl refl (awaits p h l d i n)
   where
     here : (g : ℕ) → (g == f) ≡ true → own_at d h f ≡ own_at d h g
     here g e = let w : f ≡ g = grind arith in ap (own_at d h) w
 
-    waits : (xs ys : List ControllerOrder) → own_at d h d.sender ≡ xs → own_at d h d.receiver ≡ ys → first_half (own_orders d h) ≡ first_half (xs ++ ys)
+    waits : (xs ys : List ControllerOrder) → own_at d h d.sender ≡ xs → own_at d h d.receiver ≡ ys
+        → first_half (own_orders d h) ≡ first_half (xs ++ ys)
     waits xs ys e g = rw (e, g) refl
 
-    left : (a b : Bool) (xs ys : List ControllerOrder) → (d.sender == f) ≡ a → (d.receiver == f) ≡ b → own_at d h d.sender ≡ xs → own_at d h d.receiver ≡ ys → first_half (own_orders d (Cut f s ∷ h)) ≡ first_half ((if a then [] else xs) ++ (if b then [] else ys))
+    left : (a b : Bool) (xs ys : List ControllerOrder) → (d.sender == f) ≡ a → (d.receiver == f) ≡ b → own_at d h d.sender ≡ xs
+        → own_at d h d.receiver ≡ ys → first_half (own_orders d (Cut f s ∷ h)) ≡ first_half ((if a then [] else xs)
+        ++ (if b then [] else ys))
     left a b xs ys u v e g = ap first_half (own-cut h d f s ∙ rw (u, v, e, g) refl)
 
-    not-at : (a b : Bool) (q : Option HalfOrder) → (d.sender == f) ≡ a → (d.receiver == f) ≡ b → first_half (own_orders d h) ≡ q → steps.cut_waits a b (progress_of h d) q ≡ progress_of h d → steps.cut_waits (d.sender == f) (d.receiver == f) (progress_of h d) (first_half (own_orders d h)) ≡ progress_of h d
+    not-at : (a b : Bool) (q : Option HalfOrder) → (d.sender == f) ≡ a → (d.receiver == f) ≡ b → first_half (own_orders d h) ≡ q
+        → steps.cut_waits a b (progress_of h d) q ≡ progress_of h d → steps.cut_waits (d.sender == f) (d.receiver == f) (progress_of h d)
+        (first_half (own_orders d h)) ≡ progress_of h d
     not-at a b q u v e w = rw (u, v) (ap (steps.cut_waits a b (progress_of h d)) e ∙ w)
 
-    stays : (a b c : Bool) (t : Task) (k : ℕ) → lives.is_inbound t ≡ c → (if c then b else a) ≡ false → steps.cut_waits a b (progress_of h d) (half t k) ≡ progress_of h d
-    stays a b c t k e g = ap (λ z. if z then steps.lost (record { task = t; serial = k }) (progress_of h d) else progress_of h d) (is-at a b t c e ∙ g)
+    stays : (a b c : Bool) (t : Task) (k : ℕ) → lives.is_inbound t ≡ c → (if c then b else a) ≡ false
+        → steps.cut_waits a b (progress_of h d) (half t k) ≡ progress_of h d
+    stays a b c t k e g = ap (λ z. if z then steps.lost (record { task = t; serial = k }) (progress_of h d) else progress_of h d)
+        (is-at a b t c e ∙ g)
 
-    goes : (a b c : Bool) (t : Task) → (d.sender == f) ≡ a → (d.receiver == f) ≡ b → lives.is_inbound t ≡ c → (if c then b else a) ≡ true → steps.is_at (d.sender == f) (d.receiver == f) t ≡ true
+    goes : (a b c : Bool) (t : Task) → (d.sender == f) ≡ a → (d.receiver == f) ≡ b → lives.is_inbound t ≡ c → (if c then b else a) ≡ true
+        → steps.is_at (d.sender == f) (d.receiver == f) t ≡ true
     goes a b c t u v e g = rw (u, v) (is-at a b t c e ∙ g)
 
-    case : (a b : Bool) → (d.sender == f) ≡ a → (d.receiver == f) ≡ b → Awaits h d → progress_of (Cut f s ∷ h) d ≡ cut_effect f (direction_of d) (progress_of h d)
+    case : (a b : Bool) → (d.sender == f) ≡ a → (d.receiver == f) ≡ b → Awaits h d
+        → progress_of (Cut f s ∷ h) d ≡ cut_effect f (direction_of d) (progress_of h d)
     case true true u v w = absurd (grind arith)
-    case true false u v (nothing e g) = none-lost p h d f s l i (here d.sender u ∙ e) (left true false [] [] u v e g ∙ sym (waits [] [] e g)) (not-at true false None u v (waits [] [] e g) refl)
-    case true false u v (at_sender o t x e g k c j m y) = one-lost p h d f s o t x.serial l i (here d.sender u ∙ e) k y (left true false (o ∷ []) [] u v e g) (waits (o ∷ []) [] e g ∙ k) (goes true false false t u v c refl)
-    case true false u v (at_receiver o t x e g k c j m y) = none-lost p h d f s l i (here d.sender u ∙ e) (left true false [] (o ∷ []) u v e g ∙ sym (waits [] (o ∷ []) e g)) (not-at true false (half t x.serial) u v (waits [] (o ∷ []) e g ∙ k) (stays true false true t x.serial c refl))
-    case false true u v (nothing e g) = none-lost p h d f s l i (here d.receiver v ∙ g) (left false true [] [] u v e g ∙ sym (waits [] [] e g)) (not-at false true None u v (waits [] [] e g) refl)
-    case false true u v (at_sender o t x e g k c j m y) = none-lost p h d f s l i (here d.receiver v ∙ g) (left false true (o ∷ []) [] u v e g ∙ sym (waits (o ∷ []) [] e g)) (not-at false true (half t x.serial) u v (waits (o ∷ []) [] e g ∙ k) (stays false true false t x.serial c refl))
-    case false true u v (at_receiver o t x e g k c j m y) = one-lost p h d f s o t x.serial l i (here d.receiver v ∙ g) k y (left false true [] (o ∷ []) u v e g) (waits [] (o ∷ []) e g ∙ k) (goes false true true t u v c refl)
-    case false false u v (nothing e g) = none-lost p h d f s l i (elsewhere p h d f l i u v) (left false false [] [] u v e g ∙ sym (waits [] [] e g)) (not-at false false None u v (waits [] [] e g) refl)
-    case false false u v (at_sender o t x e g k c j m y) = none-lost p h d f s l i (elsewhere p h d f l i u v) (left false false (o ∷ []) [] u v e g ∙ sym (waits (o ∷ []) [] e g)) (not-at false false (half t x.serial) u v (waits (o ∷ []) [] e g ∙ k) (stays false false false t x.serial c refl))
-    case false false u v (at_receiver o t x e g k c j m y) = none-lost p h d f s l i (elsewhere p h d f l i u v) (left false false [] (o ∷ []) u v e g ∙ sym (waits [] (o ∷ []) e g)) (not-at false false (half t x.serial) u v (waits [] (o ∷ []) e g ∙ k) (stays false false true t x.serial c refl))
+    case true false u v (nothing e g) = none-lost p h d f s l i (here d.sender u ∙ e) (left true false [] [] u v e g
+        ∙ sym (waits [] [] e g)) (not-at true false None u v (waits [] [] e g) refl)
+    case true false u v (at_sender o t x e g k c j m y) = one-lost p h d f s o t x.serial l i (here d.sender u ∙ e) k y
+        (left true false (o ∷ []) [] u v e g) (waits (o ∷ []) [] e g ∙ k) (goes true false false t u v c refl)
+    case true false u v (at_receiver o t x e g k c j m y) =
+        none-lost p h d f s l i (here d.sender u ∙ e) (left true false [] (o ∷ []) u v e g ∙ sym (waits [] (o ∷ []) e g))
+        (not-at true false (half t x.serial) u v (waits [] (o ∷ []) e g ∙ k) (stays true false true t x.serial c refl))
+    case false true u v (nothing e g) = none-lost p h d f s l i (here d.receiver v ∙ g) (left false true [] [] u v e g
+        ∙ sym (waits [] [] e g)) (not-at false true None u v (waits [] [] e g) refl)
+    case false true u v (at_sender o t x e g k c j m y) =
+        none-lost p h d f s l i (here d.receiver v ∙ g) (left false true (o ∷ []) [] u v e g ∙ sym (waits (o ∷ []) [] e g))
+        (not-at false true (half t x.serial) u v (waits (o ∷ []) [] e g ∙ k) (stays false true false t x.serial c refl))
+    case false true u v (at_receiver o t x e g k c j m y) = one-lost p h d f s o t x.serial l i (here d.receiver v ∙ g) k y
+        (left false true [] (o ∷ []) u v e g) (waits [] (o ∷ []) e g ∙ k) (goes false true true t u v c refl)
+    case false false u v (nothing e g) = none-lost p h d f s l i (elsewhere p h d f l i u v) (left false false [] [] u v e g
+        ∙ sym (waits [] [] e g)) (not-at false false None u v (waits [] [] e g) refl)
+    case false false u v (at_sender o t x e g k c j m y) = none-lost p h d f s l i (elsewhere p h d f l i u v)
+        (left false false (o ∷ []) [] u v e g ∙ sym (waits (o ∷ []) [] e g))
+        (not-at false false (half t x.serial) u v (waits (o ∷ []) [] e g ∙ k) (stays false false false t x.serial c refl))
+    case false false u v (at_receiver o t x e g k c j m y) = none-lost p h d f s l i (elsewhere p h d f l i u v)
+        (left false false [] (o ∷ []) u v e g ∙ sym (waits [] (o ∷ []) e g))
+        (not-at false false (half t x.serial) u v (waits [] (o ∷ []) e g ∙ k) (stays false false true t x.serial c refl))

@@ -34,7 +34,8 @@ now-waits h g s n o = let e : (g == g) ≡ true = eq-own g in rw e (last-has (qu
 
 -- ## an order of another direction, or of none
 
-pub no-inbound : (d : Way) (xs : List Association) (o : ControllerOrder) → is_own d xs o ≡ false → (inbound_put d o ≡ []) × (is_inbound_put_of d o ≡ false)
+pub no-inbound : (d : Way) (xs : List Association) (o : ControllerOrder) → is_own d xs o ≡ false → (inbound_put d o ≡ [])
+    × (is_inbound_put_of d o ≡ false)
 no-inbound d xs Read e = (refl, refl)
 no-inbound d xs (Policy l) e = (refl, refl)
 no-inbound d xs (PutIn y) e = (rw e refl, e)
@@ -50,7 +51,8 @@ same-newest d xs (PutOut y) n e = refl
 same-newest d xs (RemoveIn m) n e = refl
 same-newest d xs (RemoveOut m) n e = refl
 
-same-life : (h : List ControllerAct) (g s n : ℕ) (o : ControllerOrder) (x : Association) → has_serial x.serial o ≡ false → life_of (Ordered g s n o ∷ h) x ≡ life_of h x
+same-life : (h : List ControllerAct) (g s n : ℕ) (o : ControllerOrder) (x : Association) → has_serial x.serial o ≡ false
+    → life_of (Ordered g s n o ∷ h) x ≡ life_of h x
 same-life h g s n Read x e = refl
 same-life h g s n (Policy l) x e = refl
 same-life h g s n (PutIn y) x e = rw e refl
@@ -58,11 +60,13 @@ same-life h g s n (PutOut y) x e = rw e refl
 same-life h g s n (RemoveIn m) x e = refl
 same-life h g s n (RemoveOut m) x e = refl
 
-not-added : (r : ControllerOrder → Bool) (b : Bool) (q : List ControllerOrder) (o : ControllerOrder) → r o ≡ false → filter r (if b then q ++ o ∷ [] else q) ≡ filter r q
+not-added : (r : ControllerOrder → Bool) (b : Bool) (q : List ControllerOrder) (o : ControllerOrder) → r o ≡ false
+    → filter r (if b then q ++ o ∷ [] else q) ≡ filter r q
 not-added r true q o e = filter-append r q (o ∷ []) ∙ rw e (append-nil (filter r q))
 not-added r false q o e = refl
 
-pub progress-other : (p : ℕ) (h : List ControllerAct) (g s n : ℕ) (o : ControllerOrder) (d : Way) → IsControllerPast p (Ordered g s n o ∷ h) → Has d (directions h) → is_own d (left d h) o ≡ false → progress_of (Ordered g s n o ∷ h) d ≡ progress_of h d
+pub progress-other : (p : ℕ) (h : List ControllerAct) (g s n : ℕ) (o : ControllerOrder) (d : Way) → IsControllerPast p (Ordered g s n o ∷ h)
+    → Has d (directions h) → is_own d (left d h) o ≡ false → progress_of (Ordered g s n o ∷ h) d ≡ progress_of h d
 progress-other p h g s n o d l i t = same-progress _ _ _ _ _ _ _ _ _ _ refl wanted (ap first_half orders) older newer
   where
     same-left : left d (Ordered g s n o ∷ h) ≡ left d h
@@ -84,51 +88,71 @@ progress-other p h g s n o d l i t = same-progress _ _ _ _ _ _ _ _ _ _ refl want
     life x j = same-life h g s n o x (foreign p (Ordered g s n o ∷ h) l d i g o (now-waits h g s n o) (rw same-left t) x (rw same-left j))
 
     older : option_map (life_of (Ordered g s n o ∷ h)) (older_left d (Ordered g s n o ∷ h)) ≡ option_map (life_of h) (older_left d h)
-    older = ap (option_map (life_of (Ordered g s n o ∷ h))) (rw (same-left, newest) refl) ∙ same-first (life_of (Ordered g s n o ∷ h)) (life_of h) (older_left d h) (λ x e. life x (older-left d h x e))
+    older = ap (option_map (life_of (Ordered g s n o ∷ h))) (rw (same-left, newest) refl)
+        ∙ same-first (life_of (Ordered g s n o ∷ h)) (life_of h) (older_left d h) (λ x e. life x (older-left d h x e))
 
     newer : option_map (life_of (Ordered g s n o ∷ h)) (newest_left d (Ordered g s n o ∷ h)) ≡ option_map (life_of h) (newest_left d h)
-    newer = ap (option_map (life_of (Ordered g s n o ∷ h))) (rw (same-left, newest) refl) ∙ same-first (life_of (Ordered g s n o ∷ h)) (life_of h) (newest_left d h) (λ x e. life x (newest-left d h x e))
+    newer = ap (option_map (life_of (Ordered g s n o ∷ h))) (rw (same-left, newest) refl)
+        ∙ same-first (life_of (Ordered g s n o ∷ h)) (life_of h) (newest_left d h) (λ x e. life x (newest-left d h x e))
 
 -- ## an order of its own
 
 -- it is the one that waits
-now-own : (p : ℕ) (h : List ControllerAct) (g s n : ℕ) (o : ControllerOrder) (d : Way) → IsControllerPast p (Ordered g s n o ∷ h) → Has d (directions h) → is_own d (left d (Ordered g s n o ∷ h)) o ≡ true → (g ≡ d.sender) ⊎ (g ≡ d.receiver) → own_orders d (Ordered g s n o ∷ h) ≡ o ∷ []
+now-own : (p : ℕ) (h : List ControllerAct) (g s n : ℕ) (o : ControllerOrder) (d : Way) → IsControllerPast p (Ordered g s n o ∷ h)
+    → Has d (directions h) → is_own d (left d (Ordered g s n o ∷ h)) o ≡ true → (g ≡ d.sender) ⊎ (g ≡ d.receiver)
+    → own_orders d (Ordered g s n o ∷ h) ≡ o ∷ []
 now-own p h g s n o d l i t w = one-is (own_orders d (Ordered g s n o ∷ h)) o (one-own p (Ordered g s n o ∷ h) l d i) (has w)
   where
     has : (g ≡ d.sender) ⊎ (g ≡ d.receiver) → Has o (own_orders d (Ordered g s n o ∷ h))
-    has (inl e) = has-left o (own_at d (Ordered g s n o ∷ h) d.sender) (own_at d (Ordered g s n o ∷ h) d.receiver) (filter-has (is_own d (left d (Ordered g s n o ∷ h))) (queue d.sender (Ordered g s n o ∷ h)) o (subst (λ z. Has o (queue z (Ordered g s n o ∷ h))) e (now-waits h g s n o)) t)
-    has (inr e) = right-in o (own_at d (Ordered g s n o ∷ h) d.sender) (own_at d (Ordered g s n o ∷ h) d.receiver) (filter-has (is_own d (left d (Ordered g s n o ∷ h))) (queue d.receiver (Ordered g s n o ∷ h)) o (subst (λ z. Has o (queue z (Ordered g s n o ∷ h))) e (now-waits h g s n o)) t)
+    has (inl e) = has-left o (own_at d (Ordered g s n o ∷ h) d.sender) (own_at d (Ordered g s n o ∷ h) d.receiver)
+        (filter-has (is_own d (left d (Ordered g s n o ∷ h))) (queue d.sender (Ordered g s n o ∷ h)) o
+        (subst (λ z. Has o (queue z (Ordered g s n o ∷ h))) e (now-waits h g s n o)) t)
+    has (inr e) = right-in o (own_at d (Ordered g s n o ∷ h) d.sender) (own_at d (Ordered g s n o ∷ h) d.receiver)
+        (filter-has (is_own d (left d (Ordered g s n o ∷ h))) (queue d.receiver (Ordered g s n o ∷ h)) o
+        (subst (λ z. Has o (queue z (Ordered g s n o ∷ h))) e (now-waits h g s n o)) t)
 
-pub progress-remove-in : (p : ℕ) (h : List ControllerAct) (g s n : ℕ) (x : Association) (d : Way) → IsControllerPast p (Ordered g s n (RemoveIn x.serial) ∷ h) → Has d (directions h) → Has x (left d h) → g ≡ d.receiver
-    → progress_of (Ordered g s n (RemoveIn x.serial) ∷ h) d ≡ steps.ordered (record { task = tasks.RemoveIn; serial = x.serial }) (progress_of h d)
+pub progress-remove-in : (p : ℕ) (h : List ControllerAct) (g s n : ℕ) (x : Association) (d : Way)
+    → IsControllerPast p (Ordered g s n (RemoveIn x.serial) ∷ h) → Has d (directions h) → Has x (left d h) → g ≡ d.receiver
+    → progress_of (Ordered g s n (RemoveIn x.serial) ∷ h) d ≡ steps.ordered (record { task = tasks.RemoveIn; serial = x.serial })
+        (progress_of h d)
 progress-remove-in p h g s n x d l i j e =
     let k : left d (Ordered g s n (RemoveIn x.serial) ∷ h) ≡ left d h = append-nil (left d h) in
-    let t : list_any (λ z. z.serial == x.serial) (left d h) ≡ true = any-has (λ (z : Association). z.serial == x.serial) x (left d h) j (eq-own x.serial) in
+    let t : list_any (λ z. z.serial == x.serial) (left d h) ≡ true = any-has (λ (z : Association). z.serial == x.serial) x (left d h) j
+        (eq-own x.serial) in
     let w = now-own p h g s n (RemoveIn x.serial) d l i (rw k t) (inr e) in
     same-progress _ _ _ _ _ _ _ _ _ _ refl refl (ap first_half w)
     (ap (option_map (life_of h)) (rw k refl))
     (ap (option_map (life_of h)) (rw k refl))
 
-pub progress-remove-out : (p : ℕ) (h : List ControllerAct) (g s n : ℕ) (x : Association) (d : Way) → IsControllerPast p (Ordered g s n (RemoveOut x.serial) ∷ h) → Has d (directions h) → Has x (left d h) → g ≡ d.sender
-    → progress_of (Ordered g s n (RemoveOut x.serial) ∷ h) d ≡ steps.ordered (record { task = tasks.RemoveOut; serial = x.serial }) (progress_of h d)
+pub progress-remove-out : (p : ℕ) (h : List ControllerAct) (g s n : ℕ) (x : Association) (d : Way)
+    → IsControllerPast p (Ordered g s n (RemoveOut x.serial) ∷ h) → Has d (directions h) → Has x (left d h) → g ≡ d.sender
+    → progress_of (Ordered g s n (RemoveOut x.serial) ∷ h) d ≡ steps.ordered (record { task = tasks.RemoveOut; serial = x.serial })
+        (progress_of h d)
 progress-remove-out p h g s n x d l i j e =
     let k : left d (Ordered g s n (RemoveOut x.serial) ∷ h) ≡ left d h = append-nil (left d h) in
-    let t : list_any (λ z. z.serial == x.serial) (left d h) ≡ true = any-has (λ (z : Association). z.serial == x.serial) x (left d h) j (eq-own x.serial) in
+    let t : list_any (λ z. z.serial == x.serial) (left d h) ≡ true = any-has (λ (z : Association). z.serial == x.serial) x (left d h) j
+        (eq-own x.serial) in
     let w = now-own p h g s n (RemoveOut x.serial) d l i (rw k t) (inl e) in
     same-progress _ _ _ _ _ _ _ _ _ _ refl refl (ap first_half w)
     (ap (option_map (life_of h)) (rw k refl))
     (ap (option_map (life_of h)) (rw k refl))
 
-pub progress-put-out : (p : ℕ) (h : List ControllerAct) (g s n : ℕ) (x : Association) (d : Way) → IsControllerPast p (Ordered g s n (PutOut x) ∷ h) → Has d (directions h) → (d.id == x.way.id) ≡ true → g ≡ d.sender
+pub progress-put-out : (p : ℕ) (h : List ControllerAct) (g s n : ℕ) (x : Association) (d : Way)
+    → IsControllerPast p (Ordered g s n (PutOut x) ∷ h) → Has d (directions h) → (d.id == x.way.id) ≡ true → g ≡ d.sender
     → progress_of (Ordered g s n (PutOut x) ∷ h) d ≡ steps.ordered (record { task = tasks.PutOut; serial = x.serial }) (progress_of h d)
 progress-put-out p h g s n x d l i t e =
     let k : left d (Ordered g s n (PutOut x) ∷ h) ≡ left d h = append-nil (left d h) in
     let w = now-own p h g s n (PutOut x) d l i t (inl e) in
     same-progress _ _ _ _ _ _ _ _ _ _ refl refl (ap first_half w)
-    (ap (option_map (life_of (Ordered g s n (PutOut x) ∷ h))) (rw k refl) ∙ sym (made-first (steps.sent_life x.serial) (life_of h) (life_of (Ordered g s n (PutOut x) ∷ h)) (older_left d h) (λ z u. life z (z.serial == x.serial) refl)))
-    (ap (option_map (life_of (Ordered g s n (PutOut x) ∷ h))) (rw k refl) ∙ sym (made-first (steps.sent_life x.serial) (life_of h) (life_of (Ordered g s n (PutOut x) ∷ h)) (newest_left d h) (λ z u. life z (z.serial == x.serial) refl)))
+    (ap (option_map (life_of (Ordered g s n (PutOut x) ∷ h))) (rw k refl)
+        ∙ sym (made-first (steps.sent_life x.serial) (life_of h) (life_of (Ordered g s n (PutOut x) ∷ h)) (older_left d h)
+        (λ z u. life z (z.serial == x.serial) refl)))
+    (ap (option_map (life_of (Ordered g s n (PutOut x) ∷ h))) (rw k refl)
+        ∙ sym (made-first (steps.sent_life x.serial) (life_of h) (life_of (Ordered g s n (PutOut x) ∷ h)) (newest_left d h)
+        (λ z u. life z (z.serial == x.serial) refl)))
   where
-    life : (z : Association) (b : Bool) → (z.serial == x.serial) ≡ b → (if z.serial == x.serial then lives.sent (life_of h z) else life_of h z) ≡ life_of (Ordered g s n (PutOut x) ∷ h) z
+    life : (z : Association) (b : Bool) → (z.serial == x.serial) ≡ b
+        → (if z.serial == x.serial then lives.sent (life_of h z) else life_of h z) ≡ life_of (Ordered g s n (PutOut x) ∷ h) z
     life z true u = rw u refl
     life z false u = rw u refl
 
@@ -140,21 +164,27 @@ listed-two None (Some x) = omega arith
 listed-two (Some y) None = omega arith
 listed-two (Some y) (Some x) = omega arith
 
-older-of-new : (a b : Option Association) (x : Association) → length ((listed a ++ listed b) ++ x ∷ []) ≤ 2 → ((z : Association) → Has z (listed a ++ listed b) → nat_lt z.serial x.serial ≡ true) → (f : Association → Life)
-    → option_map f (first (λ z. nat_lt z.serial x.serial) ((listed a ++ listed b) ++ x ∷ [])) ≡ steps.newer_or (option_map f b) (option_map f a)
+older-of-new : (a b : Option Association) (x : Association) → length ((listed a ++ listed b) ++ x ∷ []) ≤ 2
+    → ((z : Association) → Has z (listed a ++ listed b) → nat_lt z.serial x.serial ≡ true) → (f : Association → Life)
+    → option_map f (first (λ z. nat_lt z.serial x.serial) ((listed a ++ listed b) ++ x ∷ [])) ≡ steps.newer_or (option_map f b)
+        (option_map f a)
 older-of-new None None x m k f = let t : nat_lt x.serial x.serial ≡ false = grind arith in rw t refl
 older-of-new None (Some y) x m k f = let t = k y (inl refl) in rw t refl
 older-of-new (Some y) None x m k f = let t = k y (inl refl) in rw t refl
 older-of-new (Some y) (Some z) x m k f = absurd (omega arith)
 
-newest-of-new : (xs : List Association) (x : Association) → ((z : Association) → Has z xs → (z.serial == x.serial) ≡ false) → first (λ z. z.serial == x.serial) (xs ++ x ∷ []) ≡ Some x
+newest-of-new : (xs : List Association) (x : Association) → ((z : Association) → Has z xs → (z.serial == x.serial) ≡ false)
+    → first (λ z. z.serial == x.serial) (xs ++ x ∷ []) ≡ Some x
 newest-of-new [] x k = let t = eq-own x.serial in rw t refl
 newest-of-new (z ∷ xs) x k = let t = k z (inl refl) in rw t (newest-of-new xs x (λ y i. k y (inr i)))
 
-pub progress-put-in : (p : ℕ) (h : List ControllerAct) (g s n : ℕ) (x : Association) (d : Way) → IsControllerPast p (Ordered g s n (PutIn x) ∷ h) → PlainAnswers h → Has d (directions h) → (d.id == x.way.id) ≡ true → x.serial ≡ serials h + 1 → g ≡ d.receiver
+pub progress-put-in : (p : ℕ) (h : List ControllerAct) (g s n : ℕ) (x : Association) (d : Way)
+    → IsControllerPast p (Ordered g s n (PutIn x) ∷ h) → PlainAnswers h → Has d (directions h) → (d.id == x.way.id) ≡ true
+    → x.serial ≡ serials h + 1 → g ≡ d.receiver
     → progress_of (Ordered g s n (PutIn x) ∷ h) d ≡ steps.ordered (record { task = tasks.PutIn; serial = x.serial }) (progress_of h d)
 progress-put-in p h g s n x d l y i t u e =
-    same-progress _ _ _ _ _ _ _ _ _ _ refl (ap (λ b. not b && is_wanted d h) t) (ap first_half (now-own p h g s n (PutIn x) d l i t (inr e))) older newer
+    same-progress _ _ _ _ _ _ _ _ _ _ refl (ap (λ b. not b && is_wanted d h) t)
+        (ap first_half (now-own p h g s n (PutIn x) d l i t (inr e))) older newer
   where
     lower : (z : Association) → Has z (left d h) → z.serial < x.serial
     lower z j = let q = low p h l.1 d z j in omega arith
@@ -170,7 +200,8 @@ progress-put-in p h g s n x d l y i t u e =
 
     few : length ((listed (older_left d h) ++ listed (newest_left d h)) ++ x ∷ []) ≤ 2
     few =
-        let a : left d h ++ x ∷ [] ≡ listed (older_left d (Ordered g s n (PutIn x) ∷ h)) ++ listed (newest_left d (Ordered g s n (PutIn x) ∷ h)) = sym all ∙ left-two p (Ordered g s n (PutIn x) ∷ h) l y d in
+        let a : left d h ++ x ∷ [] ≡ listed (older_left d (Ordered g s n (PutIn x) ∷ h))
+            ++ listed (newest_left d (Ordered g s n (PutIn x) ∷ h)) = sym all ∙ left-two p (Ordered g s n (PutIn x) ∷ h) l y d in
         let b = listed-two (older_left d (Ordered g s n (PutIn x) ∷ h)) (newest_left d (Ordered g s n (PutIn x) ∷ h)) in
         subst (λ z. length (z ++ x ∷ []) ≤ 2) two (subst (λ z. length z ≤ 2) (sym a) b)
 
@@ -182,13 +213,20 @@ progress-put-in p h g s n x d l y i t u e =
 
     newer : option_map (life_of (Ordered g s n (PutIn x) ∷ h)) (newest_left d (Ordered g s n (PutIn x) ∷ h)) ≡ Some (lives.begun x.serial)
     newer =
-        let a : newest_left d (Ordered g s n (PutIn x) ∷ h) ≡ Some x = rw (all, newest) (newest-of-new (left d h) x (λ z j. let q = lower z j in grind arith)) in
+        let a : newest_left d (Ordered g s n (PutIn x) ∷ h) ≡ Some x =
+            rw (all, newest) (newest-of-new (left d h) x (λ z j. let q = lower z j in grind arith)) in
         ap (option_map (life_of (Ordered g s n (PutIn x) ∷ h))) a ∙ ap Some new-life
 
-    older : option_map (life_of (Ordered g s n (PutIn x) ∷ h)) (older_left d (Ordered g s n (PutIn x) ∷ h)) ≡ steps.newer_or (option_map (life_of h) (newest_left d h)) (option_map (life_of h) (older_left d h))
+    older : option_map (life_of (Ordered g s n (PutIn x) ∷ h)) (older_left d (Ordered g s n (PutIn x) ∷ h)) ≡ steps.newer_or
+        (option_map (life_of h) (newest_left d h)) (option_map (life_of h) (older_left d h))
     older =
-        let a : older_left d (Ordered g s n (PutIn x) ∷ h) ≡ first (λ z. nat_lt z.serial x.serial) ((listed (older_left d h) ++ listed (newest_left d h)) ++ x ∷ []) = rw (all, newest) (ap (λ xs. first (λ z. nat_lt z.serial x.serial) (xs ++ x ∷ [])) two) in
+        let a : older_left d (Ordered g s n (PutIn x) ∷ h) ≡ first (λ z. nat_lt z.serial x.serial)
+            ((listed (older_left d h) ++ listed (newest_left d h)) ++ x ∷ []) =
+            rw (all, newest) (ap (λ xs. first (λ z. nat_lt z.serial x.serial) (xs ++ x ∷ [])) two) in
         ap (option_map (life_of (Ordered g s n (PutIn x) ∷ h))) a
-        ∙ older-of-new (older_left d h) (newest_left d h) x few (λ z j. let q = lower z (subst (Has z) (sym two) j) in grind arith) (life_of (Ordered g s n (PutIn x) ∷ h))
-        ∙ ap (steps.newer_or (option_map (life_of (Ordered g s n (PutIn x) ∷ h)) (newest_left d h))) (same-first (life_of (Ordered g s n (PutIn x) ∷ h)) (life_of h) (older_left d h) (λ z j. old-life z (older-left d h z j)))
-        ∙ ap (λ z. steps.newer_or z (option_map (life_of h) (older_left d h))) (same-first (life_of (Ordered g s n (PutIn x) ∷ h)) (life_of h) (newest_left d h) (λ z j. old-life z (newest-left d h z j)))
+        ∙ older-of-new (older_left d h) (newest_left d h) x few (λ z j. let q = lower z (subst (Has z) (sym two) j) in
+            grind arith) (life_of (Ordered g s n (PutIn x) ∷ h))
+        ∙ ap (steps.newer_or (option_map (life_of (Ordered g s n (PutIn x) ∷ h)) (newest_left d h)))
+            (same-first (life_of (Ordered g s n (PutIn x) ∷ h)) (life_of h) (older_left d h) (λ z j. old-life z (older-left d h z j)))
+        ∙ ap (λ z. steps.newer_or z (option_map (life_of h) (older_left d h))) (same-first (life_of (Ordered g s n (PutIn x) ∷ h))
+            (life_of h) (newest_left d h) (λ z j. old-life z (newest-left d h z j)))

@@ -43,55 +43,66 @@ any-one : (n : ℕ) (xs : List Association) → list_any (λ x. x.serial == n) x
 any-one n [] e = cc
 any-one n (x ∷ xs) e = case (x.serial == n) refl (any-one n xs) e
   where
-    case : (b : Bool) → (x.serial == n) ≡ b → (list_any (λ z. z.serial == n) xs ≡ true → (z : Association) × Has z xs × (z.serial ≡ n)) → (b || list_any (λ z. z.serial == n) xs) ≡ true → (z : Association) × Has z (x ∷ xs) × (z.serial ≡ n)
+    case : (b : Bool) → (x.serial == n) ≡ b → (list_any (λ z. z.serial == n) xs ≡ true → (z : Association) × Has z xs × (z.serial ≡ n))
+        → (b || list_any (λ z. z.serial == n) xs) ≡ true → (z : Association) × Has z (x ∷ xs) × (z.serial ≡ n)
     case true t f u = (x, inl refl, grind arith)
     case false t f u = let q = f u in (q.0, inr q.1, q.2)
 
 same-id : (d e : Way) → (d.id == e.id) ≡ true → d.id ≡ e.id
 same-id d e t = grind arith
 
-pub own-order : (p : ℕ) (h : List ControllerAct) → IsControllerPast p h → (d : Way) → Has d (directions h) → (g : ℕ) (o : ControllerOrder) → Has o (queue g h) → is_own d (left d h) o ≡ true → OwnOrder h d g o
+pub own-order : (p : ℕ) (h : List ControllerAct) → IsControllerPast p h → (d : Way) → Has d (directions h) → (g : ℕ) (o : ControllerOrder)
+    → Has o (queue g h) → is_own d (left d h) o ≡ true → OwnOrder h d g o
 own-order p h l d i g Read j t = cc
 own-order p h l d i g (Policy r) j t = cc
 own-order p h l d i g (PutIn y) j t =
     let w = waiting-left p h l g (PutIn y) j in
     let e : d ≡ y.way = one-way h d y.way i w.0 (same-id d y.way t) in
-    record { task = tasks.PutIn; association = y; is = refl; left = subst (λ z. Has y (left z h)) (sym e) w.1; at = w.2 ∙ ap (λ (z : Way). z.receiver) (sym e) }
+    record { task = tasks.PutIn; association = y; is = refl; left = subst (λ z. Has y (left z h)) (sym e) w.1; at = w.2
+        ∙ ap (λ (z : Way). z.receiver) (sym e) }
 own-order p h l d i g (PutOut y) j t =
     let w = waiting-left p h l g (PutOut y) j in
     let e : d ≡ y.way = one-way h d y.way i w.0 (same-id d y.way t) in
-    record { task = tasks.PutOut; association = y; is = refl; left = subst (λ z. Has y (left z h)) (sym e) w.1; at = w.2 ∙ ap (λ (z : Way). z.sender) (sym e) }
+    record { task = tasks.PutOut; association = y; is = refl; left = subst (λ z. Has y (left z h)) (sym e) w.1; at = w.2
+        ∙ ap (λ (z : Way). z.sender) (sym e) }
 own-order p h l d i g (RemoveIn n) j t =
     let w = waiting-left p h l g (RemoveIn n) j in
     let q = any-one n (left d h) t in
     let s : q.0 ≡ w.0 = one p h l d w.0.way q.0 w.0 q.1 w.3 (q.2 ∙ w.1) in
     let e : d ≡ q.0.way = own-way p h l d q.0 i q.1 in
-    record { task = tasks.RemoveIn; association = q.0; is = ap (half tasks.RemoveIn) (sym q.2); left = q.1; at = w.4 ∙ ap (λ (z : Association). z.way.receiver) (sym s) ∙ ap (λ (z : Way). z.receiver) (sym e) }
+    record { task = tasks.RemoveIn; association = q.0; is = ap (half tasks.RemoveIn) (sym q.2); left = q.1; at = w.4
+        ∙ ap (λ (z : Association). z.way.receiver) (sym s) ∙ ap (λ (z : Way). z.receiver) (sym e) }
 own-order p h l d i g (RemoveOut n) j t =
     let w = waiting-left p h l g (RemoveOut n) j in
     let q = any-one n (left d h) t in
     let s : q.0 ≡ w.0 = one p h l d w.0.way q.0 w.0 q.1 w.3 (q.2 ∙ w.1) in
     let e : d ≡ q.0.way = own-way p h l d q.0 i q.1 in
-    record { task = tasks.RemoveOut; association = q.0; is = ap (half tasks.RemoveOut) (sym q.2); left = q.1; at = w.4 ∙ ap (λ (z : Association). z.way.sender) (sym s) ∙ ap (λ (z : Way). z.sender) (sym e) }
+    record { task = tasks.RemoveOut; association = q.0; is = ap (half tasks.RemoveOut) (sym q.2); left = q.1; at = w.4
+        ∙ ap (λ (z : Association). z.way.sender) (sym s) ∙ ap (λ (z : Way). z.sender) (sym e) }
 
 -- An order of another direction is of no association left in this one.
-pub foreign : (p : ℕ) (h : List ControllerAct) → IsControllerPast p h → (d : Way) → Has d (directions h) → (g : ℕ) (o : ControllerOrder) → Has o (queue g h) → is_own d (left d h) o ≡ false → (x : Association) → Has x (left d h) → has_serial x.serial o ≡ false
+pub foreign : (p : ℕ) (h : List ControllerAct) → IsControllerPast p h → (d : Way) → Has d (directions h) → (g : ℕ) (o : ControllerOrder)
+    → Has o (queue g h) → is_own d (left d h) o ≡ false → (x : Association) → Has x (left d h) → has_serial x.serial o ≡ false
 foreign p h l d i g Read j t x k = refl
 foreign p h l d i g (Policy r) j t x k = refl
 foreign p h l d i g (PutIn y) j t x k = not-true (x.serial == y.serial) (λ u.
     let w = waiting-left p h l g (PutIn y) j in
     let s : x ≡ y = one p h l d y.way x y k w.1 (grind arith) in
     let e : d ≡ x.way = own-way p h l d x i k in
-    let f : (d.id == y.way.id) ≡ true = (let q : d.id ≡ y.way.id = ap (λ (z : Way). z.id) e ∙ ap (λ (z : Association). z.way.id) s in grind arith) in
+    let f : (d.id == y.way.id) ≡ true = (let q : d.id ≡ y.way.id = ap (λ (z : Way). z.id) e ∙ ap (λ (z : Association). z.way.id) s in
+        grind arith) in
     let v : true ≡ false = sym f ∙ t in cc)
 foreign p h l d i g (PutOut y) j t x k = not-true (x.serial == y.serial) (λ u.
     let w = waiting-left p h l g (PutOut y) j in
     let s : x ≡ y = one p h l d y.way x y k w.1 (grind arith) in
     let e : d ≡ x.way = own-way p h l d x i k in
-    let f : (d.id == y.way.id) ≡ true = (let q : d.id ≡ y.way.id = ap (λ (z : Way). z.id) e ∙ ap (λ (z : Association). z.way.id) s in grind arith) in
+    let f : (d.id == y.way.id) ≡ true = (let q : d.id ≡ y.way.id = ap (λ (z : Way). z.id) e ∙ ap (λ (z : Association). z.way.id) s in
+        grind arith) in
     let v : true ≡ false = sym f ∙ t in cc)
-foreign p h l d i g (RemoveIn n) j t x k = not-true (x.serial == n) (λ u. let v : true ≡ false = sym (any-has (λ (z : Association). z.serial == n) x (left d h) k u) ∙ t in cc)
-foreign p h l d i g (RemoveOut n) j t x k = not-true (x.serial == n) (λ u. let v : true ≡ false = sym (any-has (λ (z : Association). z.serial == n) x (left d h) k u) ∙ t in cc)
+foreign p h l d i g (RemoveIn n) j t x k = not-true (x.serial == n) (λ u. let v : true ≡ false =
+    sym (any-has (λ (z : Association). z.serial == n) x (left d h) k u) ∙ t in cc)
+foreign p h l d i g (RemoveOut n) j t x k = not-true (x.serial == n) (λ u. let v : true ≡ false =
+    sym (any-has (λ (z : Association). z.serial == n) x (left d h) k u) ∙ t in cc)
 
 -- ## which one waits, and where
 
@@ -100,18 +111,25 @@ own_at d h g = filter (is_own d (left d h)) (queue g h)
 
 pub data Awaits (h : List ControllerAct) (d : Way) : Type 0 where
   nothing : own_at d h d.sender ≡ [] → own_at d h d.receiver ≡ [] → Awaits h d
-  at_sender : (o : ControllerOrder) (t : Task) (x : Association) → own_at d h d.sender ≡ o ∷ [] → own_at d h d.receiver ≡ [] → half_of o ≡ half t x.serial → lives.is_inbound t ≡ false → Has x (left d h) → Has o (queue d.sender h) → is_own d (left d h) o ≡ true → Awaits h d
-  at_receiver : (o : ControllerOrder) (t : Task) (x : Association) → own_at d h d.sender ≡ [] → own_at d h d.receiver ≡ o ∷ [] → half_of o ≡ half t x.serial → lives.is_inbound t ≡ true → Has x (left d h) → Has o (queue d.receiver h) → is_own d (left d h) o ≡ true → Awaits h d
+  at_sender : (o : ControllerOrder) (t : Task) (x : Association) → own_at d h d.sender ≡ o ∷ [] → own_at d h d.receiver ≡ []
+      → half_of o ≡ half t x.serial → lives.is_inbound t ≡ false → Has x (left d h) → Has o (queue d.sender h)
+      → is_own d (left d h) o ≡ true → Awaits h d
+  at_receiver : (o : ControllerOrder) (t : Task) (x : Association) → own_at d h d.sender ≡ [] → own_at d h d.receiver ≡ o ∷ []
+      → half_of o ≡ half t x.serial → lives.is_inbound t ≡ true → Has x (left d h) → Has o (queue d.receiver h)
+      → is_own d (left d h) o ≡ true → Awaits h d
 
-home-not : (d : Way) (t : Task) → (d.sender == d.receiver) ≡ false → (b : Bool) → lives.is_inbound t ≡ b → d.sender ≡ (if b then d.receiver else d.sender) → b ≡ false
+home-not : (d : Way) (t : Task) → (d.sender == d.receiver) ≡ false → (b : Bool) → lives.is_inbound t ≡ b
+    → d.sender ≡ (if b then d.receiver else d.sender) → b ≡ false
 home-not d t e true u f = absurd (grind arith)
 home-not d t e false u f = refl
 
-home-yes : (d : Way) (t : Task) → (d.sender == d.receiver) ≡ false → (b : Bool) → lives.is_inbound t ≡ b → d.receiver ≡ (if b then d.receiver else d.sender) → b ≡ true
+home-yes : (d : Way) (t : Task) → (d.sender == d.receiver) ≡ false → (b : Bool) → lives.is_inbound t ≡ b
+    → d.receiver ≡ (if b then d.receiver else d.sender) → b ≡ true
 home-yes d t e true u f = refl
 home-yes d t e false u f = absurd (grind arith)
 
-pub awaits : (p : ℕ) (h : List ControllerAct) → IsControllerPast p h → (d : Way) → Has d (directions h) → (d.sender == d.receiver) ≡ false → Awaits h d
+pub awaits : (p : ℕ) (h : List ControllerAct) → IsControllerPast p h → (d : Way) → Has d (directions h) → (d.sender == d.receiver) ≡ false
+    → Awaits h d
 awaits p h l d i n = case (own_at d h d.sender) (own_at d h d.receiver) refl refl (one-own p h l d i)
   where
     at-sender : (o : ControllerOrder) → own_at d h d.sender ≡ o ∷ [] → own_at d h d.receiver ≡ [] → Awaits h d

@@ -39,48 +39,63 @@ untouched h e = record { progress = refl; left = refl; over = refl }
 pub and-untouched : (h k m : List ControllerAct) (e : Way) → Untouched h k e → Untouched k m e → Untouched h m e
 and-untouched h k m e u v = record { progress = v.progress ∙ u.progress; left = v.left ∙ u.left; over = v.over ∙ u.over }
 
-pub untouched-by : (p : ℕ) (h : List ControllerAct) (g s n : ℕ) (o : ControllerOrder) (e : Way) → IsControllerPast p (Ordered g s n o ∷ h) → Has e (directions h) → is_own e (left e h) o ≡ false → Untouched h (Ordered g s n o ∷ h) e
+pub untouched-by : (p : ℕ) (h : List ControllerAct) (g s n : ℕ) (o : ControllerOrder) (e : Way) → IsControllerPast p (Ordered g s n o ∷ h)
+    → Has e (directions h) → is_own e (left e h) o ≡ false → Untouched h (Ordered g s n o ∷ h) e
 untouched-by p h g s n o e l i t = record {
   progress = progress-other p h g s n o e l i t;
   left = ap (λ xs. left e h ++ xs) (no-inbound e (left e h) o t).0 ∙ append-nil (left e h);
   over = refl;
 }
 
-any-none : (n : ℕ) (xs : List Association) → ((x : Association) → Has x xs → (x.serial == n) ≡ false) → list_any (λ x. x.serial == n) xs ≡ false
+any-none : (n : ℕ) (xs : List Association) → ((x : Association) → Has x xs → (x.serial == n) ≡ false)
+    → list_any (λ x. x.serial == n) xs ≡ false
 any-none n [] f = refl
 any-none n (x ∷ xs) f = let t = f x (inl refl) in rw t (any-none n xs (λ y i. f y (inr i)))
 
 -- an association of another direction has another serial
-other-serial : (p : ℕ) (h : List ControllerAct) (d e : Way) → IsControllerPast p h → Has d (directions h) → Has e (directions h) → (e.id == d.id) ≡ false → (z : Association) → Has z (left d h) → list_any (λ y. y.serial == z.serial) (left e h) ≡ false
+other-serial : (p : ℕ) (h : List ControllerAct) (d e : Way) → IsControllerPast p h → Has d (directions h) → Has e (directions h)
+    → (e.id == d.id) ≡ false → (z : Association) → Has z (left d h) → list_any (λ y. y.serial == z.serial) (left e h) ≡ false
 other-serial p h d e l i j t z k = any-none z.serial (left e h) (λ y m. not-true (y.serial == z.serial) (λ u.
     let s : y ≡ z = one p h l e d y z m k (grind arith) in
     let v : e ≡ d = own-way p h l e y j m ∙ ap (λ (w : Association). w.way) s ∙ sym (own-way p h l d z i k) in
     let w : (e.id == d.id) ≡ true = (let q : e.id ≡ d.id = ap (λ (c : Way). c.id) v in grind arith) in
     let f : true ≡ false = sym w ∙ t in cc))
 
-untouched-given : (p : ℕ) (h : List ControllerAct) (d e : Way) (os : List ControllerAct) → IsControllerPast p h → IsControllerPast p (after h os) → Has d (directions h) → Has e (directions h) → (e.id == d.id) ≡ false → Given h d os → Untouched h (after h os) e
+untouched-given : (p : ℕ) (h : List ControllerAct) (d e : Way) (os : List ControllerAct) → IsControllerPast p h
+    → IsControllerPast p (after h os) → Has d (directions h) → Has e (directions h) → (e.id == d.id) ≡ false → Given h d os
+    → Untouched h (after h os) e
 untouched-given p h d e _ l m i j t (nothing q) = untouched h e
-untouched-given p h d e _ l m i j t (out_removed z f k y q) = untouched-by p h d.sender _ _ (RemoveOut z.serial) e m j (other-serial p h d e l i j t z k)
-untouched-given p h d e _ l m i j t (in_removed z f k y q u) = untouched-by p h d.receiver _ _ (RemoveIn z.serial) e m j (other-serial p h d e l i j t z k)
-untouched-given p h d e _ l m i j t (out_was_put z f k y q u v) = untouched-by p h d.sender _ _ (PutOut z) e m j (let w : z.way.id ≡ d.id = ap (λ (c : Way). c.id) (sym (own-way p h l d z i k)) in rw w t)
-untouched-given p h d e _ l m i j t (in_was_put k r f s y u v w) = untouched-by p h d.receiver _ _ (PutIn (record { serial = serials h + 1; key = k; way = d })) e m j t
+untouched-given p h d e _ l m i j t (out_removed z f k y q) = untouched-by p h d.sender _ _ (RemoveOut z.serial) e m j
+    (other-serial p h d e l i j t z k)
+untouched-given p h d e _ l m i j t (in_removed z f k y q u) = untouched-by p h d.receiver _ _ (RemoveIn z.serial) e m j
+    (other-serial p h d e l i j t z k)
+untouched-given p h d e _ l m i j t (out_was_put z f k y q u v) = untouched-by p h d.sender _ _ (PutOut z) e m j (let w : z.way.id ≡ d.id =
+    ap (λ (c : Way). c.id) (sym (own-way p h l d z i k)) in rw w t)
+untouched-given p h d e _ l m i j t (in_was_put k r f s y u v w) =
+    untouched-by p h d.receiver _ _ (PutIn (record { serial = serials h + 1; key = k; way = d })) e m j t
 
-pub past-give : (p : ℕ) (h : List ControllerAct) (d : Way) → IsControllerPast p h → Has d (directions h) → IsControllerPast p (after h (give h d))
+pub past-give : (p : ℕ) (h : List ControllerAct) (d : Way) → IsControllerPast p h → Has d (directions h)
+    → IsControllerPast p (after h (give h d))
 past-give p h d l i = past-after p h (give h d) l (may-given p h d (give h d) i (given h d))
 
-pub untouched-give : (p : ℕ) (h : List ControllerAct) (d e : Way) → IsControllerPast p h → Has d (directions h) → Has e (directions h) → (e.id == d.id) ≡ false → Untouched h (after h (give h d)) e
+pub untouched-give : (p : ℕ) (h : List ControllerAct) (d e : Way) → IsControllerPast p h → Has d (directions h) → Has e (directions h)
+    → (e.id == d.id) ≡ false → Untouched h (after h (give h d)) e
 untouched-give p h d e l i j t = untouched-given p h d e (give h d) l (past-give p h d l i) i j t (given h d)
 
 -- the directions stay
 has-give : (h : List ControllerAct) (d e : Way) → Has e (directions h) → Has e (directions (after h (give h d)))
 has-give h d e i = subst (Has e) (sym (ways-give h d)) i
 
-pub untouched-pass : (p : ℕ) (h : List ControllerAct) (ds : List Way) (e : Way) → IsControllerPast p h → ((d : Way) → Has d ds → Has d (directions h)) → Has e (directions h) → ((d : Way) → Has d ds → (e.id == d.id) ≡ false) → Untouched h (after h (pass h ds)) e
+pub untouched-pass : (p : ℕ) (h : List ControllerAct) (ds : List Way) (e : Way) → IsControllerPast p h
+    → ((d : Way) → Has d ds → Has d (directions h)) → Has e (directions h) → ((d : Way) → Has d ds → (e.id == d.id) ≡ false)
+    → Untouched h (after h (pass h ds)) e
 untouched-pass p h [] e l f j t = untouched h e
 untouched-pass p h (d ∷ ds) e l f j t =
     let a = untouched-give p h d e l (f d (inl refl)) j (t d (inl refl)) in
-    let b = untouched-pass p (after h (give h d)) ds e (past-give p h d l (f d (inl refl))) (λ c i. has-give h d c (f c (inr i))) (has-give h d e j) (λ c i. t c (inr i)) in
-    subst (λ k. Untouched h k e) (sym (after-append h (give h d) (pass (after h (give h d)) ds))) (and-untouched h (after h (give h d)) (after (after h (give h d)) (pass (after h (give h d)) ds)) e a b)
+    let b = untouched-pass p (after h (give h d)) ds e (past-give p h d l (f d (inl refl))) (λ c i. has-give h d c (f c (inr i)))
+        (has-give h d e j) (λ c i. t c (inr i)) in
+    subst (λ k. Untouched h k e) (sym (after-append h (give h d) (pass (after h (give h d)) ds)))
+        (and-untouched h (after h (give h d)) (after (after h (give h d)) (pass (after h (give h d)) ds)) e a b)
 
 -- ## a spent direction gets nothing
 
@@ -104,7 +119,8 @@ spent-stays h k d s u = record { over = u.over ∙ s.over; left = u.left ∙ s.l
 
 -- ## what the orders of one direction leave at hand
 
-after-given : (ps : List Peer) (h : List ControllerAct) (d : Way) (ss : List Station) (ks : List (List ℕ)) (ready : List Bool) (os : List ControllerAct) → AtHand ps h ss ks ready → Given h d os → AtHand ps (after h os) ss ks ready
+after-given : (ps : List Peer) (h : List ControllerAct) (d : Way) (ss : List Station) (ks : List (List ℕ)) (ready : List Bool)
+    (os : List ControllerAct) → AtHand ps h ss ks ready → Given h d os → AtHand ps (after h os) ss ks ready
 after-given ps h d ss ks ready _ b (nothing q) = b
 after-given ps h d ss ks ready _ b (out_removed z f k y q) = record { keys = b.keys; reads = b.reads; addresses = b.addresses }
 after-given ps h d ss ks ready _ b (in_removed z f k y q u) = record { keys = b.keys; reads = b.reads; addresses = b.addresses }
@@ -118,14 +134,16 @@ plain-given h d _ a (in_removed z f k y q u) = a
 plain-given h d _ a (out_was_put z f k y q u v) = a
 plain-given h d _ a (in_was_put k r f s y u v w) = a
 
-serials-given : (ps : List Peer) (h : List ControllerAct) (d : Way) (x : Drafted) (os : List ControllerAct) → x.serials ≡ serials h → Given h d os → (drafting ps os x).serials ≡ serials (after h os)
+serials-given : (ps : List Peer) (h : List ControllerAct) (d : Way) (x : Drafted) (os : List ControllerAct) → x.serials ≡ serials h
+    → Given h d os → (drafting ps os x).serials ≡ serials (after h os)
 serials-given ps h d x _ e (nothing q) = e
 serials-given ps h d x _ e (out_removed z f k y q) = e
 serials-given ps h d x _ e (in_removed z f k y q u) = e
 serials-given ps h d x _ e (out_was_put z f k y q u v) = e
 serials-given ps h d x _ e (in_was_put k r f s y u v w) = refl
 
-pub drafting-append : (ps : List Peer) (xs ys : List ControllerAct) (x : Drafted) → drafting ps (xs ++ ys) x ≡ drafting ps ys (drafting ps xs x)
+pub drafting-append : (ps : List Peer) (xs ys : List ControllerAct) (x : Drafted)
+    → drafting ps (xs ++ ys) x ≡ drafting ps ys (drafting ps xs x)
 drafting-append ps [] ys x = refl
 drafting-append ps (Opened g s ∷ xs) ys x = drafting-append ps xs ys x
 drafting-append ps (Cut g s ∷ xs) ys x = drafting-append ps xs ys x
@@ -140,26 +158,37 @@ drafting-append ps (Refused w ∷ xs) ys x = drafting-append ps xs ys x
 -- tunnels and how far they had come before the event, where it makes this change
 pub data Changed (ch : passes.Effect) (h : List ControllerAct) : List Way → List Tunnel → List Pair → Type 0 where
   none_changed : Changed ch h [] [] []
-  spent_too : (d e : Way) (ds : List Way) (ts : List Tunnel) (qs : List Pair) → IsSpent h d → IsSpent h e → Changed ch h ds ts qs → Changed ch h (d ∷ e ∷ ds) ts qs
-  changed : (d e : Way) (ds : List Way) (t : Tunnel) (ts : List Tunnel) (q : Pair) (qs : List Pair) → IsTunnel t d e → ch (direction_of d) q.forth ≡ progress_of h d → ch (direction_of e) q.back ≡ progress_of h e → Changed ch h ds ts qs → Changed ch h (d ∷ e ∷ ds) (t ∷ ts) (q ∷ qs)
+  spent_too : (d e : Way) (ds : List Way) (ts : List Tunnel) (qs : List Pair) → IsSpent h d → IsSpent h e → Changed ch h ds ts qs
+      → Changed ch h (d ∷ e ∷ ds) ts qs
+  changed : (d e : Way) (ds : List Way) (t : Tunnel) (ts : List Tunnel) (q : Pair) (qs : List Pair) → IsTunnel t d e
+      → ch (direction_of d) q.forth ≡ progress_of h d → ch (direction_of e) q.back ≡ progress_of h e → Changed ch h ds ts qs
+      → Changed ch h (d ∷ e ∷ ds) (t ∷ ts) (q ∷ qs)
 
-pub changed-moves : (ch : passes.Effect) (h k : List ControllerAct) (ds : List Way) (ts : List Tunnel) (qs : List Pair) → Changed ch h ds ts qs → ((d : Way) → Has d ds → Untouched h k d) → Changed ch k ds ts qs
+pub changed-moves : (ch : passes.Effect) (h k : List ControllerAct) (ds : List Way) (ts : List Tunnel) (qs : List Pair)
+    → Changed ch h ds ts qs → ((d : Way) → Has d ds → Untouched h k d) → Changed ch k ds ts qs
 changed-moves ch h k _ _ _ none_changed f = none_changed
-changed-moves ch h k _ _ _ (spent_too d e ds ts qs a b c) f = spent_too d e ds ts qs (spent-stays h k d a (f d (inl refl))) (spent-stays h k e b (f e (inr (inl refl)))) (changed-moves ch h k ds ts qs c (λ z i. f z (inr (inr i))))
-changed-moves ch h k _ _ _ (changed d e ds t ts q qs a b c r) f = changed d e ds t ts q qs a (b ∙ sym (f d (inl refl)).progress) (c ∙ sym (f e (inr (inl refl))).progress) (changed-moves ch h k ds ts qs r (λ z i. f z (inr (inr i))))
+changed-moves ch h k _ _ _ (spent_too d e ds ts qs a b c) f = spent_too d e ds ts qs (spent-stays h k d a (f d (inl refl)))
+    (spent-stays h k e b (f e (inr (inl refl)))) (changed-moves ch h k ds ts qs c (λ z i. f z (inr (inr i))))
+changed-moves ch h k _ _ _ (changed d e ds t ts q qs a b c r) f = changed d e ds t ts q qs a (b ∙ sym (f d (inl refl)).progress) (c
+    ∙ sym (f e (inr (inl refl))).progress) (changed-moves ch h k ds ts qs r (λ z i. f z (inr (inr i))))
 
-pub record PassIs (ps : List Peer) (h : List ControllerAct) (ds : List Way) (ts : List Tunnel) (qs : List Pair) (ss : List Station) (ks : List (List ℕ)) (ready : List Bool) (ch : passes.Effect) (x : Drafted) : Type 0 where
+pub record PassIs (ps : List Peer) (h : List ControllerAct) (ds : List Way) (ts : List Tunnel) (qs : List Pair) (ss : List Station)
+    (ks : List (List ℕ)) (ready : List Bool) (ch : passes.Effect) (x : Drafted) : Type 0 where
   pub draft : passes.pass_draft ss ks ch ready ts qs x ≡ drafting ps (pass h ds) x
   pub serials : (drafting ps (pass h ds) x).serials ≡ serials (after h (pass h ds))
   pub stands : TunnelsStand (after h (pass h ds)) ds ts (passes.pass_pairs ss ks ch ready ts qs x)
 
 -- in a tunnel with both directions spent
-pass-spent : (ps : List Peer) (h : List ControllerAct) (d e : Way) (ds : List Way) (ts : List Tunnel) (qs : List Pair) (ss : List Station) (ks : List (List ℕ)) (ready : List Bool) (ch : passes.Effect) (x : Drafted)
-    → IsSpent h d → IsSpent h e → Untouched h (after h (pass h ds)) d → Untouched h (after h (pass h ds)) e → PassIs ps h ds ts qs ss ks ready ch x → PassIs ps h (d ∷ e ∷ ds) ts qs ss ks ready ch x
+pass-spent : (ps : List Peer) (h : List ControllerAct) (d e : Way) (ds : List Way) (ts : List Tunnel) (qs : List Pair) (ss : List Station)
+    (ks : List (List ℕ)) (ready : List Bool) (ch : passes.Effect) (x : Drafted)
+    → IsSpent h d → IsSpent h e → Untouched h (after h (pass h ds)) d → Untouched h (after h (pass h ds)) e
+        → PassIs ps h ds ts qs ss ks ready ch x → PassIs ps h (d ∷ e ∷ ds) ts qs ss ks ready ch x
 pass-spent ps h d e ds ts qs ss ks ready ch x a b u v k = record {
   draft = k.draft ∙ ap (λ os. drafting ps os x) (sym none);
   serials = subst (λ os. (drafting ps os x).serials ≡ serials (after h os)) (sym none) k.serials;
-  stands = subst (λ os. TunnelsStand (after h os) (d ∷ e ∷ ds) ts (passes.pass_pairs ss ks ch ready ts qs x)) (sym none) (left_out d e ds ts _ (spent-whole _ d (spent-stays h (after h (pass h ds)) d a u)) (spent-whole _ e (spent-stays h (after h (pass h ds)) e b v)) k.stands);
+  stands = subst (λ os. TunnelsStand (after h os) (d ∷ e ∷ ds) ts (passes.pass_pairs ss ks ch ready ts qs x)) (sym none)
+      (left_out d e ds ts _ (spent-whole _ d (spent-stays h (after h (pass h ds)) d a u))
+      (spent-whole _ e (spent-stays h (after h (pass h ds)) e b v)) k.stands);
 }
   where
     none : pass h (d ∷ e ∷ ds) ≡ pass h ds
@@ -189,7 +218,8 @@ same-pairs : (a b c d : Progress) (x y : List Pair) → a ≡ b → c ≡ d → 
 same-pairs a b c d x y e f g = rw (e, f, g) refl
 
 -- in a tunnel that stands
-pass-two : (ps : List Peer) (h : List ControllerAct) (d e : Way) (ds : List Way) (t : Tunnel) (ts : List Tunnel) (q : Pair) (qs : List Pair) (ss : List Station) (ks : List (List ℕ)) (ready : List Bool) (ch : passes.Effect) (x : Drafted)
+pass-two : (ps : List Peer) (h : List ControllerAct) (d e : Way) (ds : List Way) (t : Tunnel) (ts : List Tunnel) (q : Pair) (qs : List Pair)
+    (ss : List Station) (ks : List (List ℕ)) (ready : List Bool) (ch : passes.Effect) (x : Drafted)
     → IsTunnel t d e → ch (direction_of d) q.forth ≡ progress_of h d → ch (direction_of e) q.back ≡ progress_of h e
     → Drafts ps h d ss ks ready x
     → Untouched h (first_past h d) e
@@ -206,13 +236,16 @@ pass-two ps h d e ds t ts q qs ss ks ready ch x a b c f u g v w k = record {
 }
   where
     last : after h (pass h (d ∷ e ∷ ds)) ≡ last_past h d e ds
-    last = after-append h (give h d) (give (first_past h d) e ++ pass (second_past h d e) ds) ∙ after-append (first_past h d) (give (first_past h d) e) (pass (second_past h d e) ds)
+    last = after-append h (give h d) (give (first_past h d) e ++ pass (second_past h d e) ds)
+        ∙ after-append (first_past h d) (give (first_past h d) e) (pass (second_past h d e) ds)
 
     drafted : drafting ps (pass h (d ∷ e ∷ ds)) x ≡ drafting ps (pass (second_past h d e) ds) (second_draft ps h d e x)
-    drafted = drafting-append ps (give h d) (give (first_past h d) e ++ pass (second_past h d e) ds) x ∙ drafting-append ps (give (first_past h d) e) (pass (second_past h d e) ds) (first_draft ps h d x)
+    drafted = drafting-append ps (give h d) (give (first_past h d) e ++ pass (second_past h d e) ds) x
+        ∙ drafting-append ps (give (first_past h d) e) (pass (second_past h d e) ds) (first_draft ps h d x)
 
     forth : passes.draft_forth ss ks ch ready t q x ≡ first_draft ps h d x
-    forth = ap (λ y. passes.drafted ss ks ready y (ch y q.forth) x) a.forth ∙ ap (λ z. passes.drafted ss ks ready (direction_of d) z x) b ∙ f.draft
+    forth = ap (λ y. passes.drafted ss ks ready y (ch y q.forth) x) a.forth ∙ ap (λ z. passes.drafted ss ks ready (direction_of d) z x) b
+        ∙ f.draft
 
     here : ch (direction_of e) q.back ≡ progress_of (first_past h d) e
     here = c ∙ sym u.progress
@@ -230,21 +263,25 @@ pass-two ps h d e ds t ts q qs ss ks ready ch x a b c f u g v w k = record {
         ∙ ap (λ z. passes.advanced ks ready (direction_of d) z x) b
         ∙ f.progress ∙ sym v.progress
 
-    back-comes : passes.advanced ks ready (tunnels.back t) (ch (tunnels.back t) q.back) (passes.draft_forth ss ks ch ready t q x) ≡ progress_of (last_past h d e ds) e
+    back-comes : passes.advanced ks ready (tunnels.back t) (ch (tunnels.back t) q.back) (passes.draft_forth ss ks ch ready t q x) ≡
+        progress_of (last_past h d e ds) e
     back-comes =
         ap (λ z. passes.advanced ks ready (tunnels.back t) (ch (tunnels.back t) q.back) z) forth
         ∙ ap (λ y. passes.advanced ks ready y (ch y q.back) (first_draft ps h d x)) a.back
         ∙ ap (λ z. passes.advanced ks ready (direction_of e) z (first_draft ps h d x)) here
         ∙ g.progress ∙ sym w.progress
 
-    pairs : passes.pass_pairs ss ks ch ready (t ∷ ts) (q ∷ qs) x ≡ pair_of (progress_of (last_past h d e ds) d) (progress_of (last_past h d e ds) e) ∷ passes.pass_pairs ss ks ch ready ts qs (second_draft ps h d e x)
+    pairs : passes.pass_pairs ss ks ch ready (t ∷ ts) (q ∷ qs) x ≡ pair_of (progress_of (last_past h d e ds) d)
+        (progress_of (last_past h d e ds) e) ∷ passes.pass_pairs ss ks ch ready ts qs (second_draft ps h d e x)
     pairs = same-pairs _ _ _ _ _ _ forth-comes back-comes (ap (passes.pass_pairs ss ks ch ready ts qs) back)
 
 differs : (d e : Way) (m : ℕ) → d.id ≡ m → m + 1 ≤ e.id → ((d.id == e.id) ≡ false) × ((e.id == d.id) ≡ false)
 differs d e m i j = (grind arith, grind arith)
 
-pub pass-is : (ps : List Peer) (ss : List Station) (ks : List (List ℕ)) (ready : List Bool) (ch : passes.Effect) (h : List ControllerAct) (ds : List Way) (ts : List Tunnel) (qs : List Pair) (x : Drafted) (m : ℕ)
-    → IsControllerPast (length ps) h → PlainAnswers h → Rising m ds → ((d : Way) → Has d ds → Has d (directions h)) → AtHand ps h ss ks ready → x.serials ≡ serials h → Changed ch h ds ts qs
+pub pass-is : (ps : List Peer) (ss : List Station) (ks : List (List ℕ)) (ready : List Bool) (ch : passes.Effect) (h : List ControllerAct)
+    (ds : List Way) (ts : List Tunnel) (qs : List Pair) (x : Drafted) (m : ℕ)
+    → IsControllerPast (length ps) h → PlainAnswers h → Rising m ds → ((d : Way) → Has d ds → Has d (directions h))
+        → AtHand ps h ss ks ready → x.serials ≡ serials h → Changed ch h ds ts qs
     → PassIs ps h ds ts qs ss ks ready ch x
 pass-is ps ss ks ready ch h [] _ _ x m l y r f b n none_changed = record { draft = refl; serials = n; stands = no_more }
 pass-is ps ss ks ready ch h (d ∷ []) ts qs x m l y r f b n c = elim c [ ]
@@ -268,19 +305,26 @@ pass-is ps ss ks ready ch h (d ∷ e ∷ ds) (t ∷ ts) (q ∷ qs) x m l y r f b
     let he1 : Has e (directions (first_past h d)) = has-give h d e he in
     let l2 : IsControllerPast (length ps) (second_past h d e) = past-give (length ps) (first_past h d) e l1 he1 in
     let y2 : PlainAnswers (second_past h d e) = plain-given (first_past h d) e (give (first_past h d) e) y1 (given (first_past h d) e) in
-    let b2 : AtHand ps (second_past h d e) ss ks ready = after-given ps (first_past h d) e ss ks ready (give (first_past h d) e) b1 (given (first_past h d) e) in
-    let n2 : (second_draft ps h d e x).serials ≡ serials (second_past h d e) = serials-given ps (first_past h d) e (first_draft ps h d x) (give (first_past h d) e) n1 (given (first_past h d) e) in
-    let f2 : (z : Way) → Has z ds → Has z (directions (second_past h d e)) = λ z k. has-give (first_past h d) e z (has-give h d z (f z (inr (inr k)))) in
+    let b2 : AtHand ps (second_past h d e) ss ks ready = after-given ps (first_past h d) e ss ks ready (give (first_past h d) e) b1
+        (given (first_past h d) e) in
+    let n2 : (second_draft ps h d e x).serials ≡ serials (second_past h d e) = serials-given ps (first_past h d) e (first_draft ps h d x)
+        (give (first_past h d) e) n1 (given (first_past h d) e) in
+    let f2 : (z : Way) → Has z ds → Has z (directions (second_past h d e)) =
+        λ z k. has-give (first_past h d) e z (has-give h d z (f z (inr (inr k)))) in
     let moved : (z : Way) → Has z ds → Untouched h (second_past h d e) z = λ z k.
     and-untouched h (first_past h d) (second_past h d e) z
     (untouched-give (length ps) h d z l hd (f z (inr (inr k))) (let o = late z k in let i = r.0 in grind arith))
-    (untouched-give (length ps) (first_past h d) e z l1 he1 (has-give h d z (f z (inr (inr k)))) (let o = late z k in let i = r.1.0 in grind arith)) in
+    (untouched-give (length ps) (first_past h d) e z l1 he1 (has-give h d z (f z (inr (inr k)))) (let o = late z k in let i = r.1.0 in
+        grind arith)) in
     pass-two ps h d e ds t ts q qs ss ks ready ch x a v w
     (drafts ps h d ss ks ready x l y hd b n)
     (untouched-give (length ps) h d e l hd he apart.1)
     (drafts ps (first_past h d) e ss ks ready (first_draft ps h d x) l1 y1 he1 b1 n1)
     (and-untouched (first_past h d) (second_past h d e) (last_past h d e ds) d
     (untouched-give (length ps) (first_past h d) e d l1 he1 hd1 apart.0)
-    (untouched-pass (length ps) (second_past h d e) ds d l2 f2 (has-give (first_past h d) e d hd1) (λ z k. let o = late z k in let i = r.0 in grind arith)))
-    (untouched-pass (length ps) (second_past h d e) ds e l2 f2 (has-give (first_past h d) e e he1) (λ z k. let o = late z k in let i = r.1.0 in grind arith))
-    (pass-is ps ss ks ready ch (second_past h d e) ds ts qs (second_draft ps h d e x) (m + 1 + 1) l2 y2 r.1.1 f2 b2 n2 (changed-moves ch h (second_past h d e) ds ts qs c moved))
+    (untouched-pass (length ps) (second_past h d e) ds d l2 f2 (has-give (first_past h d) e d hd1) (λ z k. let o = late z k in
+        let i = r.0 in grind arith)))
+    (untouched-pass (length ps) (second_past h d e) ds e l2 f2 (has-give (first_past h d) e e he1) (λ z k. let o = late z k in
+        let i = r.1.0 in grind arith))
+    (pass-is ps ss ks ready ch (second_past h d e) ds ts qs (second_draft ps h d e x) (m + 1 + 1) l2 y2 r.1.1 f2 b2 n2
+        (changed-moves ch h (second_past h d e) ds ts qs c moved))

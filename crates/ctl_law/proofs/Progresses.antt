@@ -15,18 +15,22 @@ use Rattle.hist_controller.specs.Left.{listed, newest_left, older_left}
 abbrev pub progress : Bool → Bool → Option HalfOrder → Option Life → Option Life → Progress
 progress o w q a b = record { over = o; wanted = w; waits = q; older = a; newer = b }
 
-pub same-progress : (o p w v : Bool) (q r : Option HalfOrder) (a b m n : Option Life) → o ≡ p → w ≡ v → q ≡ r → a ≡ b → m ≡ n → progress o w q a m ≡ progress p v r b n
+pub same-progress : (o p w v : Bool) (q r : Option HalfOrder) (a b m n : Option Life) → o ≡ p → w ≡ v → q ≡ r → a ≡ b → m ≡ n
+    → progress o w q a m ≡ progress p v r b n
 same-progress o p w v q r a b m n e f g i j = rw (e, f, g, i, j) refl
 
-pub same-first : (f k : Association → Life) (o : Option Association) → ((x : Association) → o ≡ Some x → f x ≡ k x) → option_map f o ≡ option_map k o
+pub same-first : (f k : Association → Life) (o : Option Association) → ((x : Association) → o ≡ Some x → f x ≡ k x)
+    → option_map f o ≡ option_map k o
 same-first f k None e = refl
 same-first f k (Some x) e = ap Some (e x refl)
 
-pub made-first : (g : Life → Life) (f k : Association → Life) (o : Option Association) → ((x : Association) → o ≡ Some x → g (f x) ≡ k x) → steps.made g (option_map f o) ≡ option_map k o
+pub made-first : (g : Life → Life) (f k : Association → Life) (o : Option Association) → ((x : Association) → o ≡ Some x → g (f x) ≡ k x)
+    → steps.made g (option_map f o) ≡ option_map k o
 made-first g f k None e = refl
 made-first g f k (Some x) e = ap Some (e x refl)
 
-pub kept-first : (g : Life → Option Life) (f k : Association → Life) (o : Option Association) → ((x : Association) → o ≡ Some x → g (f x) ≡ Some (k x)) → steps.kept g (option_map f o) ≡ option_map k o
+pub kept-first : (g : Life → Option Life) (f k : Association → Life) (o : Option Association)
+    → ((x : Association) → o ≡ Some x → g (f x) ≡ Some (k x)) → steps.kept g (option_map f o) ≡ option_map k o
 kept-first g f k None e = refl
 kept-first g f k (Some x) e = e x refl
 
@@ -36,7 +40,9 @@ older-left d h x e = (first-some _ (left d h) x e).0
 pub newest-left : (d : Way) (h : List ControllerAct) (x : Association) → newest_left d h ≡ Some x → Has x (left d h)
 newest-left d h x e = (first-some _ (left d h) x e).0
 
-pub any-two : (p : Association → Bool) (q : Life → Bool) (f : Association → Life) (a b : Option Association) → ((x : Association) → p x ≡ q (f x)) → list_any p (listed a ++ listed b) ≡ (steps.when q (option_map f a) || steps.when q (option_map f b))
+pub any-two : (p : Association → Bool) (q : Life → Bool) (f : Association → Life) (a b : Option Association)
+    → ((x : Association) → p x ≡ q (f x)) → list_any p (listed a ++ listed b) ≡ (steps.when q (option_map f a)
+    || steps.when q (option_map f b))
 any-two p q f None None e = refl
 any-two p q f None (Some x) e = rw (e x) (grind arith)
 any-two p q f (Some y) None e = rw (e y) (grind arith)

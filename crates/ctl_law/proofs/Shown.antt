@@ -13,11 +13,13 @@ use Rattle.ctl_core.specs.Core.{told_nothing}
 use Rattle.ctl_law.specs.Told.{MayAllBeTold, run}
 
 abbrev peers : List Peer
-peers = record { name = codes "a"; address = V4 (192 ∷ 0 ∷ 2 ∷ 1 ∷ []) } ∷ record { name = codes "b"; address = V4 (198 ∷ 51 ∷ 100 ∷ 1 ∷ []) } ∷ []
+peers = record { name = codes "a"; address = V4 (192 ∷ 0 ∷ 2 ∷ 1 ∷ []) }
+    ∷ record { name = codes "b"; address = V4 (198 ∷ 51 ∷ 100 ∷ 1 ∷ []) } ∷ []
 
 -- two keys, a tunnel, two sessions, and the answers to the readings and to the inbound puts
 abbrev setup : List CtlEvent
-setup = events.Command (commands.Keys k1) ∷ events.Command (commands.Keys k2) ∷ events.Command (commands.Tunnel t) ∷ events.Opened 0 ∷ events.Opened 1
+setup = events.Command (commands.Keys k1) ∷ events.Command (commands.Keys k2) ∷ events.Command (commands.Tunnel t) ∷ events.Opened 0
+    ∷ events.Opened 1
     ∷ events.Answered 0 (plain 200) ∷ events.Answered 1 (plain 200) ∷ events.Answered 1 (plain 201) ∷ events.Answered 0 (plain 201) ∷ []
 
 keyed : run (told_nothing peers) setup

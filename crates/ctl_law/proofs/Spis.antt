@@ -27,7 +27,9 @@ small n a b = let p : nat_le 257 (256 + n) ≡ true = grind arith in let q : nat
 one : (n : ℕ) (more : List ℕ) → fits n ≡ true → list_all fits more ≡ true → list_all fits (n ∷ more) ≡ true
 one n more e f = rw (e, f) refl
 
-of-order : (ps : List Peer) (p : ℕ) (k : List ControllerAct) (g s n : ℕ) (o : ControllerOrder) (more : List ℕ) → IsControllerPast p k → IsControllerPast p (Ordered g s n o ∷ k) → MayOrder k g o → list_all fits more ≡ true → list_all fits (spi_in (order_told ps o) ++ more) ≡ true
+of-order : (ps : List Peer) (p : ℕ) (k : List ControllerAct) (g s n : ℕ) (o : ControllerOrder) (more : List ℕ) → IsControllerPast p k
+    → IsControllerPast p (Ordered g s n o ∷ k) → MayOrder k g o → list_all fits more ≡ true
+    → list_all fits (spi_in (order_told ps o) ++ more) ≡ true
 of-order ps p k g s n Read more l m i e = e
 of-order ps p k g s n (Policy r) more l m i e = e
 of-order ps p k g s n (PutIn x) more l m i e =
@@ -35,19 +37,24 @@ of-order ps p k g s n (PutIn x) more l m i e =
     let b : length (keys k) ≤ 1048576 = few-keys p k l in
     let c : x.serial ≡ serials k + 1 = i.serial in
     one (256 + x.serial) more (small x.serial (omega arith) (omega arith)) e
-of-order ps p k g s n (PutOut x) more l m i e = let q = left-serial p k l i.way x i.left in one (256 + x.serial) more (small x.serial q.0 q.1) e
+of-order ps p k g s n (PutOut x) more l m i e = let q = left-serial p k l i.way x i.left in
+    one (256 + x.serial) more (small x.serial q.0 q.1) e
 of-order ps p k g s n (RemoveIn r) more l m i e = e
 of-order ps p k g s n (RemoveOut r) more l m i e = e
 
-of-acts : (ps : List Peer) (p : ℕ) (k xs : List ControllerAct) → IsControllerPast p k → ControllerMayActAll p k xs → list_all fits (spis_of (all_done ps xs)) ≡ true
+of-acts : (ps : List Peer) (p : ℕ) (k xs : List ControllerAct) → IsControllerPast p k → ControllerMayActAll p k xs
+    → list_all fits (spis_of (all_done ps xs)) ≡ true
 of-acts ps p k [] l m = refl
 of-acts ps p k (Opened g s ∷ xs) l m = of-acts ps p (Opened g s ∷ k) xs (m.0, l) m.1
 of-acts ps p k (Cut g s ∷ xs) l m = of-acts ps p (Cut g s ∷ k) xs (m.0, l) m.1
 of-acts ps p k (Answered g s n a ∷ xs) l m = of-acts ps p (Answered g s n a ∷ k) xs (m.0, l) m.1
 of-acts ps p k (Heard g s t ∷ xs) l m = of-acts ps p (Heard g s t ∷ k) xs (m.0, l) m.1
-of-acts ps p k (Ordered g s n o ∷ xs) l m = of-order ps p k g s n o (spis_of (all_done ps xs)) l (m.0, l) m.0.3 (of-acts ps p (Ordered g s n o ∷ k) xs (m.0, l) m.1)
+of-acts ps p k (Ordered g s n o ∷ xs) l m = of-order ps p k g s n o (spis_of (all_done ps xs)) l (m.0, l) m.0.3
+    (of-acts ps p (Ordered g s n o ∷ k) xs (m.0, l) m.1)
 of-acts ps p k (Accepted c ∷ xs) l m = of-acts ps p (Accepted c ∷ k) xs (m.0, l) m.1
 of-acts ps p k (Refused w ∷ xs) l m = of-acts ps p (Refused w ∷ k) xs (m.0, l) m.1
 
-pub spis-fit : (ps : List Peer) (h : List ControllerAct) (c : Core) (e : CtlEvent) → IsControllerPast (length ps) h → PlainAnswers h → StandsFor ps h c → MayBeTold c e → list_all (λ n. nat_le 257 n && nat_le n 1048832) (spis_of (stepped c e).acts) ≡ true
-spis-fit ps h c e l y s m = ap (λ z. list_all fits (spis_of z)) (step-follows ps h c e l y s m).acts ∙ of-acts ps (length ps) h (block ps h (event_of e)) l (may-block ps h (event_of e))
+pub spis-fit : (ps : List Peer) (h : List ControllerAct) (c : Core) (e : CtlEvent) → IsControllerPast (length ps) h → PlainAnswers h
+    → StandsFor ps h c → MayBeTold c e → list_all (λ n. nat_le 257 n && nat_le n 1048832) (spis_of (stepped c e).acts) ≡ true
+spis-fit ps h c e l y s m = ap (λ z. list_all fits (spis_of z)) (step-follows ps h c e l y s m).acts
+    ∙ of-acts ps (length ps) h (block ps h (event_of e)) l (may-block ps h (event_of e))

@@ -48,7 +48,8 @@ begins ps = record { gateways = first-stations ps 0 ps; tunnels = no_more; keys 
 known : (ps : List Peer) (h : List ControllerAct) (c : Core) (g : ℕ) → StandsFor ps h c → g < length c.stations → g < length ps
 known ps h c g s i = subst (λ n. g < n) (count-of ps h c.stations s.gateways) i
 
-pub step-follows : (ps : List Peer) (h : List ControllerAct) (c : Core) (e : CtlEvent) → IsControllerPast (length ps) h → PlainAnswers h → StandsFor ps h c → MayBeTold c e → Follows ps h (block ps h (event_of e)) (stepped c e)
+pub step-follows : (ps : List Peer) (h : List ControllerAct) (c : Core) (e : CtlEvent) → IsControllerPast (length ps) h → PlainAnswers h
+    → StandsFor ps h c → MayBeTold c e → Follows ps h (block ps h (event_of e)) (stepped c e)
 step-follows ps h c (events.Command command) l y s m = commanded ps h c command l y s
 step-follows ps h c (events.Opened g) l y s m = opened ps h c g l y s (known ps h c g s m)
 step-follows ps h c (events.Cut g) l y s m = cut ps h c g l y s (known ps h c g s m)
@@ -57,7 +58,8 @@ step-follows ps h c (events.Noticed g t) l y s m = noticed ps h c g t l y s (kno
 
 -- ## what stays so
 
-pub past-stays : (ps : List Peer) (h : List ControllerAct) (e : ControllerEvent) → IsControllerPast (length ps) h → IsControllerPast (length ps) (after h (block ps h e))
+pub past-stays : (ps : List Peer) (h : List ControllerAct) (e : ControllerEvent) → IsControllerPast (length ps) h
+    → IsControllerPast (length ps) (after h (block ps h e))
 past-stays ps h e l = past-after (length ps) h (block ps h e) l (may-block ps h e)
 
 plain-orders : (k xs : List ControllerAct) → Orders xs → PlainAnswers k → PlainAnswers (after k xs)
@@ -101,51 +103,72 @@ orders-asked k (Accepted c) = orders-command k c
 orders-asked k (Refused w) = tt
 
 plain-going : (h : List ControllerAct) (a : ControllerAct) → PlainAnswers (a ∷ h) → PlainAnswers (after h (going h a))
-plain-going h a y = plain-orders (a ∷ h) (asked_then (a ∷ h) (asked (a ∷ h) a)) (orders-more (asked (a ∷ h) a) _ (orders-asked (a ∷ h) a) (orders-pass (after (a ∷ h) (asked (a ∷ h) a)) (directions (after (a ∷ h) (asked (a ∷ h) a))))) y
+plain-going h a y = plain-orders (a ∷ h) (asked_then (a ∷ h) (asked (a ∷ h) a)) (orders-more (asked (a ∷ h) a) _ (orders-asked (a ∷ h) a)
+    (orders-pass (after (a ∷ h) (asked (a ∷ h) a)) (directions (after (a ∷ h) (asked (a ∷ h) a))))) y
 
-plain-if : (h : List ControllerAct) (b : Bool) (xs ys : List ControllerAct) → PlainAnswers (after h xs) → PlainAnswers (after h ys) → PlainAnswers (after h (if b then xs else ys))
+plain-if : (h : List ControllerAct) (b : Bool) (xs ys : List ControllerAct) → PlainAnswers (after h xs) → PlainAnswers (after h ys)
+    → PlainAnswers (after h (if b then xs else ys))
 plain-if h true xs ys a c = a
 plain-if h false xs ys a c = c
 
-plain-refusal : (h : List ControllerAct) (c : PlacedCommand) (o : Option Refusal) → PlainAnswers h → PlainAnswers (after h (by_refusal h c o))
+plain-refusal : (h : List ControllerAct) (c : PlacedCommand) (o : Option Refusal) → PlainAnswers h
+    → PlainAnswers (after h (by_refusal h c o))
 plain-refusal h c None y = plain-going h (Accepted c) y
 plain-refusal h c (Some w) y = y
 
-plain-answer : (ps : List Peer) (h : List ControllerAct) (g : ℕ) (a : Answer) (os : List ControllerOrder) → queue g h ≡ os → may_answer (core.order_or_none (core.front (map (waiting_of ps) (queue g h)))) a.status ≡ true → PlainAnswers h → PlainAnswers (after h (by_answer h g a os))
+plain-answer : (ps : List Peer) (h : List ControllerAct) (g : ℕ) (a : Answer) (os : List ControllerOrder) → queue g h ≡ os
+    → may_answer (core.order_or_none (core.front (map (waiting_of ps) (queue g h)))) a.status ≡ true → PlainAnswers h
+    → PlainAnswers (after h (by_answer h g a os))
 plain-answer ps h g a [] e m y = y
-plain-answer ps h g a (o ∷ os) e m y = plain-going h (Answered g (openings g h) (answered g h + 1) a) (ap (λ z. is_plain (oldest z) a.status) e ∙ plain-status ps o a.status (ap (λ z. may_answer (core.order_or_none (core.front (map (waiting_of ps) z))) a.status) (sym e) ∙ m), y)
+plain-answer ps h g a (o ∷ os) e m y = plain-going h (Answered g (openings g h) (answered g h + 1) a)
+    (ap (λ z. is_plain (oldest z) a.status) e
+    ∙ plain-status ps o a.status (ap (λ z. may_answer (core.order_or_none (core.front (map (waiting_of ps) z))) a.status) (sym e) ∙ m), y)
 
-pub plain-stays : (ps : List Peer) (h : List ControllerAct) (c : Core) (e : CtlEvent) → PlainAnswers h → StandsFor ps h c → MayBeTold c e → PlainAnswers (after h (block ps h (event_of e)))
-plain-stays ps h c (events.Command command) y s m = plain-refusal h (placed_command ps command) (refusal (length ps) h (placed_command ps command)) y
-plain-stays ps h c (events.Opened g) y s m = plain-if h (is_open g h) [] (going h (Opened g (openings g h + 1))) y (plain-going h (Opened g (openings g h + 1)) y)
-plain-stays ps h c (events.Cut g) y s m = plain-if h (is_open g h) (going h (Cut g (openings g h))) [] (plain-going h (Cut g (openings g h)) y) y
-plain-stays ps h c (events.Answered g a) y s m = plain-answer ps h g a (queue g h) refl (ap (λ z. may_answer z a.status) (sym (oldest-at ps h c.stations g s.gateways (known ps h c g s m.0))) ∙ m.1) y
-plain-stays ps h c (events.Noticed g t) y s m = plain-if h (is_open g h) (going h (Heard g (openings g h) t)) [] (plain-going h (Heard g (openings g h) t) y) y
+pub plain-stays : (ps : List Peer) (h : List ControllerAct) (c : Core) (e : CtlEvent) → PlainAnswers h → StandsFor ps h c → MayBeTold c e
+    → PlainAnswers (after h (block ps h (event_of e)))
+plain-stays ps h c (events.Command command) y s m =
+    plain-refusal h (placed_command ps command) (refusal (length ps) h (placed_command ps command)) y
+plain-stays ps h c (events.Opened g) y s m = plain-if h (is_open g h) [] (going h (Opened g (openings g h + 1))) y
+    (plain-going h (Opened g (openings g h + 1)) y)
+plain-stays ps h c (events.Cut g) y s m = plain-if h (is_open g h) (going h (Cut g (openings g h))) []
+    (plain-going h (Cut g (openings g h)) y) y
+plain-stays ps h c (events.Answered g a) y s m =
+    plain-answer ps h g a (queue g h) refl
+    (ap (λ z. may_answer z a.status) (sym (oldest-at ps h c.stations g s.gateways (known ps h c g s m.0))) ∙ m.1) y
+plain-stays ps h c (events.Noticed g t) y s m = plain-if h (is_open g h) (going h (Heard g (openings g h) t)) []
+    (plain-going h (Heard g (openings g h) t) y) y
 
 -- ## a run
 
 all-done-append : (ps : List Peer) (xs ys : List ControllerAct) → all_done ps (xs ++ ys) ≡ all_done ps xs ++ all_done ps ys
 all-done-append ps [] ys = refl
-all-done-append ps (x ∷ xs) ys = ap (λ z. done_at ps x ++ z) (all-done-append ps xs ys) ∙ sym (append_assoc (done_at ps x) (all_done ps xs) (all_done ps ys))
+all-done-append ps (x ∷ xs) ys = ap (λ z. done_at ps x ++ z) (all-done-append ps xs ys)
+    ∙ sym (append_assoc (done_at ps x) (all_done ps xs) (all_done ps ys))
 
 pub record RunFollows (ps : List Peer) (h : List ControllerAct) (c : Core) (es : List CtlEvent) : Type 0 where
   pub acts : run c es ≡ all_done ps (history ps h (events_of es))
   pub stands : StandsFor ps (after h (history ps h (events_of es))) (run_core c es)
 
-pub run-follows : (ps : List Peer) (h : List ControllerAct) (c : Core) (es : List CtlEvent) → IsControllerPast (length ps) h → PlainAnswers h → StandsFor ps h c → MayAllBeTold c es → RunFollows ps h c es
+pub run-follows : (ps : List Peer) (h : List ControllerAct) (c : Core) (es : List CtlEvent) → IsControllerPast (length ps) h
+    → PlainAnswers h → StandsFor ps h c → MayAllBeTold c es → RunFollows ps h c es
 run-follows ps h c [] l y s m = record { acts = refl; stands = s }
 run-follows ps h c (e ∷ es) l y s m =
     let f = step-follows ps h c e l y s m.0 in
-    let r = run-follows ps (after h (block ps h (event_of e))) (stepped c e).core es (past-stays ps h (event_of e) l) (plain-stays ps h c e y s m.0) f.stands m.1 in
-    let b : all_done ps (block ps h (event_of e) ++ history ps (after h (block ps h (event_of e))) (events_of es)) ≡ all_done ps (block ps h (event_of e)) ++ all_done ps (history ps (after h (block ps h (event_of e))) (events_of es)) = all-done-append ps (block ps h (event_of e)) (history ps (after h (block ps h (event_of e))) (events_of es)) in
+    let r = run-follows ps (after h (block ps h (event_of e))) (stepped c e).core es (past-stays ps h (event_of e) l)
+        (plain-stays ps h c e y s m.0) f.stands m.1 in
+    let b : all_done ps (block ps h (event_of e) ++ history ps (after h (block ps h (event_of e))) (events_of es)) ≡ all_done ps
+        (block ps h (event_of e)) ++ all_done ps (history ps (after h (block ps h (event_of e))) (events_of es)) =
+        all-done-append ps (block ps h (event_of e)) (history ps (after h (block ps h (event_of e))) (events_of es)) in
     record {
       acts = ap (λ z. z ++ run (stepped c e).core es) f.acts ∙ ap (λ z. all_done ps (block ps h (event_of e)) ++ z) r.acts ∙ sym b;
-      stands = subst (λ z. StandsFor ps z (run_core (stepped c e).core es)) (sym (after-append h (block ps h (event_of e)) (history ps (after h (block ps h (event_of e))) (events_of es)))) r.stands;
+      stands = subst (λ z. StandsFor ps z (run_core (stepped c e).core es))
+          (sym (after-append h (block ps h (event_of e)) (history ps (after h (block ps h (event_of e))) (events_of es)))) r.stands;
     }
 
 -- ## what a user sees
 
-pub expects : (ps : List Peer) (h : List ControllerAct) (c : Core) (g : ℕ) → StandsFor ps h c → g < length ps → expected c g ≡ option_map (order_told ps) (oldest (queue g h))
+pub expects : (ps : List Peer) (h : List ControllerAct) (c : Core) (g : ℕ) → StandsFor ps h c → g < length ps
+    → expected c g ≡ option_map (order_told ps) (oldest (queue g h))
 expects ps h c g s i = oldest-at ps h c.stations g s.gateways i ∙ front (queue g h)
   where
     front : (q : List ControllerOrder) → core.order_or_none (core.front (map (waiting_of ps) q)) ≡ option_map (order_told ps) (oldest q)
@@ -162,10 +185,13 @@ refusals-done ps (Ordered g s n o ∷ xs) = refusals-done ps xs
 refusals-done ps (Accepted c ∷ xs) = refusals-done ps xs
 refusals-done ps (Refused w ∷ xs) = ap (λ z. w ∷ z) (refusals-done ps xs)
 
-pub refuses-first : (ps : List Peer) (h : List ControllerAct) (c : Core) (e : CtlEvent) → IsControllerPast (length ps) h → PlainAnswers h → StandsFor ps h c → MayBeTold c e → refusals_of (stepped c e).acts ≡ one_or_none (event_refusal ps h (event_of e))
-refuses-first ps h c e l y s m = ap refusals_of (step-follows ps h c e l y s m).acts ∙ refusals-done ps (block ps h (event_of e)) ∙ refuses ps h (event_of e)
+pub refuses-first : (ps : List Peer) (h : List ControllerAct) (c : Core) (e : CtlEvent) → IsControllerPast (length ps) h → PlainAnswers h
+    → StandsFor ps h c → MayBeTold c e → refusals_of (stepped c e).acts ≡ one_or_none (event_refusal ps h (event_of e))
+refuses-first ps h c e l y s m = ap refusals_of (step-follows ps h c e l y s m).acts ∙ refusals-done ps (block ps h (event_of e))
+    ∙ refuses ps h (event_of e)
 
-pub serials-fit : (ps : List Peer) (h : List ControllerAct) (c : Core) → IsControllerPast (length ps) h → StandsFor ps h c → (c.serials ≤ length c.keys) × (length c.keys ≤ 1048576)
+pub serials-fit : (ps : List Peer) (h : List ControllerAct) (c : Core) → IsControllerPast (length ps) h → StandsFor ps h c
+    → (c.serials ≤ length c.keys) × (length c.keys ≤ 1048576)
 serials-fit ps h c l s =
     let a : length c.keys ≡ length (keys h) = ap length s.keys in
     let b : serials h ≤ length (keys h) = few-serials (length ps) h l in
@@ -173,5 +199,6 @@ serials-fit ps h c l s =
     let e : c.serials ≡ serials h = s.serials in
     (omega arith, omega arith)
 
-pub unused : (ps : List Peer) (h : List ControllerAct) (c : Core) → IsControllerPast (length ps) h → StandsFor ps h c → spare h ≡ drop c.serials c.keys
+pub unused : (ps : List Peer) (h : List ControllerAct) (c : Core) → IsControllerPast (length ps) h → StandsFor ps h c
+    → spare h ≡ drop c.serials c.keys
 unused ps h c l s = spare-keys (length ps) h l ∙ ap (λ n. drop n (keys h)) (sym s.serials) ∙ ap (drop c.serials) (sym s.keys)

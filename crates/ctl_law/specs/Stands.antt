@@ -109,8 +109,10 @@ pub record IsTunnel (t : Tunnel) (d e : Way) : Type 0 where
 -- directions may be left out.
 pub data TunnelsStand (h : List ControllerAct) : List Way → List Tunnel → List Pair → Type 0 where
   no_more : TunnelsStand h [] [] []
-  left_out : (d e : Way) (ds : List Way) (ts : List Tunnel) (ps : List Pair) → is_spent d h ≡ true → is_spent e h ≡ true → TunnelsStand h ds ts ps → TunnelsStand h (d ∷ e ∷ ds) ts ps
-  stands : (d e : Way) (ds : List Way) (t : Tunnel) (ts : List Tunnel) (ps : List Pair) → IsTunnel t d e → TunnelsStand h ds ts ps → TunnelsStand h (d ∷ e ∷ ds) (t ∷ ts) (record { forth = progress_of h d; back = progress_of h e } ∷ ps)
+  left_out : (d e : Way) (ds : List Way) (ts : List Tunnel) (ps : List Pair) → is_spent d h ≡ true → is_spent e h ≡ true
+      → TunnelsStand h ds ts ps → TunnelsStand h (d ∷ e ∷ ds) ts ps
+  stands : (d e : Way) (ds : List Way) (t : Tunnel) (ts : List Tunnel) (ps : List Pair) → IsTunnel t d e → TunnelsStand h ds ts ps
+      → TunnelsStand h (d ∷ e ∷ ds) (t ∷ ts) (record { forth = progress_of h d; back = progress_of h e } ∷ ps)
 
 -- ## the whole
 

@@ -38,7 +38,8 @@ never xs ys differ = case (bytes_eq xs ys) refl
     case false e = refl
 
 -- a name with another front
-pub other-front : (front start digits xs : List ℕ) → bytes_eq start front ≡ false → length start ≡ length front → bytes_eq (front ++ xs) (start ++ digits) ≡ false
+pub other-front : (front start digits xs : List ℕ) → bytes_eq start front ≡ false → length start ≡ length front
+    → bytes_eq (front ++ xs) (start ++ digits) ≡ false
 other-front front start digits xs e l = never (front ++ xs) (start ++ digits) differ
   where
     differ : front ++ xs ≡ start ++ digits → ⊥
@@ -51,14 +52,17 @@ other-front front start digits xs e l = never (front ++ xs) (start ++ digits) di
 
 -- a name shorter than the front
 pub short-name : (front name xs : List ℕ) → length name < length front → bytes_eq (front ++ xs) name ≡ false
-short-name front name xs l = never (front ++ xs) name (λ e. absurd (let n : length (front ++ xs) ≡ length name = ap length e in grind (arith, common_steps)))
+short-name front name xs l = never (front ++ xs) name (λ e. absurd (let n : length (front ++ xs) ≡ length name = ap length e in
+    grind (arith, common_steps)))
 
 drop-front : (front xs ys : List ℕ) → front ++ xs ≡ front ++ ys → xs ≡ ys
 drop-front [] xs ys e = e
 drop-front (c ∷ front) xs ys e = drop-front front xs ys cc
 
 -- what is read is what was written
-by-form : (t : List ℕ) (n : ℕ) (b more : Bool) → is_number t ≡ b → nat_lt (2 ^ 64 - 1) (digits_value 10 t) ≡ more → (if not b then Err Form else if more then Err Range else Ok (digits_value 10 t)) ≡ Ok n → (is_number t ≡ true) × (digits_value 10 t ≡ n) × (digits_value 10 t < 2 ^ 64)
+by-form : (t : List ℕ) (n : ℕ) (b more : Bool) → is_number t ≡ b → nat_lt (2 ^ 64 - 1) (digits_value 10 t) ≡ more
+    → (if not b then Err Form else if more then Err Range else Ok (digits_value 10 t)) ≡ Ok n → (is_number t ≡ true)
+    × (digits_value 10 t ≡ n) × (digits_value 10 t < 2 ^ 64)
 by-form t n false more e f h = cc
 by-form t n true true e f h = cc
 by-form t n true false e f h = (e, cc, grind (arith, common_steps))
@@ -80,18 +84,21 @@ unfolding number_of
 sound t n e =
     let f = by-form t n (is_number t) (nat_lt (2 ^ 64 - 1) (digits_value 10 t)) refl refl e in
     let g = three (not (length t == 0)) (not (get_or t 0 0 == 48) || length t == 1) (list_all is_ascii_digit t) f.0 in
-    let h : decimal (digits_value 10 t) ≡ t = decimal-digits_value decimal_model t g.2 (some-digit (length t) g.0) (lone-zero (get_or t 0 0) (length t) g.1) f.2 in
+    let h : decimal (digits_value 10 t) ≡ t = decimal-digits_value decimal_model t g.2 (some-digit (length t) g.0)
+        (lone-zero (get_or t 0 0) (length t) g.1) f.2 in
     sym (ap decimal f.1) ∙ h
 
 -- the name, cut at its front
-whole : (front name start digits : List ℕ) → start ≡ take (length front) name → digits ≡ drop (length front) name → bytes_eq start front ≡ true → name ≡ front ++ digits
+whole : (front name start digits : List ℕ) → start ≡ take (length front) name → digits ≡ drop (length front) name
+    → bytes_eq start front ≡ true → name ≡ front ++ digits
 whole front name start digits s d e =
     let a : take (length front) name ++ drop (length front) name ≡ name = take-append-drop (length front) name in
     let b : start ≡ front = same start front e in
     sym a ∙ ap (λ x. x ++ drop (length front) name) (sym s ∙ b) ∙ ap (λ x. front ++ x) (sym d)
 
 -- a name with another front
-pub differs : (front name start digits : List ℕ) → start ≡ take (length front) name → digits ≡ drop (length front) name → length start ≡ length front → bytes_eq start front ≡ false → (n : ℕ) → bytes_eq (front ++ decimal n) name ≡ false
+pub differs : (front name start digits : List ℕ) → start ≡ take (length front) name → digits ≡ drop (length front) name
+    → length start ≡ length front → bytes_eq start front ≡ false → (n : ℕ) → bytes_eq (front ++ decimal n) name ≡ false
 differs front name start digits s d l e n =
     let a : take (length front) name ++ drop (length front) name ≡ name = take-append-drop (length front) name in
     let w : name ≡ start ++ digits = sym a ∙ ap (λ x. x ++ drop (length front) name) (sym s) ∙ ap (λ x. start ++ x) (sym d) in
@@ -99,7 +106,9 @@ differs front name start digits s d l e n =
     ap (bytes_eq (front ++ decimal n)) w ∙ r
 
 -- the digits after the front are those of one number
-pub one-number : (front name start digits : List ℕ) (m : ℕ) → start ≡ take (length front) name → digits ≡ drop (length front) name → bytes_eq start front ≡ true → u64_of digits ≡ Ok m → ((n : ℕ) → n < 2 ^ 64 → u64_of (decimal n) ≡ Ok n) → (k : ℕ) → k < 2 ^ 32 → bytes_eq (front ++ decimal k) name ≡ (k == m)
+pub one-number : (front name start digits : List ℕ) (m : ℕ) → start ≡ take (length front) name → digits ≡ drop (length front) name
+    → bytes_eq start front ≡ true → u64_of digits ≡ Ok m → ((n : ℕ) → n < 2 ^ 64 → u64_of (decimal n) ≡ Ok n) → (k : ℕ) → k < 2 ^ 32
+    → bytes_eq (front ++ decimal k) name ≡ (k == m)
 one-number front name start digits m s d e u again k low = case (k == m) refl
   where
     case : (b : Bool) → (k == m) ≡ b → bytes_eq (front ++ decimal k) name ≡ b
@@ -118,7 +127,9 @@ one-number front name start digits m s d e u again k low = case (k == m) refl
             let c : k ≡ m = cc in grind arith
 
 -- they are no number
-pub no-number : (front name start digits : List ℕ) (bad : BadValue) → start ≡ take (length front) name → digits ≡ drop (length front) name → bytes_eq start front ≡ true → u64_of digits ≡ Err bad → ((n : ℕ) → n < 2 ^ 64 → u64_of (decimal n) ≡ Ok n) → (k : ℕ) → k < 2 ^ 32 → bytes_eq (front ++ decimal k) name ≡ false
+pub no-number : (front name start digits : List ℕ) (bad : BadValue) → start ≡ take (length front) name → digits ≡ drop (length front) name
+    → bytes_eq start front ≡ true → u64_of digits ≡ Err bad → ((n : ℕ) → n < 2 ^ 64 → u64_of (decimal n) ≡ Ok n) → (k : ℕ) → k < 2 ^ 32
+    → bytes_eq (front ++ decimal k) name ≡ false
 no-number front name start digits bad s d e u again k low = never (front ++ decimal k) name differ
   where
     differ : front ++ decimal k ≡ name → ⊥
@@ -128,12 +139,15 @@ no-number front name start digits bad s d e u again k low = never (front ++ deci
         let b : ◌≡◌ {A = Result ℕ BadValue} (Ok k) (Err bad) = sym a ∙ ap u64_of x ∙ u in cc
 
 -- the number is too large
-pub large-number : (front name start digits : List ℕ) (m : ℕ) → start ≡ take (length front) name → digits ≡ drop (length front) name → bytes_eq start front ≡ true → u64_of digits ≡ Ok m → ((n : ℕ) → n < 2 ^ 64 → u64_of (decimal n) ≡ Ok n) → 4294967295 < m → (k : ℕ) → k < 2 ^ 32 → bytes_eq (front ++ decimal k) name ≡ false
+pub large-number : (front name start digits : List ℕ) (m : ℕ) → start ≡ take (length front) name → digits ≡ drop (length front) name
+    → bytes_eq start front ≡ true → u64_of digits ≡ Ok m → ((n : ℕ) → n < 2 ^ 64 → u64_of (decimal n) ≡ Ok n) → 4294967295 < m → (k : ℕ)
+    → k < 2 ^ 32 → bytes_eq (front ++ decimal k) name ≡ false
 large-number front name start digits m s d e u again big k low =
     let a = one-number front name start digits m s d e u again k low in
     let b : (k == m) ≡ false = grind arith in a ∙ b
 
-apart : (front other name : List ℕ) (m : ℕ) → ((k n : ℕ) → front ++ decimal k ≡ other ++ decimal n → ⊥) → m < 2 ^ 32 → ((n : ℕ) → n < 2 ^ 32 → bytes_eq (front ++ decimal n) name ≡ (n == m)) → (n : ℕ) → bytes_eq (other ++ decimal n) name ≡ false
+apart : (front other name : List ℕ) (m : ℕ) → ((k n : ℕ) → front ++ decimal k ≡ other ++ decimal n → ⊥) → m < 2 ^ 32
+    → ((n : ℕ) → n < 2 ^ 32 → bytes_eq (front ++ decimal n) name ≡ (n == m)) → (n : ℕ) → bytes_eq (other ++ decimal n) name ≡ false
 apart front other name m both low all n = never (other ++ decimal n) name differ
   where
     differ : other ++ decimal n ≡ name → ⊥
@@ -148,12 +162,14 @@ unfolding head_of
 heads-differ k n e = let q : ◌≡◌ {A = ℕ} 105 111 = ap head_of e in absurd (omega arith)
 
 -- the name of an inbound half
-pub in-half : (name : List ℕ) (m : ℕ) → m < 2 ^ 32 → IsSerialAfter (codes "in/") name (Some m) → IsHalfName name (Some (record { side = sides.In; serial = m }))
+pub in-half : (name : List ℕ) (m : ℕ) → m < 2 ^ 32 → IsSerialAfter (codes "in/") name (Some m)
+    → IsHalfName name (Some (record { side = sides.In; serial = m }))
 unfolding in_name out_name
 in-half name m low all = record { inbound = all; outbound = λ n small. apart (codes "in/") (codes "out/") name m heads-differ low all n }
 
 -- the name of an outbound half
-pub out-half : (name : List ℕ) (m : ℕ) → IsSerialAfter (codes "in/") name None → IsSerialAfter (codes "out/") name (Some m) → IsHalfName name (Some (record { side = sides.Out; serial = m }))
+pub out-half : (name : List ℕ) (m : ℕ) → IsSerialAfter (codes "in/") name None → IsSerialAfter (codes "out/") name (Some m)
+    → IsHalfName name (Some (record { side = sides.Out; serial = m }))
 unfolding in_name out_name
 out-half name m none all = record { inbound = none; outbound = all }
 
@@ -169,24 +185,34 @@ again n small = number_of-decimal n _ small (omega arith)
 pub serial-is : (front name : List ℕ) → IsSerialAfter front name (serial_after front name)
 serial-is front name = by-length (nat_lt (length name) (length front)) refl
   where
-    by-size : (m : ℕ) (b : Bool) → nat_le m 4294967295 ≡ b → length front ≤ length name → bytes_eq (take (length front) name) front ≡ true → u64_of (drop (length front) name) ≡ Ok m → IsSerialAfter front name (if b then Some m else None)
-    by-size m true s l e u = λ k low. one-number front name (take (length front) name) (drop (length front) name) m refl refl e u again k low
-    by-size m false s l e u = λ k low. large-number front name (take (length front) name) (drop (length front) name) m refl refl e u again (grind (arith, common_steps)) k low
+    by-size : (m : ℕ) (b : Bool) → nat_le m 4294967295 ≡ b → length front ≤ length name → bytes_eq (take (length front) name) front ≡ true
+        → u64_of (drop (length front) name) ≡ Ok m → IsSerialAfter front name (if b then Some m else None)
+    by-size m true s l e u = λ k low. one-number front name (take (length front) name) (drop (length front) name) m refl refl e u again k
+        low
+    by-size m false s l e u = λ k low. large-number front name (take (length front) name) (drop (length front) name) m refl refl e u again
+        (grind (arith, common_steps)) k low
 
-    by-number : (r : Result ℕ BadValue) → length front ≤ length name → bytes_eq (take (length front) name) front ≡ true → u64_of (drop (length front) name) ≡ r → IsSerialAfter front name (number_or_none r)
+    by-number : (r : Result ℕ BadValue) → length front ≤ length name → bytes_eq (take (length front) name) front ≡ true
+        → u64_of (drop (length front) name) ≡ r → IsSerialAfter front name (number_or_none r)
     by-number (Ok m) l e u = by-size m (nat_le m 4294967295) refl l e u
-    by-number (Err bad) l e u = λ k low. no-number front name (take (length front) name) (drop (length front) name) bad refl refl e u again k low
+    by-number (Err bad) l e u = λ k low. no-number front name (take (length front) name) (drop (length front) name) bad refl refl e u again
+        k low
 
-    by-front : (b : Bool) → length front ≤ length name → bytes_eq (take (length front) name) front ≡ b → IsSerialAfter front name (if b then number_or_none (u64_of (drop (length front) name)) else None)
+    by-front : (b : Bool) → length front ≤ length name → bytes_eq (take (length front) name) front ≡ b
+        → IsSerialAfter front name (if b then number_or_none (u64_of (drop (length front) name)) else None)
     by-front true l e = by-number (u64_of (drop (length front) name)) l e refl
-    by-front false l e = λ k low. differs front name (take (length front) name) (drop (length front) name) refl refl (grind (arith, common_steps)) e k
+    by-front false l e = λ k low. differs front name (take (length front) name) (drop (length front) name) refl refl
+        (grind (arith, common_steps)) e k
 
-    by-length : (b : Bool) → nat_lt (length name) (length front) ≡ b → IsSerialAfter front name (if b then None else if bytes_eq (take (length front) name) front then number_or_none (u64_of (drop (length front) name)) else None)
+    by-length : (b : Bool) → nat_lt (length name) (length front) ≡ b
+        → IsSerialAfter front name (if b then None else if bytes_eq (take (length front) name) front
+        then number_or_none (u64_of (drop (length front) name)) else None)
     by-length true e = λ k low. short-name front name (decimal k) (grind arith)
     by-length false e = by-front (bytes_eq (take (length front) name) front) (grind arith) refl
 
 low-serial : (front name : List ℕ) (m : ℕ) → serial_after front name ≡ Some m → m < 2 ^ 32
-low-serial front name m = by-length (nat_lt (length name) (length front)) (bytes_eq (take (length front) name) front) (u64_of (drop (length front) name))
+low-serial front name m = by-length (nat_lt (length name) (length front)) (bytes_eq (take (length front) name) front)
+    (u64_of (drop (length front) name))
   where
     by-size : (n : ℕ) (b : Bool) → nat_le n 4294967295 ≡ b → (if b then Some n else None) ≡ Some m → m < 2 ^ 32
     by-size n true s e = let q : n ≡ m = cc in grind arith
@@ -201,9 +227,11 @@ low-serial front name m = by-length (nat_lt (length name) (length front)) (bytes
 -- a name is read as the half that has it
 pub half-is : (name : List ℕ) → IsHalfName name (half_named name)
 unfolding half_named
-half-is name = by-in (serial_after (codes "in/") name) (serial_after (codes "out/") name) (serial-is (codes "in/") name) (serial-is (codes "out/") name) (λ m. low-serial (codes "in/") name m)
+half-is name = by-in (serial_after (codes "in/") name) (serial_after (codes "out/") name) (serial-is (codes "in/") name)
+    (serial-is (codes "out/") name) (λ m. low-serial (codes "in/") name m)
   where
-    by-in : (a b : Option ℕ) → IsSerialAfter (codes "in/") name a → IsSerialAfter (codes "out/") name b → ((m : ℕ) → a ≡ Some m → m < 2 ^ 32) → IsHalfName name (half_by a b)
+    by-in : (a b : Option ℕ) → IsSerialAfter (codes "in/") name a → IsSerialAfter (codes "out/") name b
+        → ((m : ℕ) → a ≡ Some m → m < 2 ^ 32) → IsHalfName name (half_by a b)
     by-in (Some m) b p q low = in-half name m (low m refl) p
     by-in None (Some m) p q low = out-half name m p q
     by-in None None p q low = no-half name p q

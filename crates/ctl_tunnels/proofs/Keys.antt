@@ -28,15 +28,18 @@ aes-of-whole aes salt four =
     ap (λ k. take k (aes ++ salt)) n ∙ take-append_seam aes salt
 
 -- a key that a map of AES keys has is one that was seen
-pub seen-lookup : {K V : Type 0} (part : K → List ℕ) (salt : V → List ℕ) → ((v : V) → length (salt v) ≡ 4) → (k q : List ℕ) → q ≡ aes_part k → (es : List (K × V)) → is_some (lookup (λ x. bytes_eq q (part x)) es) ≡ is_seen k (map (λ e. part e.0 ++ salt e.1) es)
+pub seen-lookup : {K V : Type 0} (part : K → List ℕ) (salt : V → List ℕ) → ((v : V) → length (salt v) ≡ 4) → (k q : List ℕ) → q ≡ aes_part k
+    → (es : List (K × V)) → is_some (lookup (λ x. bytes_eq q (part x)) es) ≡ is_seen k (map (λ e. part e.0 ++ salt e.1) es)
 seen-lookup part salt four k q e [] = refl
 seen-lookup part salt four k q e (x ∷ xs) =
     let ih = seen-lookup part salt four k q e xs in
     let a : bytes_eq q (part x.0) ≡ bytes_eq (aes_part (part x.0 ++ salt x.1)) (aes_part k) =
-    flip q (part x.0) ∙ ap (bytes_eq (part x.0)) e ∙ ap (λ y. bytes_eq y (aes_part k)) (sym (aes-of-whole (part x.0) (salt x.1) (four x.1))) in
+    flip q (part x.0) ∙ ap (bytes_eq (part x.0)) e ∙ ap (λ y. bytes_eq y (aes_part k)) (sym (aes-of-whole (part x.0) (salt x.1) (four x.1)))
+        in
     case (bytes_eq q (part x.0)) (bytes_eq (aes_part (part x.0 ++ salt x.1)) (aes_part k)) a ih
   where
-    case : (b c : Bool) → b ≡ c → is_some (lookup (λ y. bytes_eq q (part y)) xs) ≡ is_seen k (map (λ z. part z.0 ++ salt z.1) xs) → is_some (cond b (Some x.1) (lookup (λ y. bytes_eq q (part y)) xs)) ≡ (c || is_seen k (map (λ z. part z.0 ++ salt z.1) xs))
+    case : (b c : Bool) → b ≡ c → is_some (lookup (λ y. bytes_eq q (part y)) xs) ≡ is_seen k (map (λ z. part z.0 ++ salt z.1) xs)
+        → is_some (cond b (Some x.1) (lookup (λ y. bytes_eq q (part y)) xs)) ≡ (c || is_seen k (map (λ z. part z.0 ++ salt z.1) xs))
     case true true f g = refl
     case false false f g = g
     case true false f g = cc
@@ -47,19 +50,26 @@ none-of None e = refl
 none-of (Some x) e = cc
 
 -- keying material that is not refused has a length and was not seen, and there is room for it
-pub not-refused : (k : List ℕ) (keys : List (List ℕ)) → key_refusal k keys ≡ None → (is_key_length (length k) ≡ true) × (is_seen k keys ≡ false) × (nat_le 1048576 (length keys) ≡ false)
+pub not-refused : (k : List ℕ) (keys : List (List ℕ)) → key_refusal k keys ≡ None → (is_key_length (length k) ≡ true)
+    × (is_seen k keys ≡ false) × (nat_le 1048576 (length keys) ≡ false)
 not-refused k keys e = case (is_key_length (length k)) (is_seen k keys) (nat_le 1048576 (length keys)) e
   where
-    case : (a b c : Bool) → (if not a then Some refusals.KeyLength else if b then Some refusals.KeySeen else if c then Some refusals.KeyLimit else None) ≡ None → (a ≡ true) × (b ≡ false) × (c ≡ false)
+    case : (a b c : Bool) → (if not a then Some refusals.KeyLength else if b then Some refusals.KeySeen else if c
+        then Some refusals.KeyLimit else None) ≡ None → (a ≡ true) × (b ≡ false) × (c ≡ false)
     case true false false f = (refl, refl, refl)
     case true false true f = cc
     case true true c f = cc
     case false b c f = cc
 
-pub absent : {K V : Type 0} (part : K → List ℕ) (salt : V → List ℕ) → ((v : V) → length (salt v) ≡ 4) → (k q : List ℕ) → q ≡ aes_part k → (es : List (K × V)) (keys : List (List ℕ)) → map (λ e. part e.0 ++ salt e.1) es ≡ keys → key_refusal k keys ≡ None → lookup (λ x. bytes_eq q (part x)) es ≡ None
+pub absent : {K V : Type 0} (part : K → List ℕ) (salt : V → List ℕ) → ((v : V) → length (salt v) ≡ 4) → (k q : List ℕ) → q ≡ aes_part k
+    → (es : List (K × V)) (keys : List (List ℕ)) → map (λ e. part e.0 ++ salt e.1) es ≡ keys → key_refusal k keys ≡ None
+    → lookup (λ x. bytes_eq q (part x)) es ≡ None
 absent part salt four k q e es keys v free =
     none-of (lookup (λ x. bytes_eq q (part x)) es) (seen-lookup part salt four k q e es ∙ ap (is_seen k) v ∙ (not-refused k keys free).1)
 
-pub one-more : {K V : Type 0} (part : K → List ℕ) (salt : V → List ℕ) (es new : List (K × V)) (k : K) (v : V) (key : List ℕ) (keys : List (List ℕ)) → map (λ e. part e.0 ++ salt e.1) es ≡ keys → new ≡ es ++ (k, v) ∷ [] → part k ++ salt v ≡ key → map (λ e. part e.0 ++ salt e.1) new ≡ keys ++ key ∷ []
+pub one-more : {K V : Type 0} (part : K → List ℕ) (salt : V → List ℕ) (es new : List (K × V)) (k : K) (v : V) (key : List ℕ)
+    (keys : List (List ℕ)) → map (λ e. part e.0 ++ salt e.1) es ≡ keys → new ≡ es ++ (k, v) ∷ [] → part k ++ salt v ≡ key
+    → map (λ e. part e.0 ++ salt e.1) new ≡ keys ++ key ∷ []
 one-more part salt es new k v key keys m n e =
-    ap (map (λ z. part z.0 ++ salt z.1)) n ∙ map-append (λ z. part z.0 ++ salt z.1) es ((k, v) ∷ []) ∙ ap (λ z. map (λ w. part w.0 ++ salt w.1) es ++ z ∷ []) e ∙ ap (λ z. z ++ key ∷ []) m
+    ap (map (λ z. part z.0 ++ salt z.1)) n ∙ map-append (λ z. part z.0 ++ salt z.1) es ((k, v) ∷ [])
+        ∙ ap (λ z. map (λ w. part w.0 ++ salt w.1) es ++ z ∷ []) e ∙ ap (λ z. z ++ key ∷ []) m

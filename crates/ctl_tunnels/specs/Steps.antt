@@ -54,7 +54,8 @@ is_spent p = p.over && is_none p.older && is_none p.newer
 
 -- the tunnel of the direction is ended, and with it each association left; they are removed from now on
 abbrev pub ended : Progress → Progress
-ended p = record { over = true; wanted = p.wanted; waits = p.waits; older = made (lives.ended_if true) p.older; newer = made (lives.ended_if true) p.newer }
+ended p = record { over = true; wanted = p.wanted; waits = p.waits; older = made (lives.ended_if true) p.older; newer =
+    made (lives.ended_if true) p.newer }
 
 -- a new association is wanted, where it was so before or a cause came
 abbrev pub wanted_if : Bool → Progress → Progress
@@ -66,7 +67,8 @@ lost_life o x = lives.ended_if (lives.puts o.task && (x.serial == o.serial)) x
 
 -- The order that waited is lost with its session. Where it was a put, its association is ended and a new one is wanted.
 abbrev pub lost : HalfOrder → Progress → Progress
-lost o p = record { over = p.over; wanted = lives.puts o.task || p.wanted; waits = None; older = made (lost_life o) p.older; newer = made (lost_life o) p.newer }
+lost o p = record { over = p.over; wanted = lives.puts o.task || p.wanted; waits = None; older = made (lost_life o) p.older; newer =
+    made (lost_life o) p.newer }
 
 -- an order of the direction is at its receiver or its sender
 abbrev pub is_at : Bool → Bool → Task → Bool
@@ -90,7 +92,8 @@ awaits n (Some o) = o.serial == n
 abbrev pub answered : HalfOrder → ℕ → Progress → Progress
 answered o status p =
     if awaits o.serial p.waits
-    then record { over = p.over; wanted = p.wanted; waits = None; older = kept (lives.answered o status) p.older; newer = kept (lives.answered o status) p.newer }
+    then record { over = p.over; wanted = p.wanted; waits = None; older = kept (lives.answered o status) p.older; newer =
+        kept (lives.answered o status) p.newer }
     else p
 
 -- ended by a reading at the receiver that came before its outbound put was ordered
@@ -114,7 +117,8 @@ abbrev pub read : Bool → Bool → (ℕ → Bool) → (ℕ → Bool) → Progre
 read sends receives has_in has_out p =
     record {
       over = p.over;
-      wanted = (when (is_missing sends receives has_in has_out) p.older || when (is_missing sends receives has_in has_out) p.newer) || p.wanted;
+      wanted = (when (is_missing sends receives has_in has_out) p.older || when (is_missing sends receives has_in has_out) p.newer)
+          || p.wanted;
       waits = p.waits;
       older = made (read_life receives has_in) p.older;
       newer = made (read_life receives has_in) p.newer;
@@ -139,14 +143,18 @@ has_newest sends receives half p = when (λ x. is_side sends receives half.side 
 -- left, which gives the serial.
 abbrev pub in_put : Bool → Bool → Progress → Option ℕ → Option HalfOrder
 in_put sender receiver p None = None
-in_put sender receiver p (Some n) = if p.wanted && not p.over && sender && receiver then Some (record { task = tasks.PutIn; serial = n }) else None
+in_put sender receiver p (Some n) = if p.wanted && not p.over && sender && receiver then Some (record { task = tasks.PutIn; serial = n })
+    else None
 
 -- removals before puts, outbound ones before inbound ones, the oldest first
 abbrev pub next_free : Bool → Bool → Option ℕ → Progress → Option HalfOrder
 next_free sender receiver fresh p =
-    either (either (asked tasks.RemoveOut (lives.is_out_removable sender) p.older) (asked tasks.RemoveOut (lives.is_out_removable sender) p.newer))
-    (either (either (asked tasks.RemoveIn (lives.is_in_removable receiver) p.older) (asked tasks.RemoveIn (lives.is_in_removable receiver) p.newer))
-    (either (either (asked tasks.PutOut (lives.is_out_puttable sender receiver) p.older) (asked tasks.PutOut (lives.is_out_puttable sender receiver) p.newer))
+    either (either (asked tasks.RemoveOut (lives.is_out_removable sender) p.older) (asked tasks.RemoveOut (lives.is_out_removable sender)
+        p.newer))
+    (either (either (asked tasks.RemoveIn (lives.is_in_removable receiver) p.older) (asked tasks.RemoveIn (lives.is_in_removable receiver)
+        p.newer))
+    (either (either (asked tasks.PutOut (lives.is_out_puttable sender receiver) p.older)
+        (asked tasks.PutOut (lives.is_out_puttable sender receiver) p.newer))
     (in_put sender receiver p fresh)))
 
 -- while an order of its own waits, a direction gets none
@@ -170,8 +178,10 @@ sent_life n x = if x.serial == n then lives.sent x else x
 
 -- the direction once this order was given, which then waits; a put of an inbound half begins an association and answers what was wanted
 abbrev pub ordered_by : HalfOrder → Progress → Task → Progress
-ordered_by o p tasks.PutIn = record { over = p.over; wanted = false; waits = Some o; older = newer_or p.newer p.older; newer = Some (lives.begun o.serial) }
-ordered_by o p tasks.PutOut = record { over = p.over; wanted = p.wanted; waits = Some o; older = made (sent_life o.serial) p.older; newer = made (sent_life o.serial) p.newer }
+ordered_by o p tasks.PutIn = record { over = p.over; wanted = false; waits = Some o; older = newer_or p.newer p.older; newer =
+    Some (lives.begun o.serial) }
+ordered_by o p tasks.PutOut = record { over = p.over; wanted = p.wanted; waits = Some o; older = made (sent_life o.serial) p.older; newer =
+    made (sent_life o.serial) p.newer }
 ordered_by o p tasks.RemoveIn = record { over = p.over; wanted = p.wanted; waits = Some o; older = p.older; newer = p.newer }
 ordered_by o p tasks.RemoveOut = record { over = p.over; wanted = p.wanted; waits = Some o; older = p.older; newer = p.newer }
 

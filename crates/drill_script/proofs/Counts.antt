@@ -31,5 +31,6 @@ mapped p f (x ∷ xs) =
     ∙ sym (count-cons p (f x) (map f xs))
 
 -- what is counted of references is counted of what they point to
-pub counted_behind : (front : List ℕ) (lines : List (Bor (List ℕ))) → count_by (λ (line : Bor (List ℕ)). starts_with nat_eq line.now front) lines ≡ lines_with front (texts lines)
+pub counted_behind : (front : List ℕ) (lines : List (Bor (List ℕ))) → count_by (λ (line : Bor (List ℕ)). starts_with nat_eq line.now front)
+    lines ≡ lines_with front (texts lines)
 counted_behind front lines = mapped (begins front) (λ (line : Bor (List ℕ)). line.now) lines

@@ -31,7 +31,8 @@ more-few false count k few = omega (arith, few)
 
 -- ---- lines
 
-grown : (old front line out one two : List ℕ) → out ≡ old ++ front → one ≡ out ++ line → two ≡ one ++ 10 ∷ [] → two ≡ old ++ (front ++ (line ++ 10 ∷ []))
+grown : (old front line out one two : List ℕ) → out ≡ old ++ front → one ≡ out ++ line → two ≡ one ++ 10 ∷ [] → two ≡ old
+    ++ (front ++ (line ++ 10 ∷ []))
 grown old front line out one two e f g =
     g ∙ ap (λ (z : List ℕ). z ++ 10 ∷ []) (f ∙ ap (λ (z : List ℕ). z ++ line) e)
     ∙ append_assoc (old ++ front) line (10 ∷ [])
@@ -41,10 +42,12 @@ key-step : (k : ℕ) → keys_text k ++ (key_line (k + 1) ++ 10 ∷ []) ≡ keys
 unfolding keys_text
 key-step k = rw (add-one k) refl
 
-pub key-more : (k : ℕ) (old out one two : List ℕ) → out ≡ old ++ keys_text k → one ≡ out ++ key_line (k + 1) → two ≡ one ++ 10 ∷ [] → two ≡ old ++ keys_text (k + 1)
+pub key-more : (k : ℕ) (old out one two : List ℕ) → out ≡ old ++ keys_text k → one ≡ out ++ key_line (k + 1) → two ≡ one ++ 10 ∷ []
+    → two ≡ old ++ keys_text (k + 1)
 key-more k old out one two e f g = grown old (keys_text k) (key_line (k + 1)) out one two e f g ∙ ap (λ (z : List ℕ). old ++ z) (key-step k)
 
-line-step : (n k : ℕ) → drawn_text n k ++ (drawn_line (drawn n (k + 1)) (many is_let n k) (many is_now n k) ++ 10 ∷ []) ≡ drawn_text n (k + 1)
+line-step : (n k : ℕ) → drawn_text n k ++ (drawn_line (drawn n (k + 1)) (many is_let n k) (many is_now n k) ++ 10 ∷ []) ≡ drawn_text n
+    (k + 1)
 unfolding drawn_text
 line-step n k = rw (add-one k) refl
 
@@ -56,7 +59,8 @@ pub line-more : (n k x lets nows : ℕ) (old out one two : List ℕ) → x ≡ d
     → out ≡ old ++ drawn_text n k → one ≡ out ++ drawn_line x lets nows → two ≡ one ++ 10 ∷ [] → two ≡ old ++ drawn_text n (k + 1)
 line-more n k x lets nows old out one two ex el en e f g =
     grown old (drawn_text n k) (drawn_line x lets nows) out one two e f g
-    ∙ ap (λ (z : List ℕ). old ++ (drawn_text n k ++ (z ++ 10 ∷ []))) (line-of x (drawn n (k + 1)) lets nows (many is_let n k) (many is_now n k) ex el en)
+    ∙ ap (λ (z : List ℕ). old ++ (drawn_text n k ++ (z ++ 10 ∷ []))) (line-of x (drawn n (k + 1)) lets nows (many is_let n k)
+        (many is_now n k) ex el en)
     ∙ ap (λ (z : List ℕ). old ++ z) (line-step n k)
 
 -- ---- where loops begin

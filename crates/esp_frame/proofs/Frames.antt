@@ -43,7 +43,8 @@ module _ (b head text icv : List ℕ) (parts : b ≡ head ++ (text ++ icv)) (hea
       let e : 16 + n - 16 ≡ n = omega arith in
       ap (λ (l : List ℕ). take (16 + n - 16) l) after_head ∙ ap (λ (m : ℕ). take m (text ++ icv)) e ∙ take-append-le n text icv le
 
-  pub opens_is : (k : Keying) (x : List ℕ) → 34 ≤ length b → Opens k.cipher (k.salt ++ drop 8 head) (take 8 head) text icv x → EspOpens k b x
+  pub opens_is : (k : Keying) (x : List ℕ) → 34 ≤ length b → Opens k.cipher (k.salt ++ drop 8 head) (take 8 head) text icv x
+      → EspOpens k b x
   opens_is k x le o = (
     le,
     (
@@ -62,12 +63,14 @@ module _ (b head text icv x : List ℕ) (parts : b ≡ head ++ (text ++ icv)) (h
 
   pub written_is : head ++ (x ++ icv) ≡ with_text b x
   written_is =
-      sym ((λ i. head_is b head text icv parts head_len icv_len i ++ x ++ icv_is b head text icv parts head_len icv_len i) ∙ append_assoc head x icv)
+      sym ((λ i. head_is b head text icv parts head_len icv_len i ++ x ++ icv_is b head text icv parts head_len icv_len i)
+          ∙ append_assoc head x icv)
 
   pub rest_is : head ++ (x ++ icv) ≡ with_text b (text_of (head ++ (x ++ icv)))
   rest_is = written_is ∙ sym (ap (with_text b) opened_is)
 
-  pub same_opened : (k : Keying) → 34 ≤ length b → Opens k.cipher (k.salt ++ drop 8 head) (take 8 head) text icv x → EspOpens k b (text_of (head ++ (x ++ icv)))
+  pub same_opened : (k : Keying) → 34 ≤ length b → Opens k.cipher (k.salt ++ drop 8 head) (take 8 head) text icv x
+      → EspOpens k b (text_of (head ++ (x ++ icv)))
   same_opened k le o =
       let P : List ℕ → Type 0 = λ y. EspOpens k b y in
       subst P (sym opened_is) (opens_is b head text icv parts head_len icv_len k x le o)
@@ -76,7 +79,8 @@ module _ (head x icv : List ℕ) (head_len : length head ≡ 16) (icv_len : leng
   after_text : text_of (head ++ (x ++ icv)) ≡ x
   after_text = text_is (head ++ (x ++ icv)) head x icv refl head_len icv_len
 
-  pub inner_is : (n next : ℕ) → n ≤ length x → Inner x next (take n x) → Inner (text_of (head ++ (x ++ icv))) next (slice_range (head ++ (x ++ icv)) 16 (16 + n))
+  pub inner_is : (n next : ℕ) → n ≤ length x → Inner x next (take n x)
+      → Inner (text_of (head ++ (x ++ icv))) next (slice_range (head ++ (x ++ icv)) 16 (16 + n))
   inner_is n next le found =
       let packet = packet_is (head ++ (x ++ icv)) head x icv refl head_len icv_len n le in
       (found.0, after_text ∙ found.1 ∙ ap (λ (p : List ℕ). padded found.0 next p) (sym packet))
@@ -94,7 +98,8 @@ esp_is k s next p aad iv c t ea ei o =
     let et = o.1 ∙ (λ i. tag_of k.cipher (k.salt ++ ei i) (ea i) (ec i)) in
     (λ i. ea i ++ ei i ++ ec i ++ et i)
 
-pub opens_moved : (e : List ℕ → List ℕ) (nonce nonce' aad c t x x' : List ℕ) → nonce ≡ nonce' → x ≡ x' → Opens e nonce aad c t x → Opens e nonce' aad c t x'
+pub opens_moved : (e : List ℕ → List ℕ) (nonce nonce' aad c t x x' : List ℕ) → nonce ≡ nonce' → x ≡ x' → Opens e nonce aad c t x
+    → Opens e nonce' aad c t x'
 opens_moved e nonce nonce' aad c t x x' en ex o = (o.0 ∙ (λ i. sealed e (en i) (ex i)), o.1 ∙ ap (λ (v : List ℕ). tag_of e v aad c) en)
 
 pub all_written : (a b c d a' b' d' rest : List ℕ) → a ≡ a' → b ≡ b' → d ≡ d' → a ++ (b ++ (c ++ (d ++ rest))) ≡ a' ++ b' ++ c ++ d' ++ rest
@@ -102,7 +107,8 @@ all_written a b c d a' b' d' rest ea eb ed =
     let together : a ++ (b ++ (c ++ (d ++ rest))) ≡ a ++ b ++ c ++ d ++ rest = sym (simp append_assoc) in
     together ∙ (λ i. ea i ++ eb i ++ c ++ ed i ++ rest)
 
-pub dropped : (n m : ℕ) (out r1 r2 r3 r4 : List ℕ) → r1 ≡ drop 8 out → r2 ≡ drop 8 r1 → r3 ≡ drop n r2 → r4 ≡ drop 16 r3 → 8 + 8 + n + 16 ≡ m → r4 ≡ drop m out
+pub dropped : (n m : ℕ) (out r1 r2 r3 r4 : List ℕ) → r1 ≡ drop 8 out → r2 ≡ drop 8 r1 → r3 ≡ drop n r2 → r4 ≡ drop 16 r3
+    → 8 + 8 + n + 16 ≡ m → r4 ≡ drop m out
 dropped n m out r1 r2 r3 r4 e1 e2 e3 e4 len =
     let two : r2 ≡ drop (8 + 8) out = e2 ∙ ap (λ (l : List ℕ). drop 8 l) e1 ∙ drop-drop 8 8 out in
     let three : r3 ≡ drop (8 + 8 + n) out = e3 ∙ ap (λ (l : List ℕ). drop n l) two ∙ drop-drop n (8 + 8) out in

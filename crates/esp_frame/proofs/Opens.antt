@@ -22,7 +22,8 @@ Decides-leb : (a b : ℕ) → Decides (leb a b) (a ≤ b)
 Decides-leb a b = (leb-true a b, le-leb a b)
 
 -- ---- a choice by a test
-chosen : {A : Type 0} (t : Bool) (x : A) (P : Type 0) (Q : A → Type 0) → (t ≡ true → Q x) → (t ≡ false → P) → MatchOption (cond t (Some x) None) P Q
+chosen : {A : Type 0} (t : Bool) (x : A) (P : Type 0) (Q : A → Type 0) → (t ≡ true → Q x) → (t ≡ false → P)
+    → MatchOption (cond t (Some x) None) P Q
 chosen true x P Q on_true on_false = on_true refl
 chosen false x P Q on_true on_false = on_false refl
 
@@ -44,7 +45,8 @@ abbrev opens_test : Keying → List ℕ → Bool
 opens_test k b = leb 34 (length b) && bytes_eq (icv_of b) (right_tag k b)
 
 opens_decides : (k : Keying) (b : List ℕ) → Decides (opens_test k b) ((34 ≤ length b) × (icv_of b ≡ right_tag k b))
-opens_decides k b = Decides-and (leb 34 (length b)) (bytes_eq (icv_of b) (right_tag k b)) (Decides-leb 34 (length b)) (bytes_eq-Decides (icv_of b) (right_tag k b))
+opens_decides k b = Decides-and (leb 34 (length b)) (bytes_eq (icv_of b) (right_tag k b)) (Decides-leb 34 (length b))
+    (bytes_eq-Decides (icv_of b) (right_tag k b))
 
 pub opened_is : (k : Keying) (b : List ℕ) → MatchOption (opened k b) (NoText k b) (EspOpens k b)
 unfolding opened
@@ -57,7 +59,8 @@ opened_is k b =
 pub opened_finds : (k : Keying) (b x : List ℕ) → EspOpens k b x → opened k b ≡ Some x
 unfolding opened
 opened_finds k b x o =
-    chosen_true (opens_test k b) (sealed k.cipher (k.salt ++ iv_of b) (text_of b)) x ((opens_decides k b).1 (o.0, o.1.1)) (sym (opens_once k b x o))
+    chosen_true (opens_test k b) (sealed k.cipher (k.salt ++ iv_of b) (text_of b)) x ((opens_decides k b).1 (o.0, o.1.1))
+        (sym (opens_once k b x o))
 
 none_found : {A : Type 0} (o : Option A) (P : Type 0) (Q : A → Type 0) → MatchOption o P Q → ((a : A) → Q a → ⊥) → o ≡ None
 none_found None P Q m none = refl
@@ -99,7 +102,8 @@ abbrev packet_in : List ℕ → InnerPacket
 packet_in x = record { next = slice_index x (length x - 1); octets = take (end x - pad_at x) x }
 
 read_pad : (x : List ℕ) (i : ℕ) → i < pad_at x → pad_at x ≤ end x → get_or (pads x) i 0 ≡ get_or x (end x - pad_at x + i) 0
-read_pad x i lt le = get_or-take (end x - (end x - pad_at x)) (drop (end x - pad_at x) x) i 0 (omega arith) ∙ get_or-drop (end x - pad_at x) x i 0
+read_pad x i lt le = get_or-take (end x - (end x - pad_at x)) (drop (end x - pad_at x) x) i 0 (omega arith)
+    ∙ get_or-drop (end x - pad_at x) x i 0
 
 from_trailed : (x : List ℕ) → Trailed x → Inner x (slice_index x (length x - 1)) (take (end x - pad_at x) x)
 from_trailed x t =
@@ -113,7 +117,8 @@ to_trailed x p next inner =
     let same : pad_at x ≡ q = pad_len_at x p q next inner.1 in
     let le : pad_at x ≤ end x = omega arith in
     let long : length (pads x) ≡ length (padding (pad_at x)) =
-    omega (arith, length-take (end x - (end x - pad_at x)) (drop (end x - pad_at x) x), length-drop (end x - pad_at x) x, length-range_with_len 1 (pad_at x)) in (
+    omega (arith, length-take (end x - (end x - pad_at x)) (drop (end x - pad_at x) x), length-drop (end x - pad_at x) x,
+        length-range_with_len 1 (pad_at x)) in (
       (omega arith, le),
       same_number_lists (pads x) (padding (pad_at x)) long (λ i lt.
           let small : i < pad_at x = omega (arith, length-range_with_len 1 (pad_at x)) in
@@ -138,7 +143,8 @@ packet_finds x p next inner =
     chosen_true (packet_test x) (packet_in x) (record { next = next; octets = p }) ((packet_decides x).1 t) goal
 
 pub packet_none : (x : List ℕ) → NoInner x → inner_packet x ≡ None
-packet_none x none = none_found (inner_packet x) (NoInner x) (λ p. Inner x p.next p.octets) (packet_is x) (λ p inner. none p.next p.octets inner)
+packet_none x none = none_found (inner_packet x) (NoInner x) (λ p. Inner x p.next p.octets) (packet_is x)
+    (λ p inner. none p.next p.octets inner)
 
 -- ---- what is sealed
 length-sealed : (e : List ℕ → List ℕ) (nonce x : List ℕ) → length (sealed e nonce x) ≡ length x
@@ -166,7 +172,8 @@ unfolding esp
 esp_parts k s next p = append_assoc (head_of k s) (text_sealed k s next p) (tag_sealed k s next p)
 
 length-text : (k : Keying) (s next : ℕ) (p : List ℕ) → length (text_sealed k s next p) ≡ length p + pad_len (length p) + 2
-length-text k s next p = length-sealed k.cipher (nonce_of k s) (padded (pad_len (length p)) next p) ∙ length-padded (pad_len (length p)) next p
+length-text k s next p = length-sealed k.cipher (nonce_of k s) (padded (pad_len (length p)) next p)
+    ∙ length-padded (pad_len (length p)) next p
 
 pub length-esp : (k : Keying) (s next : ℕ) (p : List ℕ) → length (esp k s next p) ≡ esp_len (length p)
 length-esp k s next p =

@@ -38,7 +38,8 @@ padded-end q next i p =
 
 -- the octets of x, one by one
 pub padded_is : (x p : List ℕ) (q next : ℕ) → length x ≡ length p + q + 2 → ((k : ℕ) → k < length p → get_or x k 0 ≡ get_or p k 0)
-    → ((i : ℕ) → i < q → get_or x (length p + i) 0 ≡ i + 1) → get_or x (length p + q) 0 ≡ q → get_or x (length p + q + 1) 0 ≡ next → x ≡ padded q next p
+    → ((i : ℕ) → i < q → get_or x (length p + i) 0 ≡ i + 1) → get_or x (length p + q) 0 ≡ q → get_or x (length p + q + 1) 0 ≡ next
+        → x ≡ padded q next p
 padded_is x p q next long packet pads len last =
     same_number_lists x (padded q next p) (long ∙ sym (length-padded q next p)) (λ k h.
     elim (cases_lt k (length p)) [
@@ -48,7 +49,8 @@ padded_is x p q next long packet pads len last =
             let i : ℕ = k - length p in
             let e : length p + i ≡ k = omega arith in
             let lt : i < q = omega arith in
-            ap (λ (n : ℕ). get_or x n 0) (sym e) ∙ pads i lt ∙ sym (ap (λ (n : ℕ). get_or (padded q next p) n 0) (sym e) ∙ padded-padding q next i p lt)
+            ap (λ (n : ℕ). get_or x n 0) (sym e) ∙ pads i lt ∙ sym (ap (λ (n : ℕ). get_or (padded q next p) n 0) (sym e)
+                ∙ padded-padding q next i p lt)
         | inr after ↦ elim (cases_eq k (length p + q)) [
           | inl same ↦
               let e : k ≡ length p + q + 0 = omega arith in
@@ -69,9 +71,11 @@ trailer_is back q next long pads =
     (λ k lt. absurd (omega arith))
     (λ i lt.
     let e : 0 + i ≡ i = omega arith in
-    ap (λ (n : ℕ). get_or (slice_set once (q + 1) next) n 0) e ∙ get_or-set_other once (q + 1) i next 0 (omega arith) ∙ get_or-set_other back q i q 0 (omega arith) ∙ pads i lt)
+    ap (λ (n : ℕ). get_or (slice_set once (q + 1) next) n 0) e ∙ get_or-set_other once (q + 1) i next 0 (omega arith)
+        ∙ get_or-set_other back q i q 0 (omega arith) ∙ pads i lt)
     (let e : 0 + q ≡ q = omega arith in
-    ap (λ (n : ℕ). get_or (slice_set once (q + 1) next) n 0) e ∙ get_or-set_other once (q + 1) q next 0 (omega arith) ∙ get_or-set_same back q q 0 (omega arith))
+    ap (λ (n : ℕ). get_or (slice_set once (q + 1) next) n 0) e ∙ get_or-set_other once (q + 1) q next 0 (omega arith)
+        ∙ get_or-set_same back q q 0 (omega arith))
     (let e : 0 + q + 1 ≡ q + 1 = omega arith in
     ap (λ (n : ℕ). get_or (slice_set once (q + 1) next) n 0) e ∙ get_or-set_same once (q + 1) next 0 (omega arith))
 
@@ -110,7 +114,8 @@ no_room x lt = λ next p inner.
     let long = ap (λ (l : List ℕ). length l) inner.1 ∙ length-padded q next p in
     omega (arith, pad_len_at x p q next inner.1)
 
-pub wrong_pad : (x : List ℕ) (pad i at : ℕ) → get_or x (length x - 2) 0 ≡ pad → at ≡ length x - 2 - pad + i → i < pad → (get_or x at 0 ≡ i + 1 → ⊥) → NoInner x
+pub wrong_pad : (x : List ℕ) (pad i at : ℕ) → get_or x (length x - 2) 0 ≡ pad → at ≡ length x - 2 - pad + i → i < pad
+    → (get_or x at 0 ≡ i + 1 → ⊥) → NoInner x
 wrong_pad x pad i at e here lt differs = λ next p inner.
     let q : ℕ = inner.0 in
     let same : q ≡ pad = sym (pad_len_at x p q next inner.1) ∙ e in

@@ -37,13 +37,15 @@ event_line : (gateways : List Peer) (e : Event) (w : List ℕ) (ws : List (List 
     → event_in gateways (w ∷ ws) ≡ Ok e → event_of gateways (event_text e) ≡ Ok e
 unfolding event_of event_text
 event_line gateways e w ws is are read =
-    let p : list_all is_printable (line_text (event_words e)) ≡ true = ap (λ us. list_all is_printable (line_text us)) is ∙ line_printable w ws are in
+    let p : list_all is_printable (line_text (event_words e)) ≡ true = ap (λ us. list_all is_printable (line_text us)) is
+        ∙ line_printable w ws are in
     let s : words (line_text (event_words e)) ≡ w ∷ ws = ap (λ us. words (line_text us)) is ∙ line_words w ws are in
     rw (p, s, read) refl
 
 -- ---- packets and datagrams
 
-let_event : ReadsDigits → (gateways : List Peer) (g octets : List ℕ) → is_gateway g ≡ true → is_gateway_of gateways g ≡ true → AreOctets octets
+let_event : ReadsDigits → (gateways : List Peer) (g octets : List ℕ) → is_gateway g ≡ true → is_gateway_of gateways g ≡ true
+    → AreOctets octets
     → event_of gateways (event_text (events.Let g octets)) ≡ Ok (events.Let g octets)
 unfolding event_in let_in AreWords
 let_event digits gateways g octets spelled named are =
@@ -59,7 +61,8 @@ hex_unnumbered : (octets : List ℕ) → AreOctets octets → is_numbered (hex_t
 hex_unnumbered [] are = refl
 hex_unnumbered (o ∷ os) are = unnumbered (hex_text (o ∷ os)) (hex_digits o os are)
 
-arrive_event : ReadsDigits → (gateways : List Peer) (g octets : List ℕ) → is_gateway g ≡ true → is_gateway_of gateways g ≡ true → AreOctets octets
+arrive_event : ReadsDigits → (gateways : List Peer) (g octets : List ℕ) → is_gateway g ≡ true → is_gateway_of gateways g ≡ true
+    → AreOctets octets
     → event_of gateways (event_text (events.Arrive g octets)) ≡ Ok (events.Arrive g octets)
 unfolding event_in arrive_in arrive_of AreWords
 arrive_event digits gateways g octets spelled named are =
@@ -72,14 +75,16 @@ sent_read k small one = rw (number_again faults.Number k (2 ^ 64 - 1) small (ome
 sent_word : (k : ℕ) → k < 2 ^ 64 → list_all is_graph (35 ∷ decimal k) ≡ true
 sent_word k small = number_word k small
 
-arrive_sent_event : (gateways : List Peer) (g : List ℕ) (k : ℕ) → is_gateway g ≡ true → is_gateway_of gateways g ≡ true → nat_le 1 k ≡ true → k < 2 ^ 64
+arrive_sent_event : (gateways : List Peer) (g : List ℕ) (k : ℕ) → is_gateway g ≡ true → is_gateway_of gateways g ≡ true → nat_le 1 k ≡ true
+    → k < 2 ^ 64
     → event_of gateways (event_text (events.ArriveSent g k)) ≡ Ok (events.ArriveSent g k)
 unfolding event_in arrive_in arrive_of AreWords
 arrive_sent_event gateways g k spelled named one small =
     event_line gateways (events.ArriveSent g k) (codes "arrive") (g ∷ (35 ∷ decimal k) ∷ []) refl
     (refl, (name_word g spelled, (sent_word k small, tt))) (rw (named, sent_read k small one) refl)
 
-arrive_ttl_event : (gateways : List Peer) (g : List ℕ) (k t : ℕ) → is_gateway g ≡ true → is_gateway_of gateways g ≡ true → nat_le 1 k ≡ true → k < 2 ^ 64 → t < 256
+arrive_ttl_event : (gateways : List Peer) (g : List ℕ) (k t : ℕ) → is_gateway g ≡ true → is_gateway_of gateways g ≡ true → nat_le 1 k ≡ true
+    → k < 2 ^ 64 → t < 256
     → event_of gateways (event_text (events.ArriveTtl g k t)) ≡ Ok (events.ArriveTtl g k t)
 unfolding event_in arrive_in ttl_of AreWords
 arrive_ttl_event gateways g k t spelled named one small octet =
@@ -87,13 +92,15 @@ arrive_ttl_event gateways g k t spelled named one small octet =
     (refl, (name_word g spelled, (sent_word k small, (refl, (number_word t (omega arith), tt)))))
     (rw (named, sent_read k small one, number_again faults.Number t 255 (omega arith) (omega arith)) refl)
 
-arrive_flip_event : (gateways : List Peer) (g : List ℕ) (k n b : ℕ) → is_gateway g ≡ true → is_gateway_of gateways g ≡ true → nat_le 1 k ≡ true → k < 2 ^ 64 → n < 2 ^ 64 → b ≤ 7
+arrive_flip_event : (gateways : List Peer) (g : List ℕ) (k n b : ℕ) → is_gateway g ≡ true → is_gateway_of gateways g ≡ true
+    → nat_le 1 k ≡ true → k < 2 ^ 64 → n < 2 ^ 64 → b ≤ 7
     → event_of gateways (event_text (events.ArriveFlip g k n b)) ≡ Ok (events.ArriveFlip g k n b)
 unfolding event_in arrive_in flip_of AreWords
 arrive_flip_event gateways g k n b spelled named one small place bit =
     event_line gateways (events.ArriveFlip g k n b) (codes "arrive") (g ∷ (35 ∷ decimal k) ∷ codes "flip" ∷ decimal n ∷ decimal b ∷ []) refl
     (refl, (name_word g spelled, (sent_word k small, (refl, (number_word n place, (number_word b (omega arith), tt))))))
-    (rw (named, sent_read k small one, number_again faults.Number n (2 ^ 64 - 1) place (omega arith), number_again faults.Number b 7 (omega arith) bit) refl)
+    (rw (named, sent_read k small one, number_again faults.Number n (2 ^ 64 - 1) place (omega arith), number_again faults.Number b 7
+        (omega arith) bit) refl)
 
 -- ---- clocks, gateways and sessions
 
@@ -107,32 +114,38 @@ gateway_words : (what g : List ℕ) → list_all is_graph what ≡ true → is_g
 unfolding AreWords
 gateway_words what g word spelled = (word, (name_word g spelled, tt))
 
-boot_event : (gateways : List Peer) (g : List ℕ) → is_gateway g ≡ true → is_gateway_of gateways g ≡ true → event_of gateways (event_text (events.Boot g)) ≡ Ok (events.Boot g)
+boot_event : (gateways : List Peer) (g : List ℕ) → is_gateway g ≡ true → is_gateway_of gateways g ≡ true
+    → event_of gateways (event_text (events.Boot g)) ≡ Ok (events.Boot g)
 unfolding event_in gateway_in
 boot_event gateways g spelled named =
     event_line gateways (events.Boot g) (codes "boot") (g ∷ []) refl (gateway_words (codes "boot") g refl spelled) (rw named refl)
 
-open_event : (gateways : List Peer) (g : List ℕ) → is_gateway g ≡ true → is_gateway_of gateways g ≡ true → event_of gateways (event_text (events.Open g)) ≡ Ok (events.Open g)
+open_event : (gateways : List Peer) (g : List ℕ) → is_gateway g ≡ true → is_gateway_of gateways g ≡ true
+    → event_of gateways (event_text (events.Open g)) ≡ Ok (events.Open g)
 unfolding event_in session_in gateway_in
 open_event gateways g spelled named =
     event_line gateways (events.Open g) (codes "open") (g ∷ []) refl (gateway_words (codes "open") g refl spelled) (rw named refl)
 
-cut_event : (gateways : List Peer) (g : List ℕ) → is_gateway g ≡ true → is_gateway_of gateways g ≡ true → event_of gateways (event_text (events.Cut g)) ≡ Ok (events.Cut g)
+cut_event : (gateways : List Peer) (g : List ℕ) → is_gateway g ≡ true → is_gateway_of gateways g ≡ true
+    → event_of gateways (event_text (events.Cut g)) ≡ Ok (events.Cut g)
 unfolding event_in session_in gateway_in
 cut_event gateways g spelled named =
     event_line gateways (events.Cut g) (codes "cut") (g ∷ []) refl (gateway_words (codes "cut") g refl spelled) (rw named refl)
 
-down_event : (gateways : List Peer) (g : List ℕ) → is_gateway g ≡ true → is_gateway_of gateways g ≡ true → event_of gateways (event_text (events.Down g)) ≡ Ok (events.Down g)
+down_event : (gateways : List Peer) (g : List ℕ) → is_gateway g ≡ true → is_gateway_of gateways g ≡ true
+    → event_of gateways (event_text (events.Down g)) ≡ Ok (events.Down g)
 unfolding event_in session_in gateway_in
 down_event gateways g spelled named =
     event_line gateways (events.Down g) (codes "down") (g ∷ []) refl (gateway_words (codes "down") g refl spelled) (rw named refl)
 
-up_event : (gateways : List Peer) (g : List ℕ) → is_gateway g ≡ true → is_gateway_of gateways g ≡ true → event_of gateways (event_text (events.Up g)) ≡ Ok (events.Up g)
+up_event : (gateways : List Peer) (g : List ℕ) → is_gateway g ≡ true → is_gateway_of gateways g ≡ true
+    → event_of gateways (event_text (events.Up g)) ≡ Ok (events.Up g)
 unfolding event_in session_in gateway_in
 up_event gateways g spelled named =
     event_line gateways (events.Up g) (codes "up") (g ∷ []) refl (gateway_words (codes "up") g refl spelled) (rw named refl)
 
-note_event : (gateways : List Peer) (g : List ℕ) → is_gateway g ≡ true → is_gateway_of gateways g ≡ true → event_of gateways (event_text (events.Note g)) ≡ Ok (events.Note g)
+note_event : (gateways : List Peer) (g : List ℕ) → is_gateway g ≡ true → is_gateway_of gateways g ≡ true
+    → event_of gateways (event_text (events.Note g)) ≡ Ok (events.Note g)
 unfolding event_in session_in gateway_in
 note_event gateways g spelled named =
     event_line gateways (events.Note g) (codes "note") (g ∷ []) refl (gateway_words (codes "note") g refl spelled) (rw named refl)
@@ -168,10 +181,12 @@ rekey_event gateways n small =
     event_line gateways (events.Rekey n) (codes "rekey") (decimal n ∷ []) refl (refl, (number_word n small, tt))
     (rw (number_again faults.Number n (2 ^ 64 - 1) small (omega arith)) refl)
 
-keys_event : ReadsDigits → (gateways : List Peer) (octets : List ℕ) → AreOctets octets → event_of gateways (event_text (events.Keys octets)) ≡ Ok (events.Keys octets)
+keys_event : ReadsDigits → (gateways : List Peer) (octets : List ℕ) → AreOctets octets → event_of gateways (event_text (events.Keys octets))
+    ≡ Ok (events.Keys octets)
 unfolding event_in session_in command_in keys_in AreWords
 keys_event digits gateways octets are =
-    event_line gateways (events.Keys octets) (codes "keys") (hex_text octets ∷ []) refl (refl, (hex_word octets are, tt)) (rw (hex_read digits octets are) refl)
+    event_line gateways (events.Keys octets) (codes "keys") (hex_text octets ∷ []) refl (refl, (hex_word octets are, tt))
+        (rw (hex_read digits octets are) refl)
 
 mode_read : (m : Bool) → mode_of (mode_text m) ≡ Ok m
 mode_read m = ap (one_of faults.Mode) (mode_again m)
@@ -193,7 +208,8 @@ window_word n is =
     number_word n (omega arith)
 
 ends_read : (s : TunnelSpec) → IsTypedTunnel s → is_gateway s.first ≡ true → is_gateway s.second ≡ true
-    → ends_of (decimal s.reqid) (mode_text s.now) s.first s.second ≡ Ok (record { reqid = s.reqid; now = s.now; first = s.first; second = s.second })
+    → ends_of (decimal s.reqid) (mode_text s.now) s.first s.second ≡ Ok (record { reqid = s.reqid; now = s.now; first = s.first; second =
+        s.second })
 unfolding ends_of
 ends_read s is first second =
     let small = is.reqid in
@@ -206,7 +222,8 @@ lifetimes_read fault hard soft h s = rw (limits_read fault hard h, limits_read f
 
 flow_read : (s : TunnelSpec) → IsTypedTunnel s → is_window s.window ≡ true
     → flow_of (prefix_text s.first_prefix) (prefix_text s.second_prefix) (decimal s.window) (limits_text s.hard) (limits_text s.soft)
-    ≡ Ok (record { first = s.first_prefix; second = s.second_prefix; window = s.window; lifetimes = record { hard = s.hard; soft = s.soft } })
+    ≡ Ok (record { first = s.first_prefix; second = s.second_prefix; window = s.window; lifetimes =
+        record { hard = s.hard; soft = s.soft } })
 unfolding flow_of
 flow_read s is window =
     rw (
@@ -219,7 +236,8 @@ flow_read s is window =
 limits_word : (l : Limits) → IsTypedLimits l → list_all is_graph (limits_text l) ≡ true
 limits_word l are = as_graph (limits_text l) (limits_part l are)
 
-tunnel_event : (gateways : List Peer) (s : TunnelSpec) → IsTypedTunnel s → is_gateway s.first ≡ true → is_gateway s.second ≡ true → is_window s.window ≡ true
+tunnel_event : (gateways : List Peer) (s : TunnelSpec) → IsTypedTunnel s → is_gateway s.first ≡ true → is_gateway s.second ≡ true
+    → is_window s.window ≡ true
     → event_of gateways (event_text (events.Tunnel s)) ≡ Ok (events.Tunnel s)
 unfolding event_in session_in command_in tunnel_in tunnel_from tunnel_of flow_in AreWords
 tunnel_event gateways s is first second window =
@@ -253,11 +271,14 @@ tunnel_event gateways s is first second window =
 pub event_again : ReadsDigits → (gateways : List Peer) (e : Event) → are_spelled gateways ≡ true → IsEventUnder gateways e → IsEvent e
     → event_of gateways (event_text e) ≡ Ok e
 event_again digits gateways (events.Let g o) all under is = let_event digits gateways g o (named_spelled gateways g all under) under is
-event_again digits gateways (events.Arrive g o) all under is = arrive_event digits gateways g o (named_spelled gateways g all under) under is
-event_again digits gateways (events.ArriveSent g k) all under is = arrive_sent_event gateways g k (named_spelled gateways g all under.0) under.0 under.1 is
+event_again digits gateways (events.Arrive g o) all under is = arrive_event digits gateways g o (named_spelled gateways g all under) under
+    is
+event_again digits gateways (events.ArriveSent g k) all under is = arrive_sent_event gateways g k (named_spelled gateways g all under.0)
+    under.0 under.1 is
 event_again digits gateways (events.ArriveFlip g k n b) all under is =
     arrive_flip_event gateways g k n b (named_spelled gateways g all under.0) under.0 under.1 is.0 is.1 under.2
-event_again digits gateways (events.ArriveTtl g k t) all under is = arrive_ttl_event gateways g k t (named_spelled gateways g all under.0) under.0 under.1 is.0 is.1
+event_again digits gateways (events.ArriveTtl g k t) all under is = arrive_ttl_event gateways g k t (named_spelled gateways g all under.0)
+    under.0 under.1 is.0 is.1
 event_again digits gateways (events.Now t) all under is = now_event gateways t is
 event_again digits gateways (events.Boot g) all under is = boot_event gateways g (named_spelled gateways g all under) under
 event_again digits gateways (events.Open g) all under is = open_event gateways g (named_spelled gateways g all under) under

@@ -77,11 +77,13 @@ arrive_of_under gateways gateway w e is =
     after P (known_of gateways gateway) _ e is
     (λ g known more. either P (is_numbered w) _ _ e more
     (λ read. after P (sent_of w) _ e read
-    (λ k sent same. let q : events.ArriveSent g k ≡ e = cc in subst (IsEventUnder gateways) q (known_named gateways gateway g known, sent_from_one w k sent)))
+    (λ k sent same. let q : events.ArriveSent g k ≡ e = cc in
+        subst (IsEventUnder gateways) q (known_named gateways gateway g known, sent_from_one w k sent)))
     (λ read. after P (octets_of w) _ e read
     (λ o _ same. let q : events.Arrive g o ≡ e = cc in subst (IsEventUnder gateways) q (known_named gateways gateway g known))))
 
-ttl_under : (gateways : List Peer) (gateway sent how ttl : List ℕ) (e : Event) → ttl_of gateways gateway sent how ttl ≡ Ok e → IsEventUnder gateways e
+ttl_under : (gateways : List Peer) (gateway sent how ttl : List ℕ) (e : Event) → ttl_of gateways gateway sent how ttl ≡ Ok e
+    → IsEventUnder gateways e
 unfolding ttl_of
 ttl_under gateways gateway sent how ttl e is =
     let P : Type 0 = IsEventUnder gateways e in
@@ -89,9 +91,11 @@ ttl_under gateways gateway sent how ttl e is =
     (λ g known more. after P (sent_of sent) _ e more
     (λ k counted more2. passed P (bytes_eq how (codes "ttl")) _ faults.Word e more2
     (λ _ more3. after P (number_in faults.Number 255 ttl) _ e more3
-    (λ t _ same. let q : events.ArriveTtl g k t ≡ e = cc in subst (IsEventUnder gateways) q (known_named gateways gateway g known, sent_from_one sent k counted)))))
+    (λ t _ same. let q : events.ArriveTtl g k t ≡ e = cc in
+        subst (IsEventUnder gateways) q (known_named gateways gateway g known, sent_from_one sent k counted)))))
 
-flip_under : (gateways : List Peer) (gateway sent how offset bit : List ℕ) (e : Event) → flip_of gateways gateway sent how offset bit ≡ Ok e → IsEventUnder gateways e
+flip_under : (gateways : List Peer) (gateway sent how offset bit : List ℕ) (e : Event) → flip_of gateways gateway sent how offset bit ≡ Ok e
+    → IsEventUnder gateways e
 unfolding flip_of
 flip_under gateways gateway sent how offset bit e is =
     let P : Type 0 = IsEventUnder gateways e in
@@ -101,7 +105,8 @@ flip_under gateways gateway sent how offset bit e is =
     (λ _ more3. after P (number_in faults.Number (2 ^ 64 - 1) offset) _ e more3
     (λ n _ more4. after P (number_in faults.Number 7 bit) _ e more4
     (λ b few same. let q : events.ArriveFlip g k n b ≡ e = cc in
-    subst (IsEventUnder gateways) q (known_named gateways gateway g known, sent_from_one sent k counted, number_most faults.Number 7 bit b few))))))
+    subst (IsEventUnder gateways) q (known_named gateways gateway g known, sent_from_one sent k counted, number_most faults.Number 7 bit b
+        few))))))
 
 arrive_under : (gateways : List Peer) (ws : List (List ℕ)) (e : Event) → arrive_in gateways ws ≡ Ok e → IsEventUnder gateways e
 unfolding arrive_in
@@ -139,7 +144,8 @@ window_is w n is =
     (λ least same. let e : m ≡ n = cc in
     ap is_window (sym e) ∙ and_from _ _ least (le-leb m 4096 (number_most faults.Number 4096 w m few))))
 
-ends_spelled : (reqid mode a b : List ℕ) (x : Ends) → ends_of reqid mode a b ≡ Ok x → (is_gateway x.first ≡ true) × (is_gateway x.second ≡ true)
+ends_spelled : (reqid mode a b : List ℕ) (x : Ends) → ends_of reqid mode a b ≡ Ok x → (is_gateway x.first ≡ true)
+    × (is_gateway x.second ≡ true)
 unfolding ends_of
 ends_spelled reqid mode a b x is =
     let P : Type 0 = (is_gateway x.first ≡ true) × (is_gateway x.second ≡ true) in
@@ -188,7 +194,8 @@ tunnel_from_under gateways (reqid ∷ mode ∷ a ∷ b ∷ more) e is =
 
 tunnel_under : (gateways : List Peer) (ws : List (List ℕ)) (e : Event) → tunnel_in ws ≡ Ok e → IsEventUnder gateways e
 unfolding tunnel_in
-tunnel_under gateways ws e is = passed (IsEventUnder gateways e) (length ws == 9) (tunnel_from ws) faults.Count e is (λ _ more. tunnel_from_under gateways ws e more)
+tunnel_under gateways ws e is = passed (IsEventUnder gateways e) (length ws == 9) (tunnel_from ws) faults.Count e is
+    (λ _ more. tunnel_from_under gateways ws e more)
 
 command_under : (gateways : List Peer) (w : List ℕ) (ws : List (List ℕ)) (e : Event) → command_in w ws ≡ Ok e → IsEventUnder gateways e
 unfolding command_in
@@ -203,13 +210,15 @@ command_under gateways w ws e is =
     (λ is5. passed P (bytes_eq w (codes "keys")) _ faults.Word e is5 (λ _ read. keys_under gateways ws e read)))))
 
 -- an event of a gateway alone
-alone_under : (gateways : List Peer) (ws : List (List ℕ)) (f : List ℕ → Event) (e : Event) → ((g : List ℕ) → is_named gateways g ≡ true → IsEventUnder gateways (f g))
+alone_under : (gateways : List Peer) (ws : List (List ℕ)) (f : List ℕ → Event) (e : Event)
+    → ((g : List ℕ) → is_named gateways g ≡ true → IsEventUnder gateways (f g))
     → (gateway_in gateways ws >>= (λ g. Ok (f g))) ≡ Ok e → IsEventUnder gateways e
 alone_under gateways ws f e of_named is =
     after (IsEventUnder gateways e) (gateway_in gateways ws) (λ g. Ok (f g)) e is
     (λ g named same. subst (IsEventUnder gateways) (inside (f g) e same) (of_named g (gateway_named gateways ws g named)))
 
-session_under : (gateways : List Peer) (w : List ℕ) (ws : List (List ℕ)) (e : Event) → session_in gateways w ws ≡ Ok e → IsEventUnder gateways e
+session_under : (gateways : List Peer) (w : List ℕ) (ws : List (List ℕ)) (e : Event) → session_in gateways w ws ≡ Ok e
+    → IsEventUnder gateways e
 unfolding session_in
 session_under gateways w ws e is =
     let P : Type 0 = IsEventUnder gateways e in
@@ -235,7 +244,8 @@ event_words_under gateways (w ∷ ws) e is =
 pub event_under : (gateways : List Peer) (line : List ℕ) (e : Event) → event_of gateways line ≡ Ok e → IsEventUnder gateways e
 unfolding event_of
 event_under gateways line e is =
-    passed (IsEventUnder gateways e) (list_all is_printable line) _ faults.Octet e is (λ _ read. event_words_under gateways (words line) e read)
+    passed (IsEventUnder gateways e) (list_all is_printable line) _ faults.Octet e is (λ _ read. event_words_under gateways (words line) e
+        read)
 
 -- ---- headers
 

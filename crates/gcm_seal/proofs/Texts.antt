@@ -30,7 +30,8 @@ sealed_twice e nonce p =
     sym (ap (λ (y : ℕ). bit_xor y s) (at k (omega arith)) ∙ xor_assoc x s s ∙ ap (bit_xor x) (xor_self s) ∙ xor_zero_r x))
 
 -- the stream of the block after n whole ones
-pub rest_stream : (e : List ℕ → List ℕ) (nonce block j : List ℕ) (n k : ℕ) → block ≡ e j → j ≡ counter nonce (n + 1) → 16 * n ≤ k → k < 16 * n + 16
+pub rest_stream : (e : List ℕ → List ℕ) (nonce block j : List ℕ) (n k : ℕ) → block ≡ e j → j ≡ counter nonce (n + 1) → 16 * n ≤ k
+    → k < 16 * n + 16
     → get_or block (k - 16 * n) 0 ≡ stream e nonce k
 rest_stream e nonce block j n k hb hj le lt =
     let hi : n ≡ k / 16 = omega arith in

@@ -222,12 +222,14 @@ module _ (d low : ℕ) (low_fits : low < 2 ^ d) where
   lin-xor_right zero a b c = refl
   lin-xor_right (suc n) a b c =
       ap (bit_xor (lin n a (bit_xor b c)))
-      (ap (λ (x : ℕ). x * iterate n a) (bit_at_xor b c n) ∙ bits_sum (bit_at b n) (bit_at c n) (iterate n a) (bit_at-lt b n) (bit_at-lt c n))
+      (ap (λ (x : ℕ). x * iterate n a) (bit_at_xor b c n) ∙ bits_sum (bit_at b n) (bit_at c n) (iterate n a) (bit_at-lt b n)
+          (bit_at-lt c n))
       ∙ ap (λ (x : ℕ). bit_xor x (bit_xor (bit_at b n * iterate n a) (bit_at c n * iterate n a))) (lin-xor_right n a b c)
       ∙ xor_four (lin n a b) (lin n a c) (bit_at b n * iterate n a) (bit_at c n * iterate n a)
 
   -- a function that keeps sums and x goes through
-  module _ (f : ℕ → ℕ) (f_xor : (a b : ℕ) → f (bit_xor a b) ≡ bit_xor (f a) (f b)) (f_zero : f 0 ≡ 0) (f_x : (a : ℕ) → f (times_x d low a) ≡ times_x d low (f a)) where
+  module _ (f : ℕ → ℕ) (f_xor : (a b : ℕ) → f (bit_xor a b) ≡ bit_xor (f a) (f b)) (f_zero : f 0 ≡ 0) (f_x : (a : ℕ)
+      → f (times_x d low a) ≡ times_x d low (f a)) where
     iterate-through : (i a : ℕ) → f (iterate i a) ≡ iterate i (f a)
     unfolding iterate
     iterate-through zero a = refl
@@ -239,7 +241,8 @@ module _ (d low : ℕ) (low_fits : low < 2 ^ d) where
     lin-through (suc n) a b =
         f_xor (lin n a b) (bit_at b n * iterate n a)
         ∙ ap (λ (x : ℕ). bit_xor x (f (bit_at b n * iterate n a))) (lin-through n a b)
-        ∙ ap (bit_xor (lin n (f a) b)) (scaled f f_zero (bit_at b n) (iterate n a) (bit_at-lt b n) ∙ ap (λ (x : ℕ). bit_at b n * x) (iterate-through n a))
+        ∙ ap (bit_xor (lin n (f a) b)) (scaled f f_zero (bit_at b n) (iterate n a) (bit_at-lt b n)
+            ∙ ap (λ (x : ℕ). bit_at b n * x) (iterate-through n a))
 
   iterate-xor : (i a b : ℕ) → iterate i (bit_xor a b) ≡ bit_xor (iterate i a) (iterate i b)
   unfolding iterate
@@ -299,7 +302,8 @@ module _ (d low : ℕ) (low_fits : low < 2 ^ d) where
   lin-one (suc n) b h =
       let c : ℕ = b / 2 ^ n % 2 in
       let lo : b % 2 ^ n < 2 ^ n = mod_below b (2 ^ n) (pow_pos n) in
-      let blk : bit_xor (0 * 2 ^ n + b % 2 ^ n) (c * 2 ^ n + 0) ≡ bit_xor 0 c * 2 ^ n + bit_xor (b % 2 ^ n) 0 = xor_block n 0 c (b % 2 ^ n) 0 lo (pow_pos n) in
+      let blk : bit_xor (0 * 2 ^ n + b % 2 ^ n) (c * 2 ^ n + 0) ≡ bit_xor 0 c * 2 ^ n + bit_xor (b % 2 ^ n) 0 =
+          xor_block n 0 c (b % 2 ^ n) 0 lo (pow_pos n) in
       let sum : b % 2 ^ suc n ≡ c * 2 ^ n + b % 2 ^ n = ap (λ (x : ℕ). b % 2 ^ x) (omega arith) ∙ mod-pow-add b 1 n in
       let l : 0 * 2 ^ n + b % 2 ^ n ≡ b % 2 ^ n = omega arith in
       let r : c * 2 ^ n + 0 ≡ c * 2 ^ n = add-zero (c * 2 ^ n) in
@@ -323,7 +327,8 @@ module _ (d low : ℕ) (low_fits : low < 2 ^ d) where
   pub multiply-lt : (a b : ℕ) → a < 2 ^ d → multiply d low a b < 2 ^ d
   multiply-lt a b p = rw (multiply_is a b p) (lin-lt d a b p)
 
-  pub multiply_assoc : (a b c : ℕ) → a < 2 ^ d → b < 2 ^ d → c < 2 ^ d → multiply d low (multiply d low a b) c ≡ multiply d low a (multiply d low b c)
+  pub multiply_assoc : (a b c : ℕ) → a < 2 ^ d → b < 2 ^ d → c < 2 ^ d → multiply d low (multiply d low a b) c ≡ multiply d low a
+      (multiply d low b c)
   multiply_assoc a b c p q r =
       multiply_is (multiply d low a b) c (multiply-lt a b p) ∙ ap (λ (x : ℕ). lin d x c) (multiply_is a b p)
       ∙ lin_assoc a b c p q r ∙ sym (multiply_is a (multiply d low b c) p ∙ ap (lin d a) (multiply_is b c q))
@@ -331,7 +336,8 @@ module _ (d low : ℕ) (low_fits : low < 2 ^ d) where
   pub multiply_comm : (a b : ℕ) → a < 2 ^ d → b < 2 ^ d → multiply d low a b ≡ multiply d low b a
   multiply_comm a b p q = multiply_is a b p ∙ lin_comm a b p q ∙ sym (multiply_is b a q)
 
-  pub multiply-xor : (a b c : ℕ) → a < 2 ^ d → b < 2 ^ d → multiply d low (bit_xor a b) c ≡ bit_xor (multiply d low a c) (multiply d low b c)
+  pub multiply-xor : (a b c : ℕ) → a < 2 ^ d → b < 2 ^ d → multiply d low (bit_xor a b) c ≡ bit_xor (multiply d low a c)
+      (multiply d low b c)
   multiply-xor a b c p q =
       multiply_is (bit_xor a b) c (xor_lt d a b p q) ∙ lin-xor_left d a b c
       ∙ sym (ap (λ (x : ℕ). bit_xor x (multiply d low b c)) (multiply_is a c p) ∙ ap (bit_xor (lin d a c)) (multiply_is b c q))
@@ -364,7 +370,8 @@ module _ (d low : ℕ) (low_fits : low < 2 ^ d) where
       let blk : bit_xor (0 * 2 ^ k + r) (c * 2 ^ k + 0) ≡ bit_xor 0 c * 2 ^ k + bit_xor r 0 = xor_block k 0 c r 0 lo (pow_pos k) in
       let l : 0 * 2 ^ k + r ≡ r = omega arith in
       let e : bit_xor r (c * 2 ^ k) ≡ c * 2 ^ k + r =
-      ap (λ (x : ℕ). bit_xor x (c * 2 ^ k)) (sym l) ∙ ap (bit_xor (0 * 2 ^ k + r)) (sym (add-zero (c * 2 ^ k))) ∙ blk ∙ ap (λ (x : ℕ). c * 2 ^ k + x) (xor_zero_r r) in
+      ap (λ (x : ℕ). bit_xor x (c * 2 ^ k)) (sym l) ∙ ap (bit_xor (0 * 2 ^ k + r)) (sym (add-zero (c * 2 ^ k))) ∙ blk
+          ∙ ap (λ (x : ℕ). c * 2 ^ k + x) (xor_zero_r r) in
       sym (ap (λ (x : ℕ). multiply d low x h) (sum ∙ sym e) ∙ multiply-xor r (c * 2 ^ k) h (omega arith) (omega arith))
 
   -- the i-th multiple by x
@@ -374,7 +381,8 @@ module _ (d low : ℕ) (low_fits : low < 2 ^ d) where
   iterate-pow (suc i) h fits lt =
       let below : 2 ^ suc i < 2 ^ d = pow_below (suc i) d lt in
       let e : 2 ^ suc i ≡ 2 * 2 ^ i = omega (arith, pow-suc 2 i) in
-      ap (times_x d low) (iterate-pow i h fits (omega arith)) ∙ sym (multiply-double (2 ^ i) h (omega arith)) ∙ ap (λ (x : ℕ). multiply d low x h) (sym e)
+      ap (times_x d low) (iterate-pow i h fits (omega arith)) ∙ sym (multiply-double (2 ^ i) h (omega arith))
+          ∙ ap (λ (x : ℕ). multiply d low x h) (sym e)
 
   module _ (d_pos : 0 < d) where
     one_lt : 1 < 2 ^ d
@@ -403,9 +411,11 @@ module _ (d low : ℕ) (low_fits : low < 2 ^ d) where
         let k : ℕ = length zs + 1 in
         let longer : length (zs ++ x ∷ []) ≡ k = length-append zs (x ∷ []) in
         let first : multiply d low z (power d low h (k + 1)) ≡ multiply d low (multiply d low z (power d low h k)) h =
-        ap (λ (n : ℕ). multiply d low z (power d low h n)) (add-one k) ∙ sym (multiply_assoc z (power d low h k) h fits.0 (power-lt h k) p) in
+        ap (λ (n : ℕ). multiply d low z (power d low h n)) (add-one k) ∙ sym (multiply_assoc z (power d low h k) h fits.0 (power-lt h k) p)
+            in
         ap (λ (n : ℕ). bit_xor (multiply d low z (power d low h (n + 1))) (power_sum d low h (zs ++ x ∷ []))) longer
         ∙ ap (λ (y : ℕ). bit_xor y (power_sum d low h (zs ++ x ∷ []))) first
         ∙ ap (bit_xor (multiply d low (multiply d low z (power d low h k)) h)) (power_sum-append h zs x p fits.1 q)
-        ∙ sym (multiply-xor (multiply d low z (power d low h k)) (bit_xor (power_sum d low h zs) x) h (multiply-lt z _ fits.0) (xor_lt d _ _ (power_sum-lt h zs fits.1) q))
+        ∙ sym (multiply-xor (multiply d low z (power d low h k)) (bit_xor (power_sum d low h zs) x) h (multiply-lt z _ fits.0)
+            (xor_lt d _ _ (power_sum-lt h zs fits.1) q))
         ∙ ap (λ (y : ℕ). multiply d low y h) (sym (xor_assoc (multiply d low z (power d low h k)) (power_sum d low h zs) x))

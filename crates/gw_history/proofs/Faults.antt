@@ -81,7 +81,8 @@ pub record IsWhole (g : List ℕ) (c : Config) (h : List Act) : Type 0 where
   pub tunnels : All InstallsTunnel h
   pub faultless : All HasNoFault h
 
-whole-step : Law → Table → (g : List ℕ) (c : Config) (h : List Act) (e : Event) → c.seq_last < 4294967296 → IsEvent e → IsTunnelEvent (event_of e) →
+whole-step : Law → Table → (g : List ℕ) (c : Config) (h : List Act) (e : Event) → c.seq_last < 4294967296 → IsEvent e
+    → IsTunnelEvent (event_of e) →
     IsWhole g c h → IsWhole g c (after h (gw_block (gateway_of g c) h (event_of e)))
 whole-step law rows g c h e few p t w =
     let k : Kept = kept_of (state_of g h) in
@@ -95,7 +96,8 @@ whole-step law rows g c h e few p t w =
       faultless = all-after HasNoFault h (gw_block (gateway_of g c) h (event_of e)) w.faultless (subst (All HasNoFault) block.acts done);
     }
 
-pub whole-on : Law → Table → (g : List ℕ) (c : Config) (es : List Event) (h : List Act) → c.seq_last < 4294967296 → AreEvents es → AreTunnelEvents es →
+pub whole-on : Law → Table → (g : List ℕ) (c : Config) (es : List Event) (h : List Act) → c.seq_last < 4294967296 → AreEvents es
+    → AreTunnelEvents es →
     IsWhole g c h → IsWhole g c (after h (gw_history (gateway_of g c) h (map event_of es)))
 whole-on law rows g c [] h few p t w = w
 whole-on law rows g c (e ∷ es) h few p t w =
@@ -107,7 +109,8 @@ whole-on law rows g c (e ∷ es) h few p t w =
 pub whole-none : (g : List ℕ) (c : Config) → IsWhole g c []
 whole-none g c = record { lawful = tt; tunnels = All-nil InstallsTunnel; faultless = All-nil HasNoFault }
 
-pub sound-history : Law → Table → (c : Config) (g : List ℕ) (es : List Event) → c.seq_last < 4294967296 → AreEvents es → AreTunnelEvents es →
+pub sound-history : Law → Table → (c : Config) (g : List ℕ) (es : List Event) → c.seq_last < 4294967296 → AreEvents es → AreTunnelEvents es
+    →
     IsSound (kept_of (state_of g (after [] (gw_history (gateway_of g c) [] (map event_of es)))))
 sound-history law rows c g es few p t =
     let w = whole-on law rows g c es [] few p t (whole-none g c) in

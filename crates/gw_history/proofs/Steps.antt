@@ -71,9 +71,12 @@ pub record IsTold (c : Config) (n : Naming) (k : Kept) (e : Event) (step : Step)
   pub naming : naming_after n e ≡ step.naming
 
 pub step-told : (g : List ℕ) (c : Config) (n : Naming) (k : Kept) (e : Event) → IsTold c n k e (step_of (gateway_of g c) n k (event_of e))
-step-told g c n k (Let o) = record { acts = ap (λ zs. acts.Let n.name o ∷ zs) (done-told n (let_in c.seq_last o k).done); kept = refl; naming = refl }
-step-told g c n k (Arrive o) = record { acts = ap (λ zs. acts.Arrived n.name o ∷ zs) (done-told n (arrive c.address o k).done); kept = refl; naming = refl }
-step-told g c n k (Clock t) = record { acts = ap (λ zs. acts.Now (clock_read t k).kept.clock ∷ zs) (done-told n (clock_read t k).done); kept = refl; naming = refl }
+step-told g c n k (Let o) = record { acts = ap (λ zs. acts.Let n.name o ∷ zs) (done-told n (let_in c.seq_last o k).done); kept = refl;
+    naming = refl }
+step-told g c n k (Arrive o) = record { acts = ap (λ zs. acts.Arrived n.name o ∷ zs) (done-told n (arrive c.address o k).done); kept = refl;
+    naming = refl }
+step-told g c n k (Clock t) = record { acts = ap (λ zs. acts.Now (clock_read t k).kept.clock ∷ zs) (done-told n (clock_read t k).done);
+    kept = refl; naming = refl }
 step-told g c n k (Handle (Ok ask)) =
     let r : table.Outcome = table.reply (tree_of k) ask in
     let last : List GwAct = done.Reply (reply_of r) ∷ [] in
@@ -97,7 +100,8 @@ run-step g c n k e es step told ih =
     ∙ (ap (λ m. law.run_of (gateway_of g c) m (stepped c e k).kept (map event_of es)) told.naming
     ∙ ap (λ j. law.run_of (gateway_of g c) step.naming j (map event_of es)) told.kept))
 
-pub run-told : (g : List ℕ) (c : Config) (es : List Event) (n : Naming) (k : Kept) → run_of c n k es ≡ law.run_of (gateway_of g c) n k (map event_of es)
+pub run-told : (g : List ℕ) (c : Config) (es : List Event) (n : Naming) (k : Kept) → run_of c n k es ≡ law.run_of (gateway_of g c) n k
+    (map event_of es)
 run-told g c [] n k = refl
 run-told g c (e ∷ es) n k = run-step g c n k e es (step_of (gateway_of g c) n k (event_of e)) (step-told g c n k e) (run-told g c es)
 

@@ -25,9 +25,11 @@ ends-if g name xs names false p = p
 
 ends-are : (g : List ℕ) (now : ℕ) (xs : List Half) → goings_of g now xs ≡ ends_told g (names_reached now xs)
 ends-are g now [] = refl
-ends-are g now (x ∷ xs) = ends-if g x.entry.name (goings_of g now xs) (names_reached now xs) (is_reached x.life.hard (counts_of now x.life)) (ends-are g now xs)
+ends-are g now (x ∷ xs) = ends-if g x.entry.name (goings_of g now xs) (names_reached now xs) (is_reached x.life.hard (counts_of now x.life))
+    (ends-are g now xs)
 
-given-more : (g : List ℕ) (session : ℕ) (ns ms : List Notice) → given_by g session ns ++ given_by g session ms ≡ given_by g session (ns ++ ms)
+given-more : (g : List ℕ) (session : ℕ) (ns ms : List Notice) → given_by g session ns
+    ++ given_by g session ms ≡ given_by g session (ns ++ ms)
 given-more g session [] ms = refl
 given-more g session (n ∷ ns) ms = ap (λ zs. acts.Notice g session n ∷ zs) (given-more g session ns ms)
 
@@ -39,7 +41,8 @@ expiries-are g session now (x ∷ xs) =
 
 look-told : (g : List ℕ) (session now : ℕ) (xs : List Half) →
     look_of g session now xs ≡ ends_told g (names_reached now xs) ++ given_by g session (expiries now xs)
-look-told g session now xs = ap (λ zs. zs ++ expiries_of g session now xs) (ends-are g now xs) ∙ ap (λ zs. ends_told g (names_reached now xs) ++ zs) (expiries-are g session now xs)
+look-told g session now xs = ap (λ zs. zs ++ expiries_of g session now xs) (ends-are g now xs)
+    ∙ ap (λ zs. ends_told g (names_reached now xs) ++ zs) (expiries-are g session now xs)
 
 -- a reading of the clock: what is then the clock, and the acts behind it
 pub record IsRead (g : List ℕ) (s : GatewayState) (now : ℕ) (xs : List Act) (out : Outcome) : Type 0 where
@@ -64,19 +67,22 @@ read-on g s t k p =
     record { acts = look-told g s.session t s.halves; kept = look-at-all g s.session s1 k.apart k.few_spis } in
     record {
       clock = refl;
-      told = subst (λ m. IsTold g s (with_clock m s) (look_of g s.session t s.halves) (looked (tables.with_clock t (kept_of s)))) (sym now) told;
+      told = subst (λ m. IsTold g s (with_clock m s) (look_of g s.session t s.halves) (looked (tables.with_clock t (kept_of s)))) (sym now)
+          told;
     }
 
 read-off : (g : List ℕ) (s : GatewayState) → IsRead g s s.clock [] (outcome None [] [] (kept_of s))
 read-off g s =
     let told : IsTold g s (with_clock s.clock s) [] (outcome None [] [] (kept_of s)) = record { acts = refl; kept = refl } in
-    record { clock = refl; told = subst (λ m. IsTold g s (with_clock m s) [] (outcome None [] [] (kept_of s))) (sym (own-max s.clock)) told }
+    record { clock = refl; told = subst (λ m. IsTold g s (with_clock m s) [] (outcome None [] [] (kept_of s))) (sym (own-max s.clock))
+        told }
 
 read-by : (g : List ℕ) (s : GatewayState) (t : ℕ) (b : Bool) → IsOrderly s → nat_lt s.clock t ≡ b →
     IsRead g s (max t s.clock) (if b then look_of g s.session (max t s.clock) s.halves else [])
     (if b then looked (tables.with_clock t (kept_of s)) else outcome None [] [] (kept_of s))
 read-by g s t true k p =
-    subst (λ m. IsRead g s m (look_of g s.session m s.halves) (looked (tables.with_clock t (kept_of s)))) (sym (raised t s.clock p)) (read-on g s t k p)
+    subst (λ m. IsRead g s m (look_of g s.session m s.halves) (looked (tables.with_clock t (kept_of s)))) (sym (raised t s.clock p))
+        (read-on g s t k p)
 read-by g s t false k p = subst (λ m. IsRead g s m [] (outcome None [] [] (kept_of s))) (sym (same t s.clock p)) (read-off g s)
 
 pub clock-told : (g : List ℕ) (s : GatewayState) (t : ℕ) → IsOrderly s →

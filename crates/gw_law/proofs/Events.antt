@@ -33,7 +33,8 @@ pub record IsStep (c : Gateway) (s : GatewayState) (e : GatewayEvent) (step : St
 
 -- ---- packets and the clock
 
-told-step : (c : Gateway) (s t : GatewayState) (e : GatewayEvent) (a : Act) (xs : List Act) (out : Outcome) → acts_of c s e ≡ a ∷ xs → did c.name s a ≡ t →
+told-step : (c : Gateway) (s t : GatewayState) (e : GatewayEvent) (a : Act) (xs : List Act) (out : Outcome) → acts_of c s e ≡ a ∷ xs
+    → did c.name s a ≡ t →
     IsTold c.name s t xs out → IsStep c s e (step_by (naming_of c.name s) a out)
 told-step c s t e a xs out are began told =
     let after : next c s e ≡ did_all c.name t xs = ap (did_all c.name s) are ∙ ap (λ z. did_all c.name z xs) began in
@@ -43,20 +44,25 @@ told-step c s t e a xs out are began told =
       naming = ap (naming_of c.name) (after ∙ told.kept);
     }
 
-let-step : (c : Gateway) (s : GatewayState) (o : List ℕ) → AreSized → IsOrderly s → IsStep c s (Let o) (step_of c (naming_of c.name s) (kept_of s) (Let o))
+let-step : (c : Gateway) (s : GatewayState) (o : List ℕ) → AreSized → IsOrderly s
+    → IsStep c s (Let o) (step_of c (naming_of c.name s) (kept_of s) (Let o))
 let-step c s o sized k =
-    told-step c s (quiet s) (Let o) (acts.Let c.name o) (machine.out_by_view c.name c.seq_last s o (view_of o)) (let_in c.seq_last o (kept_of s)) refl refl
+    told-step c s (quiet s) (Let o) (acts.Let c.name o) (machine.out_by_view c.name c.seq_last s o (view_of o))
+        (let_in c.seq_last o (kept_of s)) refl refl
     (let-told c.name c.seq_last s o sized k)
 
 own : {A : Type 0} → (g : List ℕ) (x y : A) → (if bytes_eq g g then x else y) ≡ x
 own g x y = rw (same-refl g) refl
 
-arrive-step : (c : Gateway) (s : GatewayState) (o : List ℕ) → IsOrderly s → IsStep c s (Arrive o) (step_of c (naming_of c.name s) (kept_of s) (Arrive o))
+arrive-step : (c : Gateway) (s : GatewayState) (o : List ℕ) → IsOrderly s
+    → IsStep c s (Arrive o) (step_of c (naming_of c.name s) (kept_of s) (Arrive o))
 arrive-step c s o k =
-    told-step c s (with_arrival o s) (Arrive o) (acts.Arrived c.name o) (machine.in_by_view c.name c.address s o (view_of o)) (arrive c.address o (kept_of s)) refl
+    told-step c s (with_arrival o s) (Arrive o) (acts.Arrived c.name o) (machine.in_by_view c.name c.address s o (view_of o))
+        (arrive c.address o (kept_of s)) refl
     (own c.name (with_arrival o s) (quiet s)) (arrive-told c.name c.address s o k)
 
-clock-step : (c : Gateway) (s : GatewayState) (t : ℕ) → IsOrderly s → IsStep c s (Clock t) (step_of c (naming_of c.name s) (kept_of s) (Clock t))
+clock-step : (c : Gateway) (s : GatewayState) (t : ℕ) → IsOrderly s
+    → IsStep c s (Clock t) (step_of c (naming_of c.name s) (kept_of s) (Clock t))
 clock-step c s t k =
     let read = clock-told c.name s t k in
     let now : ℕ = max t s.clock in
@@ -66,7 +72,8 @@ clock-step c s t k =
 
 -- ---- requests and sessions
 
-handle-step : (c : Gateway) (s : GatewayState) (request : Result Ask Fault) → IsStep c s (Handle request) (step_of c (naming_of c.name s) (kept_of s) (Handle request))
+handle-step : (c : Gateway) (s : GatewayState) (request : Result Ask Fault)
+    → IsStep c s (Handle request) (step_of c (naming_of c.name s) (kept_of s) (Handle request))
 handle-step c s (Ok ask) =
     let left = reply-left c.name s (table.reply (tree_from s) ask) s.session (s.requests + 1) in
     record { acts = refl; kept = left.kept; naming = left.naming }
@@ -74,7 +81,8 @@ handle-step c s (Err fault) =
     let left = fault-left c.name s s.session (s.requests + 1) (fault_answer fault) in
     record { acts = refl; kept = left.kept; naming = left.naming }
 
-pub step-is : AreSized → (c : Gateway) (s : GatewayState) (e : GatewayEvent) → IsOrderly s → IsStep c s e (step_of c (naming_of c.name s) (kept_of s) e)
+pub step-is : AreSized → (c : Gateway) (s : GatewayState) (e : GatewayEvent) → IsOrderly s
+    → IsStep c s e (step_of c (naming_of c.name s) (kept_of s) e)
 step-is sized c s (Let o) k = let-step c s o sized k
 step-is sized c s (Arrive o) k = arrive-step c s o k
 step-is sized c s (Clock t) k = clock-step c s t k

@@ -63,13 +63,15 @@ found-if g e n x y a b false p q = q
 found-gave : (g : List ℕ) (e : SadEntry) (n : ℕ) (p : List ℕ) → IsFound g e n (acts.Gave g e.name n p) (answers.Gave e.name n p)
 found-gave g e n p = record { told = refl; use-of = inl (p, refl) }
 
-found-view : (g : List ℕ) (e : SadEntry) (n next : ℕ) (p : List ℕ) (r : Result Packet NotPacket) → IsFound g e n (arrive.by_inner g e n next p r) (inbound.answer_by_view e n next p r)
+found-view : (g : List ℕ) (e : SadEntry) (n next : ℕ) (p : List ℕ) (r : Result Packet NotPacket)
+    → IsFound g e n (arrive.by_inner g e n next p r) (inbound.answer_by_view e n next p r)
 found-view g e n next p (Err fault) = found-drop g e n why.Inner refl
 found-view g e n next p (Ok v) =
     found-if g e n _ _ _ _ (not (arrive.is_told_version next p)) (found-drop g e n why.Inner refl)
     (found-if g e n _ _ _ _ (holds_packet e.selector In v) (found-gave g e n p) (found-drop g e n why.Selector refl))
 
-found-packet : (g : List ℕ) (e : SadEntry) (n : ℕ) (p : Option esp.InnerPacket) → IsFound g e n (arrive.by_packet g e n p) (inbound.answer_by_packet e n p)
+found-packet : (g : List ℕ) (e : SadEntry) (n : ℕ) (p : Option esp.InnerPacket)
+    → IsFound g e n (arrive.by_packet g e n p) (inbound.answer_by_packet e n p)
 found-packet g e n None = found-drop g e n why.Padding refl
 found-packet g e n (Some p) =
     found-if g e n _ _ _ _ (p.next == 59) (found-drop g e n why.Dummy refl) (found-view g e n p.next p.octets (view_of p.octets))
@@ -89,7 +91,8 @@ if-both b c x y z p q = rw (p, q) refl
 if-true : (b : Bool) (x y : GatewayState) → b ≡ true → (if b then x else y) ≡ x
 if-true b x y p = rw p refl
 
-did-use : (g : List ℕ) (s : GatewayState) (o b : List ℕ) (i : ℕ) (x : Half) (n : ℕ) (a : PacketAnswer) → IsOrderly s → IsFor s o b i x n → IsUse x.entry n a →
+did-use : (g : List ℕ) (s : GatewayState) (o b : List ℕ) (i : ℕ) (x : Half) (n : ℕ) (a : PacketAnswer) → IsOrderly s → IsFor s o b i x n
+    → IsUse x.entry n a →
     did g (with_arrival o s) (answer_told g a) ≡ with_halves (changed (take_number s.clock (length b) n) i s.halves) s
 did-use g s o b i x n a k f (inl (p, is)) =
     let given = given-at s.clock (length b) n i x s.halves k.apart f.there in
@@ -97,7 +100,8 @@ did-use g s o b i x n a k f (inl (p, is)) =
     (if-true (bytes_eq g g) (with_halves (map (given_under x.entry.name s.clock (octets_in (Some o)) n) s.halves) s) (quiet s) (same-refl g)
     ∙ (ap (λ z. with_halves (map (given_under x.entry.name s.clock (length z) n) s.halves) s) f.octets ∙ ap (λ hs. with_halves hs s) given))
 did-use g s o b i x n a k f (inr (w, is, p)) =
-    let spi : by_spi (spi_of (esp_of o)) (entries_of s.halves) ≡ Some x.entry = ap (λ z. by_spi (spi_of z) (entries_of s.halves)) f.octets ∙ f.spi in
+    let spi : by_spi (spi_of (esp_of o)) (entries_of s.halves) ≡ Some x.entry = ap (λ z. by_spi (spi_of z) (entries_of s.halves)) f.octets
+        ∙ f.spi in
     let opened = opened-at o s.clock i x s.halves k.apart f.there spi in
     let size : octets_in (Some o) ≡ length b = ap length f.octets in
     let number : number_from x.entry x.window.top (esp_of o) ≡ n = ap (number_from x.entry x.window.top) f.octets ∙ sym f.number in
@@ -107,22 +111,28 @@ did-use g s o b i x n a k f (inr (w, is, p)) =
     ∙ (ap (λ l. with_halves (changed (take_number s.clock l (number_from x.entry x.window.top (esp_of o))) i s.halves) s) size
     ∙ ap (λ m. with_halves (changed (take_number s.clock (length b) m) i s.halves) s) number)))
 
-in-use : (g : List ℕ) (s : GatewayState) (o b : List ℕ) (i : ℕ) (x : Half) (n : ℕ) (act : Act) (a : PacketAnswer) → IsOrderly s → IsFor s o b i x n → IsFound g x.entry n act a →
-    IsTold g s (with_arrival o s) (uses_of g s o x n act) (used a i (take_number s.clock (length b) n) (take_number s.clock (length b) n x) (kept_of s))
+in-use : (g : List ℕ) (s : GatewayState) (o b : List ℕ) (i : ℕ) (x : Half) (n : ℕ) (act : Act) (a : PacketAnswer) → IsOrderly s
+    → IsFor s o b i x n → IsFound g x.entry n act a →
+    IsTold g s (with_arrival o s) (uses_of g s o x n act) (used a i (take_number s.clock (length b) n) (take_number s.clock (length b) n x)
+        (kept_of s))
 in-use g s o b i x n act a k f found =
-    let told = told-use g s (with_arrival o s) a i (take_number s.clock (length b) n) x k f.there (λ z. refl) (did-use g s o b i x n a k f found.use-of) in
+    let told = told-use g s (with_arrival o s) a i (take_number s.clock (length b) n) x k f.there (λ z. refl)
+        (did-use g s o b i x n a k f found.use-of) in
     let out = used a i (take_number s.clock (length b) n) (take_number s.clock (length b) n x) (kept_of s) in
     let size : length b ≡ octets_in (Some o) = sym (ap length f.octets) in
     subst (λ l. IsTold g s (with_arrival o s) (act ∷ look_of g s.session s.clock (take_number s.clock l n x ∷ [])) out) size
-    (subst (λ z. IsTold g s (with_arrival o s) (z ∷ look_of g s.session s.clock (take_number s.clock (length b) n x ∷ [])) out) (sym found.told) told)
+    (subst (λ z. IsTold g s (with_arrival o s) (z ∷ look_of g s.session s.clock (take_number s.clock (length b) n x ∷ [])) out)
+        (sym found.told) told)
 
 -- ---- ESP
 
-in-text : (g : List ℕ) (s : GatewayState) (o b : List ℕ) (i : ℕ) (x : Half) (n : ℕ) (text : Option (List ℕ)) → IsOrderly s → IsFor s o b i x n →
+in-text : (g : List ℕ) (s : GatewayState) (o b : List ℕ) (i : ℕ) (x : Half) (n : ℕ) (text : Option (List ℕ)) → IsOrderly s
+    → IsFor s o b i x n →
     IsTold g s (with_arrival o s) (in_by_text g s o x n text) (inbound.opened_by_text b i x n text (kept_of s))
 in-text g s o b i x n None k f = told-drop g s (with_arrival o s) why.Auth refl refl
 in-text g s o b i x n (Some text) k f =
-    in-use g s o b i x n (arrive.by_packet g x.entry n (esp.inner_packet text)) (inbound.answer_by_packet x.entry n (esp.inner_packet text)) k f
+    in-use g s o b i x n (arrive.by_packet g x.entry n (esp.inner_packet text)) (inbound.answer_by_packet x.entry n (esp.inner_packet text))
+        k f
     (found-packet g x.entry n (esp.inner_packet text))
 
 in-verdict : (g : List ℕ) (s : GatewayState) (o b : List ℕ) (i : ℕ) (x : Half) (n : ℕ) (w : Verdict) → IsOrderly s → IsFor s o b i x n →
@@ -137,9 +147,11 @@ no-half : (g : List ℕ) (s : GatewayState) (o b : List ℕ) → IsOrderly s →
 no-half g s o b k =
     told-unless g s (with_arrival o s) why.BadSpi (tells_of g s (notices.BadSpi (spi_of b))) _ (list_any (λ z. z == spi_of b) s.bad_spis)
     (told-drop g s (with_arrival o s) why.BadSpi refl refl)
-    (told-notice g s (with_arrival o s) why.BadSpi (notices.BadSpi (spi_of b)) s.halves (take 64 (spi_of b ∷ s.bad_spis)) refl refl (bad-spi-at (spi_of b) s.halves) refl)
+    (told-notice g s (with_arrival o s) why.BadSpi (notices.BadSpi (spi_of b)) s.halves (take 64 (spi_of b ∷ s.bad_spis)) refl refl
+        (bad-spi-at (spi_of b) s.halves) refl)
 
-entry-step : (spi : ℕ) (y x : Half) (ys : List Half) (c : Bool) → (find (is_half_of_spi spi) ys ≡ Some x → by_spi spi (entries_of ys) ≡ Some x.entry) →
+entry-step : (spi : ℕ) (y x : Half) (ys : List Half) (c : Bool)
+    → (find (is_half_of_spi spi) ys ≡ Some x → by_spi spi (entries_of ys) ≡ Some x.entry) →
     (if c then Some y else find (is_half_of_spi spi) ys) ≡ Some x → (if c then Some y.entry else by_spi spi (entries_of ys)) ≡ Some x.entry
 entry-step spi y x ys true ih p = let e : y ≡ x = cc in ap (λ z. Some z.entry) e
 entry-step spi y x ys false ih p = ih p
@@ -149,17 +161,21 @@ entry-by : (spi : ℕ) (xs : List Half) (x : Half) → half_by_spi spi xs ≡ So
 entry-by spi [] x p = let c : None ≡ Some x = p in cc
 entry-by spi (y ∷ ys) x p = entry-step spi y x ys (is_half_of_spi spi y) (λ q. entry-by spi ys x q) p
 
-in-half : (g : List ℕ) (s : GatewayState) (o b : List ℕ) (i : ℕ) (found : Option Half) → IsOrderly s → esp_of o ≡ b → slice_get s.halves i ≡ found → half_by_spi (spi_of b) s.halves ≡ found →
+in-half : (g : List ℕ) (s : GatewayState) (o b : List ℕ) (i : ℕ) (found : Option Half) → IsOrderly s → esp_of o ≡ b
+    → slice_get s.halves i ≡ found → half_by_spi (spi_of b) s.halves ≡ found →
     IsTold g s (with_arrival o s) (in_by_half g s o b found) (inbound.opened_at b i found (kept_of s))
 in-half g s o b i None k e at spi = no-half g s o b k
 in-half g s o b i (Some x) k e at spi =
     let n : ℕ = number_from x.entry x.window.top b in
-    in-verdict g s o b i x n (judged x.window n) k (record { there = at; octets = e; spi = entry-by (spi_of b) s.halves x spi; number = refl })
+    in-verdict g s o b i x n (judged x.window n) k (record { there = at; octets = e; spi = entry-by (spi_of b) s.halves x spi; number =
+        refl })
 
-in-place : (g : List ℕ) (s : GatewayState) (o b : List ℕ) (place : Option ℕ) → IsOrderly s → esp_of o ≡ b → option_and_then (slice_get s.halves) place ≡ half_by_spi (spi_of b) s.halves →
+in-place : (g : List ℕ) (s : GatewayState) (o b : List ℕ) (place : Option ℕ) → IsOrderly s → esp_of o ≡ b
+    → option_and_then (slice_get s.halves) place ≡ half_by_spi (spi_of b) s.halves →
     IsTold g s (with_arrival o s) (in_by_half g s o b (half_by_spi (spi_of b) s.halves)) (inbound.opened_by_place b place (kept_of s))
 in-place g s o b None k e at =
-    subst (λ found. IsTold g s (with_arrival o s) (in_by_half g s o b found) (inbound.without_half (spi_of b) (kept_of s))) at (no-half g s o b k)
+    subst (λ found. IsTold g s (with_arrival o s) (in_by_half g s o b found) (inbound.without_half (spi_of b) (kept_of s))) at
+        (no-half g s o b k)
 in-place g s o b (Some i) k e at =
     subst (λ found. IsTold g s (with_arrival o s) (in_by_half g s o b found) (inbound.opened_at b i (slice_get s.halves i) (kept_of s))) at
     (in-half g s o b i (slice_get s.halves i) k e refl (sym at))
@@ -187,7 +203,8 @@ in-view : (g : List ℕ) (own : Addr) (s : GatewayState) (o : List ℕ) (r : Res
     IsTold g s (with_arrival o s) (in_by_view g own s o r) (inbound.arrive_by_view own o r (kept_of s))
 in-view g own s o (Err fault) k e = told-drop g s (with_arrival o s) (fault_why fault) (fault-quiet fault) refl
 in-view g own s o (Ok v) k e =
-    told-if g s (with_arrival o s) _ _ _ _ (arrive.is_sealed_for own v) (in-octets g s o v.payload k (ap payload_of e)) (in-entry g s o (first_entry s.spd In v))
+    told-if g s (with_arrival o s) _ _ _ _ (arrive.is_sealed_for own v) (in-octets g s o v.payload k (ap payload_of e))
+        (in-entry g s o (first_entry s.spd In v))
 
 pub arrive-told : (g : List ℕ) (own : Addr) (s : GatewayState) (o : List ℕ) → IsOrderly s →
     IsTold g s (with_arrival o s) (in_by_view g own s o (view_of o)) (inbound.arrive own o (kept_of s))

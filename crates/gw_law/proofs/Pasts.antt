@@ -23,14 +23,16 @@ use Rattle.gw_law.specs.Orderly.{HasOwnWindow, HasTunnel, InstallsTunnel, IsOrde
 
 -- ---- names
 
-names-any : (g : List ℕ) (h : List Act) (name : List ℕ) (es : List SadEntry) → list_any (λ y. bytes_eq y name) (names_of (map (half_of g h) es)) ≡ has_half name es
+names-any : (g : List ℕ) (h : List Act) (name : List ℕ) (es : List SadEntry)
+    → list_any (λ y. bytes_eq y name) (names_of (map (half_of g h) es)) ≡ has_half name es
 names-any g h name [] = refl
 names-any g h name (e ∷ es) = ap (λ b. bytes_eq e.name name || b) (names-any g h name es)
 
 pub apart-is : (g : List ℕ) (h : List Act) (es : List SadEntry) → are_names_apart (names_of (map (half_of g h) es)) ≡ are_apart es
 apart-is g h [] = refl
 apart-is g h (e ∷ es) =
-    ap (λ b. not b && are_names_apart (names_of (map (half_of g h) es))) (names-any g h e.name es) ∙ ap (λ b. not (has_half e.name es) && b) (apart-is g h es)
+    ap (λ b. not b && are_names_apart (names_of (map (half_of g h) es))) (names-any g h e.name es)
+        ∙ ap (λ b. not (has_half e.name es) && b) (apart-is g h es)
 
 same-length : (g : List ℕ) (h : List Act) (es : List SadEntry) → length (map (half_of g h) es) ≡ length es
 same-length g h [] = refl
@@ -52,7 +54,8 @@ size-is w (n ∷ ns) = size-is (marked w n) ns
 windows-are : (g : List ℕ) (h : List Act) (es : List SadEntry) → All HasOwnWindow (map (half_of g h) es)
 windows-are g h [] = All-nil HasOwnWindow
 windows-are g h (e ∷ es) =
-    All-cons HasOwnWindow (half_of g h e) (map (half_of g h) es) (size-is (no_marks e.window) (numbers_taken g e.name h)) (windows-are g h es)
+    All-cons HasOwnWindow (half_of g h e) (map (half_of g h) es) (size-is (no_marks e.window) (numbers_taken g e.name h))
+        (windows-are g h es)
 
 -- ---- what was installed
 
@@ -67,7 +70,8 @@ all-without P name (e ∷ es) p =
     all-if P (bytes_eq e.name name) (without name es) (e ∷ without name es) rest (All-cons P e (without name es) (All-head P e es p) rest)
 
 -- what holds of each half that was installed holds of each live one
-pub live-all : (P : SadEntry → Type 0) (Q : Act → Type 0) → ((f : List ℕ) (e : SadEntry) → Q (acts.Put f e) → P e) → (g : List ℕ) (h : List Act) → All Q h → All P (live g h)
+pub live-all : (P : SadEntry → Type 0) (Q : Act → Type 0) → ((f : List ℕ) (e : SadEntry) → Q (acts.Put f e) → P e)
+    → (g : List ℕ) (h : List Act) → All Q h → All P (live g h)
 live-all P Q put g [] l = All-nil P
 live-all P Q put g (acts.Put f e ∷ h) l =
     let rest = live-all P Q put g h (All-tail Q (acts.Put f e) h l) in

@@ -38,10 +38,12 @@ one-left g s a z p = record { kept = ap kept_of p; naming = ap (naming_of g) p }
 
 -- ---- a change
 
-pub change-left : (g : List ℕ) (s : GatewayState) (r : table.Outcome) (c : Change) → Leaves g s (change_acts g r c) (kept_after r.tree.spd c (kept_of s)) (naming_of g s)
+pub change-left : (g : List ℕ) (s : GatewayState) (r : table.Outcome) (c : Change)
+    → Leaves g s (change_acts g r c) (kept_after r.tree.spd c (kept_of s)) (naming_of g s)
 change-left g s r changes.Nothing = record { kept = refl; naming = refl }
 change-left g s r changes.Spd =
-    one-left g s (acts.Policy g r.tree.spd) (with_policy r.tree.spd s) (own (bytes_eq g g) (with_policy r.tree.spd s) (quiet s) (same-refl g))
+    one-left g s (acts.Policy g r.tree.spd) (with_policy r.tree.spd s) (own (bytes_eq g g) (with_policy r.tree.spd s) (quiet s)
+        (same-refl g))
 change-left g s r (changes.Put e) =
     let z : GatewayState = with_put (s.halves ++ fresh s.clock e ∷ []) (wanted_after e s) s in
     one-left g s (acts.Put g e) z (own (bytes_eq g g) z (quiet s) (same-refl g))
@@ -49,14 +51,17 @@ change-left g s r (changes.Gone name) =
     let z : GatewayState = with_halves (halves_without name s.halves) s in
     one-left g s (acts.Gone g name gone.Removed) z (own (bytes_eq g g) z (quiet s) (same-refl g))
 
-handled-left : (g : List ℕ) (s : GatewayState) (t m : ℕ) (a : Answer) → Leaves g s (acts.Handled g t m a ∷ []) (kept_of s) (told.with_request (naming_of g s))
+handled-left : (g : List ℕ) (s : GatewayState) (t m : ℕ) (a : Answer) → Leaves g s (acts.Handled g t m a ∷ []) (kept_of s)
+    (told.with_request (naming_of g s))
 handled-left g s t m a = one-left g s (acts.Handled g t m a) (with_request s) (own (bytes_eq g g) (with_request s) (quiet s) (same-refl g))
 
-pub fault-left : (g : List ℕ) (s : GatewayState) (t m : ℕ) (a : Answer) → Leaves g s (acts.Handled g t m a ∷ []) (kept_of s) (told.with_request (naming_of g s))
+pub fault-left : (g : List ℕ) (s : GatewayState) (t m : ℕ) (a : Answer) → Leaves g s (acts.Handled g t m a ∷ []) (kept_of s)
+    (told.with_request (naming_of g s))
 fault-left g s t m a = handled-left g s t m a
 
 pub reply-left : (g : List ℕ) (s : GatewayState) (r : table.Outcome) (t m : ℕ) →
-    Leaves g s (change_acts g r r.change ++ acts.Handled g t m (answer_of r) ∷ []) (kept_after r.tree.spd r.change (kept_of s)) (told.with_request (naming_of g s))
+    Leaves g s (change_acts g r r.change ++ acts.Handled g t m (answer_of r) ∷ []) (kept_after r.tree.spd r.change (kept_of s))
+        (told.with_request (naming_of g s))
 reply-left g s r t m =
     let z : GatewayState = did_all g s (change_acts g r r.change) in
     let last : List Act = acts.Handled g t m (answer_of r) ∷ [] in
@@ -70,7 +75,8 @@ reply-left g s r t m =
 
 -- ---- a session
 
-pub session-left : (g : List ℕ) (s : GatewayState) → Leaves g s (acts.Opened g (s.openings + 1) ∷ []) (session_taken (kept_of s)) (told.with_session (naming_of g s))
+pub session-left : (g : List ℕ) (s : GatewayState) → Leaves g s (acts.Opened g (s.openings + 1) ∷ []) (session_taken (kept_of s))
+    (told.with_session (naming_of g s))
 session-left g s =
     let z : GatewayState = with_session (s.openings + 1) (map hushed s.halves) s in
     one-left g s (acts.Opened g (s.openings + 1)) z (own (bytes_eq g g) z (quiet s) (same-refl g))
@@ -89,13 +95,16 @@ same-top true n = refl
 same-top false n = refl
 
 abbrev row-made : SadEntry → ℕ → ℕ → SadRow
-row-made e time top = record { entry = e; state = record { current = record { time = time; bytes = 0; packets = 0; idle = time }; top = top } }
+row-made e time top = record { entry = e; state = record { current = record { time = time; bytes = 0; packets = 0; idle = time }; top =
+    top } }
 
 row-fresh : (now : ℕ) (e : SadEntry) → row_from now (fresh now e) ≡ table.new_row e
 row-fresh now e =
-    ap (λ t. row-made e t (if is_inbound e.name then 0 else 0)) (no-time now) ∙ ap (λ top. row-made e 0 top) (same-top (is_inbound e.name) 0)
+    ap (λ t. row-made e t (if is_inbound e.name then 0 else 0)) (no-time now)
+        ∙ ap (λ top. row-made e 0 top) (same-top (is_inbound e.name) 0)
 
-rows-end : (now : ℕ) (e : SadEntry) (xs : List Half) → map (row_from now) (xs ++ fresh now e ∷ []) ≡ map (row_from now) xs ++ table.new_row e ∷ []
+rows-end : (now : ℕ) (e : SadEntry) (xs : List Half) → map (row_from now) (xs ++ fresh now e ∷ []) ≡ map (row_from now) xs
+    ++ table.new_row e ∷ []
 rows-end now e [] = ap (λ r. r ∷ []) (row-fresh now e)
 rows-end now e (x ∷ xs) = ap (λ rows. row_from now x ∷ rows) (rows-end now e xs)
 
@@ -105,7 +114,8 @@ rows-step : (now : ℕ) (name : List ℕ) (x : Half) (xs : List Half) (b : Bool)
 rows-step now name x xs true p ih = rw p ih
 rows-step now name x xs false p ih = rw p (ap (λ rows. row_from now x ∷ rows) ih)
 
-rows-without : (now : ℕ) (name : List ℕ) (xs : List Half) → map (row_from now) (halves_without name xs) ≡ table.without_row name (map (row_from now) xs)
+rows-without : (now : ℕ) (name : List ℕ) (xs : List Half) → map (row_from now) (halves_without name xs) ≡ table.without_row name
+    (map (row_from now) xs)
 rows-without now name [] = refl
 rows-without now name (x ∷ xs) = rows-step now name x xs (bytes_eq x.entry.name name) refl (rows-without now name xs)
 

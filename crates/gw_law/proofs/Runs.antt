@@ -43,8 +43,10 @@ pub record Law : Type 0 where
 -- what an event does after a past
 pub record IsBlock (c : Gateway) (h : List Act) (e : GatewayEvent) : Type 0 where
   pub acts : (step_of c (naming_of c.name (state_of c.name h)) (kept_of (state_of c.name h)) e).acts ≡ gw_block c h e
-  pub kept : (step_of c (naming_of c.name (state_of c.name h)) (kept_of (state_of c.name h)) e).kept ≡ kept_of (state_of c.name (after h (gw_block c h e)))
-  pub naming : (step_of c (naming_of c.name (state_of c.name h)) (kept_of (state_of c.name h)) e).naming ≡ naming_of c.name (state_of c.name (after h (gw_block c h e)))
+  pub kept : (step_of c (naming_of c.name (state_of c.name h)) (kept_of (state_of c.name h)) e).kept ≡ kept_of
+      (state_of c.name (after h (gw_block c h e)))
+  pub naming : (step_of c (naming_of c.name (state_of c.name h)) (kept_of (state_of c.name h)) e).naming ≡ naming_of c.name
+      (state_of c.name (after h (gw_block c h e)))
 
 pub block-is : Law → (c : Gateway) (h : List Act) (e : GatewayEvent) → IsGatewayPast c h → All InstallsTunnel h → IsBlock c h e
 block-is law c h e l t =
@@ -56,11 +58,13 @@ block-is law c h e l t =
       naming = sym step.naming ∙ ap (naming_of c.name) (sym (law.keeps c h e));
     }
 
-pub installs-after : Law → (c : Gateway) (h : List Act) (e : GatewayEvent) → IsGatewayPast c h → All InstallsTunnel h → IsTunnelEvent e → All InstallsTunnel (after h (gw_block c h e))
+pub installs-after : Law → (c : Gateway) (h : List Act) (e : GatewayEvent) → IsGatewayPast c h → All InstallsTunnel h → IsTunnelEvent e
+    → All InstallsTunnel (after h (gw_block c h e))
 installs-after law c h e l t p =
     let s : GatewayState = state_of c.name h in
     let block = block-is law c h e l t in
-    all-after InstallsTunnel h (gw_block c h e) t (subst (All InstallsTunnel) block.acts (step-installs c (naming_of c.name s) (kept_of s) e p))
+    all-after InstallsTunnel h (gw_block c h e) t
+        (subst (All InstallsTunnel) block.acts (step-installs c (naming_of c.name s) (kept_of s) e p))
 
 -- what events do after a past
 pub record IsHistory (c : Gateway) (h : List Act) (es : List GatewayEvent) (run : Step) : Type 0 where
@@ -80,7 +84,8 @@ run-step c h e es k n block same-kept same-naming ih =
     let later : List Act = after h (gw_block c h e) in
     let step : Step = step_of c (naming_of c.name (state_of c.name h)) (kept_of (state_of c.name h)) e in
     let ih' : IsHistory c later es (run_of c step.naming step.kept es) =
-    subst (λ m. IsHistory c later es (run_of c m step.kept es)) same-naming (subst (λ z. IsHistory c later es (run_of c n z es)) same-kept ih) in
+    subst (λ m. IsHistory c later es (run_of c m step.kept es)) same-naming (subst (λ z. IsHistory c later es (run_of c n z es)) same-kept
+        ih) in
     let joined = after-append h (gw_block c h e) (gw_history c later es) in
     record {
       acts = ap (λ zs. zs ++ (run_of c step.naming step.kept es).acts) block.acts ∙ ap (λ zs. gw_block c h e ++ zs) ih'.acts;
@@ -88,13 +93,15 @@ run-step c h e es k n block same-kept same-naming ih =
       naming = ih'.naming ∙ ap (λ p. naming_of c.name (state_of c.name p)) (sym joined);
     }
 
-pub run-is : Law → (c : Gateway) (h : List Act) (es : List GatewayEvent) → IsGatewayPast c h → All InstallsTunnel h → AreTunnelEvents es → IsHistory c h es (run_after c h es)
+pub run-is : Law → (c : Gateway) (h : List Act) (es : List GatewayEvent) → IsGatewayPast c h → All InstallsTunnel h → AreTunnelEvents es
+    → IsHistory c h es (run_after c h es)
 run-is law c h [] l t p = record { acts = refl; kept = refl; naming = refl }
 run-is law c h (e ∷ es) l t p =
     let later : List Act = after h (gw_block c h e) in
     let block = block-is law c h e l t in
     let ih = run-is law c later es (law.lawful c h e l) (installs-after law c h e l t p.0) p.1 in
-    run-step c h e es (kept_of (state_of c.name later)) (naming_of c.name (state_of c.name later)) block (sym block.kept) (sym block.naming) ih
+    run-step c h e es (kept_of (state_of c.name later)) (naming_of c.name (state_of c.name later)) block (sym block.kept) (sym block.naming)
+        ih
 
 pub past-on : Law → (c : Gateway) (h : List Act) (es : List GatewayEvent) → IsGatewayPast c h → All InstallsTunnel h → AreTunnelEvents es →
     IsGatewayPast c (after h (gw_history c h es)) × All InstallsTunnel (after h (gw_history c h es))
@@ -104,7 +111,8 @@ past-on law c h (e ∷ es) l t p =
     rw (after-append h (gw_block c h e) (gw_history c later es))
     (past-on law c later es (law.lawful c h e l) (installs-after law c h e l t p.0) p.1)
 
-pub orderly-on : Law → (c : Gateway) (h : List Act) (es : List GatewayEvent) → IsGatewayPast c h → All InstallsTunnel h → AreTunnelEvents es →
+pub orderly-on : Law → (c : Gateway) (h : List Act) (es : List GatewayEvent) → IsGatewayPast c h → All InstallsTunnel h → AreTunnelEvents es
+    →
     IsOrderly (state_of c.name (after h (gw_history c h es)))
 orderly-on law c h es l t p =
     let on = past-on law c h es l t p in
@@ -125,7 +133,8 @@ run-begun law c es p = run-is law c [] es tt (All-nil InstallsTunnel) p
 -- ---- after a restart
 
 -- a reading right after the start gives the clock, and does nothing else
-read-by : (t : ℕ) (b : Bool) → nat_lt 0 t ≡ b → (if b then looked (with_clock t booted) else outcome None [] [] booted) ≡ outcome None [] [] (with_clock t booted)
+read-by : (t : ℕ) (b : Bool) → nat_lt 0 t ≡ b → (if b then looked (with_clock t booted) else outcome None [] [] booted) ≡ outcome None [] []
+    (with_clock t booted)
 read-by t true p = refl
 read-by t false p = let e : 0 ≡ t = grind arith in ap (λ m. outcome None [] [] (with_clock m booted)) e
 
@@ -135,7 +144,8 @@ read-first t = read-by t (nat_lt 0 t) refl
 state-after : (g : List ℕ) (h : List Act) → state_of g (acts.Boot g ∷ h) ≡ states.restarted (state_of g h)
 state-after g h = keeps g h (acts.Boot g) tt ∙ own (bytes_eq g g) (same-refl g)
   where
-    own : (b : Bool) → b ≡ true → (if b then states.restarted (state_of g h) else states.quiet (state_of g h)) ≡ states.restarted (state_of g h)
+    own : (b : Bool) → b ≡ true → (if b then states.restarted (state_of g h) else states.quiet (state_of g h)) ≡ states.restarted
+        (state_of g h)
     own b p = rw p refl
 
 pub kept-restarted : (g : List ℕ) (h : List Act) → kept_of (state_of g (acts.Boot g ∷ h)) ≡ (clock_read (clock h) booted).kept
@@ -144,8 +154,10 @@ kept-restarted g h = ap kept_of (state-after g h) ∙ ap (λ (out : Outcome). ou
 pub naming-restarted : (g : List ℕ) (h : List Act) → naming_of g (state_of g (acts.Boot g ∷ h)) ≡ restarted (naming_of g (state_of g h))
 naming-restarted g h = ap (naming_of g) (state-after g h)
 
-pub run-restarted : Law → (c : Gateway) (h : List Act) (es : List GatewayEvent) → IsGatewayPast c h → All InstallsTunnel h → AreTunnelEvents es →
-    IsHistory c (acts.Boot c.name ∷ h) es (run_of c (restarted (naming_of c.name (state_of c.name h))) (clock_read (clock h) booted).kept es)
+pub run-restarted : Law → (c : Gateway) (h : List Act) (es : List GatewayEvent) → IsGatewayPast c h → All InstallsTunnel h
+    → AreTunnelEvents es →
+    IsHistory c (acts.Boot c.name ∷ h) es (run_of c (restarted (naming_of c.name (state_of c.name h))) (clock_read (clock h) booted).kept
+        es)
 run-restarted law c h es l t p =
     let past : List Act = acts.Boot c.name ∷ h in
     subst (λ n. IsHistory c past es (run_of c n (clock_read (clock h) booted).kept es)) (naming-restarted c.name h)
@@ -160,18 +172,22 @@ LivesAfter c h lives = lives_of c (naming_of c.name (state_of c.name h)) (kept_o
 
 life-step : (c : Gateway) (h : List Act) (es : List GatewayEvent) (more : List (List GatewayEvent)) (run : Step) → IsHistory c h es run →
     LivesAfter c (acts.Boot c.name ∷ after h (gw_history c h es)) more →
-    run.acts ++ acts.Boot c.name ∷ lives_of c (restarted run.naming) (clock_read run.kept.clock booted).kept more ≡ lives_after c h (es ∷ more)
+    run.acts ++ acts.Boot c.name ∷ lives_of c (restarted run.naming) (clock_read run.kept.clock booted).kept more ≡ lives_after c h (es
+        ∷ more)
 life-step c h es more run is ih =
     let mid : List Act = after h (gw_history c h es) in
     let past : List Act = acts.Boot c.name ∷ mid in
-    let naming : restarted run.naming ≡ naming_of c.name (state_of c.name past) = ap restarted is.naming ∙ sym (naming-restarted c.name mid) in
-    let kept : (clock_read run.kept.clock booted).kept ≡ kept_of (state_of c.name past) = ap (λ (k : Kept). (clock_read k.clock booted).kept) is.kept ∙ sym (kept-restarted c.name mid) in
+    let naming : restarted run.naming ≡ naming_of c.name (state_of c.name past) = ap restarted is.naming ∙ sym (naming-restarted c.name mid)
+        in
+    let kept : (clock_read run.kept.clock booted).kept ≡ kept_of (state_of c.name past) =
+        ap (λ (k : Kept). (clock_read k.clock booted).kept) is.kept ∙ sym (kept-restarted c.name mid) in
     ap (λ xs. xs ++ acts.Boot c.name ∷ lives_of c (restarted run.naming) (clock_read run.kept.clock booted).kept more) is.acts
     ∙ ap (λ xs. gw_history c h es ++ acts.Boot c.name ∷ xs)
     (ap (λ n. lives_of c n (clock_read run.kept.clock booted).kept more) naming
     ∙ (ap (λ k. lives_of c (naming_of c.name (state_of c.name past)) k more) kept ∙ ih))
 
-pub lives-are : Law → (c : Gateway) (h : List Act) (lives : List (List GatewayEvent)) → IsGatewayPast c h → All InstallsTunnel h → AreTunnelLives lives → LivesAfter c h lives
+pub lives-are : Law → (c : Gateway) (h : List Act) (lives : List (List GatewayEvent)) → IsGatewayPast c h → All InstallsTunnel h
+    → AreTunnelLives lives → LivesAfter c h lives
 lives-are law c h [] l t p = refl
 lives-are law c h (es ∷ more) l t p =
     let on = past-on law c h es l t p.0 in
@@ -179,7 +195,8 @@ lives-are law c h (es ∷ more) l t p =
     life-step c h es more (run_after c h es) (run-is law c h es l t p.0)
     (lives-are law c (acts.Boot c.name ∷ mid) more (tt, on.0) (All-cons InstallsTunnel (acts.Boot c.name) mid tt on.1) p.1)
 
-lawful-lives : Law → (c : Gateway) (h : List Act) (lives : List (List GatewayEvent)) → IsGatewayPast c h → All InstallsTunnel h → AreTunnelLives lives →
+lawful-lives : Law → (c : Gateway) (h : List Act) (lives : List (List GatewayEvent)) → IsGatewayPast c h → All InstallsTunnel h
+    → AreTunnelLives lives →
     IsGatewayPast c (after h (lives_after c h lives))
 lawful-lives law c h [] l t p = l
 lawful-lives law c h (es ∷ more) l t p =
@@ -188,16 +205,19 @@ lawful-lives law c h (es ∷ more) l t p =
     rw (after-append h (gw_history c h es) (acts.Boot c.name ∷ lives_after c (acts.Boot c.name ∷ mid) more))
     (lawful-lives law c (acts.Boot c.name ∷ mid) more (tt, on.0) (All-cons InstallsTunnel (acts.Boot c.name) mid tt on.1) p.1)
 
-pub lives-begun : Law → (c : Gateway) (lives : List (List GatewayEvent)) → AreTunnelLives lives → lives_of c (begun c.name) booted lives ≡ lives_after c [] lives
+pub lives-begun : Law → (c : Gateway) (lives : List (List GatewayEvent)) → AreTunnelLives lives
+    → lives_of c (begun c.name) booted lives ≡ lives_after c [] lives
 lives-begun law c lives p = lives-are law c [] lives tt (All-nil InstallsTunnel) p
 
-pub safe-lives : Law → (c : Gateway) (lives : List (List GatewayEvent)) → AreTunnelLives lives → IsGatewaySafe (after [] (lives_of c (begun c.name) booted lives))
+pub safe-lives : Law → (c : Gateway) (lives : List (List GatewayEvent)) → AreTunnelLives lives
+    → IsGatewaySafe (after [] (lives_of c (begun c.name) booted lives))
 safe-lives law c lives p =
     subst (λ xs. IsGatewaySafe (after [] xs)) (sym (lives-begun law c lives p))
     (law.safe c (after [] (lives_after c [] lives)) (lawful-lives law c [] lives tt (All-nil InstallsTunnel) p))
 
 -- ---- the law of the crate below, from its functions
 
-pub sizes-are : ((e : SadEntry) (n : ℕ) (v : Packet) (o : List ℕ) → AreOneFamily e.local e.remote → esp_of (datagram e n v o) ≡ esp (keying e.spi e.key) n (next_header o) o) →
+pub sizes-are : ((e : SadEntry) (n : ℕ) (v : Packet) (o : List ℕ) → AreOneFamily e.local e.remote
+    → esp_of (datagram e n v o) ≡ esp (keying e.spi e.key) n (next_header o) o) →
     SealedLength → AreSized
 sizes-are octets len e n v o family = ap length (octets e n v o family) ∙ len (keying e.spi e.key) n (next_header o) o

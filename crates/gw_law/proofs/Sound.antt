@@ -36,8 +36,10 @@ list-if false xs ys p q = q
 force-sound : (g : List ℕ) (h : List Act) → All HasNoFault h → spd_fault (force g h) ≡ None
 force-sound g [] l = none-of-none
 force-sound g (acts.Policy f list ∷ h) l =
-    list-if (bytes_eq f g) list (force g h) (All-head HasNoFault (acts.Policy f list) h l) (force-sound g h (All-tail HasNoFault (acts.Policy f list) h l))
-force-sound g (acts.Boot f ∷ h) l = list-if (bytes_eq f g) [] (force g h) none-of-none (force-sound g h (All-tail HasNoFault (acts.Boot f) h l))
+    list-if (bytes_eq f g) list (force g h) (All-head HasNoFault (acts.Policy f list) h l)
+        (force-sound g h (All-tail HasNoFault (acts.Policy f list) h l))
+force-sound g (acts.Boot f ∷ h) l = list-if (bytes_eq f g) [] (force g h) none-of-none
+    (force-sound g h (All-tail HasNoFault (acts.Boot f) h l))
 force-sound g (a ∷ h) l = force-sound g h (All-tail HasNoFault a h l)
 
 -- ---- numbers
@@ -64,7 +66,8 @@ sent-few : (c : Gateway) (g x : List ℕ) (h : List Act) → IsGatewayPast c h �
 sent-few c g x [] l = omega arith
 sent-few c g x (acts.Put f e ∷ h) l = few-put (is_half f e.name g x) (sent g x h) c.seq_last (sent-few c g x h l.1)
 sent-few c g x (acts.Sent f y n o ∷ h) l =
-    few-sent (is_half f y g x) (sent g x h) c.seq_last (sent-few c g x h l.1) (same-sent h f y g x c.seq_last (below (sent f y h) c.seq_last l.0.in_limit))
+    few-sent (is_half f y g x) (sent g x h) c.seq_last (sent-few c g x h l.1)
+        (same-sent h f y g x c.seq_last (below (sent f y h) c.seq_last l.0.in_limit))
 sent-few c g x (a ∷ h) l = sent-few c g x h l.1
 
 -- ---- halves
@@ -72,7 +75,8 @@ sent-few c g x (a ∷ h) l = sent-few c g x h l.1
 abbrev HalfHasNone : SadEntry → Type 0
 HalfHasNone e = sad_fault e ≡ None
 
-halves-sound : (c : Gateway) (g : List ℕ) (h : List Act) (es : List SadEntry) → IsGatewayPast c h → c.seq_last < 4294967296 → All HalfHasNone es → AreHalves (map (half_of g h) es)
+halves-sound : (c : Gateway) (g : List ℕ) (h : List Act) (es : List SadEntry) → IsGatewayPast c h → c.seq_last < 4294967296
+    → All HalfHasNone es → AreHalves (map (half_of g h) es)
 halves-sound c g h [] l m all = tt
 halves-sound c g h (e ∷ es) l m all =
     let few = sent-few c g e.name h l in
@@ -88,7 +92,8 @@ length-take zero xs = omega arith
 length-take (suc n) [] = omega arith
 length-take (suc n) (x ∷ xs) = let ih = length-take n xs in omega (arith, ih)
 
-pub sound-past : (c : Gateway) (g : List ℕ) (h : List Act) → IsGatewayPast c h → c.seq_last < 4294967296 → All HasNoFault h → IsSound (kept_of (state_of g h))
+pub sound-past : (c : Gateway) (g : List ℕ) (h : List Act) → IsGatewayPast c h → c.seq_last < 4294967296 → All HasNoFault h
+    → IsSound (kept_of (state_of g h))
 sound-past c g h l m none =
     let are = halves-are g h (lawful-installed c g h l) in
     record {

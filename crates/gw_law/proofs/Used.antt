@@ -74,12 +74,14 @@ told-drop g s t w p q = record { acts = refl; kept = drop-quiet g t w p ∙ q }
 
 -- ---- notices
 
-noticed : (s : GatewayState) (n : Notice) (b : Bool) (hs : List Half) (spis : List ℕ) → b ≡ true → map (note n) s.halves ≡ hs → take 64 (with_spi n s.bad_spis) ≡ spis →
+noticed : (s : GatewayState) (n : Notice) (b : Bool) (hs : List Half) (spis : List ℕ) → b ≡ true → map (note n) s.halves ≡ hs
+    → take 64 (with_spi n s.bad_spis) ≡ spis →
     (if b then with_notice (map (note n) s.halves) (with_acquire n s.acquires) (take 64 (with_spi n s.bad_spis)) (quiet s) else quiet s)
     ≡ with_notice hs (with_acquire n s.acquires) spis s
 noticed s n b hs spis p q r = rw (p, q, r) refl
 
-pub told-notice : (g : List ℕ) (s t : GatewayState) (w : DropWhy) (n : Notice) (hs : List Half) (spis : List ℕ) → is_opened w ≡ false → quiet t ≡ quiet s →
+pub told-notice : (g : List ℕ) (s t : GatewayState) (w : DropWhy) (n : Notice) (hs : List Half) (spis : List ℕ) → is_opened w ≡ false
+    → quiet t ≡ quiet s →
     map (note n) s.halves ≡ hs → take 64 (with_spi n s.bad_spis) ≡ spis →
     IsTold g s t (acts.Drop g w ∷ tells_of g s n)
     (dropped_and_told w n (record { spd = s.spd; halves = hs; acquires = with_acquire n s.acquires; bad_spis = spis; clock = s.clock }))
@@ -104,7 +106,8 @@ half-at P (y ∷ ys) zero x all at =
     subst P e (All-head P y ys all)
 half-at P (y ∷ ys) (suc i) x all at = half-at P ys i x (All-tail P y ys all) at
 
-pub changed-there : (f : Half → Half) (xs : List Half) (i : ℕ) (x : Half) → slice_get xs i ≡ Some x → slice_get (changed f i xs) i ≡ Some (f x)
+pub changed-there : (f : Half → Half) (xs : List Half) (i : ℕ) (x : Half) → slice_get xs i ≡ Some x
+    → slice_get (changed f i xs) i ≡ Some (f x)
 changed-there f [] i x at = let c : None ≡ Some x = at in cc
 changed-there f (y ∷ ys) zero x at =
     let c : Some y ≡ Some x = at in
@@ -117,7 +120,8 @@ changed-twice f k [] i = refl
 changed-twice f k (y ∷ ys) zero = refl
 changed-twice f k (y ∷ ys) (suc i) = ap (λ zs. y ∷ zs) (changed-twice f k ys i)
 
-pub changed-names : (f : Half → Half) → ((x : Half) → (f x).entry ≡ x.entry) → (xs : List Half) (i : ℕ) → names_of (changed f i xs) ≡ names_of xs
+pub changed-names : (f : Half → Half) → ((x : Half) → (f x).entry ≡ x.entry) → (xs : List Half) (i : ℕ)
+    → names_of (changed f i xs) ≡ names_of xs
 changed-names f keeps [] i = refl
 changed-names f keeps (y ∷ ys) zero = ap (λ e. e.name ∷ names_of ys) (keeps y)
 changed-names f keeps (y ∷ ys) (suc i) = ap (λ ns. y.entry.name ∷ ns) (changed-names f keeps ys i)
@@ -125,7 +129,8 @@ changed-names f keeps (y ∷ ys) (suc i) = ap (λ ns. y.entry.name ∷ ns) (chan
 -- ---- a look at it
 
 ends-by : (name : List ℕ) (zs : List Half) (hard soft : Bool) →
-    without_all (if hard then name ∷ [] else []) zs ≡ left_by name (if hard then events.Hard else if soft then events.Soft else events.Nothing) zs
+    without_all (if hard then name ∷ [] else []) zs ≡ left_by name (if hard then events.Hard else if soft then events.Soft
+        else events.Nothing) zs
 ends-by name zs true soft = refl
 ends-by name zs false true = refl
 ends-by name zs false false = refl
@@ -138,12 +143,14 @@ look-by g name ns false true = append-nil ns
 look-by g name ns false false = append-nil ns
 
 pub look-told : (g : List ℕ) (session now : ℕ) (y : Half) →
-    look_of g session now (y ∷ []) ≡ ends_told g (gone_by y.entry.name (event_at now y.life)) ++ given_by g session (expiry y.entry.name (counts_of now y.life) (event_at now y.life))
+    look_of g session now (y ∷ []) ≡ ends_told g (gone_by y.entry.name (event_at now y.life))
+        ++ given_by g session (expiry y.entry.name (counts_of now y.life) (event_at now y.life))
 look-told g session now y =
     look-by g y.entry.name (given_by g session (expiry y.entry.name (counts_of now y.life) (event_at now y.life)))
     (is_reached y.life.hard (counts_of now y.life)) (is_reached y.life.soft (counts_of now y.life) && not y.life.is_told)
 
-pub told-use : (g : List ℕ) (s t : GatewayState) (a : PacketAnswer) (i : ℕ) (f : Half → Half) (x : Half) → IsOrderly s → slice_get s.halves i ≡ Some x →
+pub told-use : (g : List ℕ) (s t : GatewayState) (a : PacketAnswer) (i : ℕ) (f : Half → Half) (x : Half) → IsOrderly s
+    → slice_get s.halves i ≡ Some x →
     ((z : Half) → (f z).entry ≡ z.entry) → did g t (answer_told g a) ≡ with_halves (changed f i s.halves) s →
     IsTold g s t (answer_told g a ∷ look_of g s.session s.clock (f x ∷ [])) (used a i f (f x) (kept_of s))
 told-use g s t a i f x o at keeps did-it =
@@ -153,7 +160,8 @@ told-use g s t a i f x o at keeps did-it =
     let s1 : GatewayState = with_halves used-halves s in
     let apart : are_names_apart (names_of used-halves) ≡ true = ap are_names_apart (changed-names f keeps s.halves i) ∙ o.apart in
     let looked = look-at-one g s.session i y s1 apart o.few_spis (changed-there f s.halves i x at) in
-    let ends = ends-by y.entry.name (changed (look_at now) i used-halves) (is_reached y.life.hard (counts_of now y.life)) (is_reached y.life.soft (counts_of now y.life) && not y.life.is_told) in
+    let ends = ends-by y.entry.name (changed (look_at now) i used-halves) (is_reached y.life.hard (counts_of now y.life))
+        (is_reached y.life.soft (counts_of now y.life) && not y.life.is_told) in
     let twice = changed-twice (look_at now) f s.halves i in
     record {
       acts = ap (λ zs. answer_told g a ∷ zs) (look-told g s.session now y);

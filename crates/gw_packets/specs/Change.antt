@@ -39,7 +39,8 @@ Fits (changes.Acquires names) k = Unit {0}
 Fits (changes.BadSpi spi) k = Unit {0}
 Fits (changes.Overflow i) k = i < length k.halves
 Fits (changes.Send i octets _) k = (i < length k.halves) × (option_map (λ x. nat_lt x.sent 4294967295) (slice_get k.halves i) ≡ Some true)
-Fits (changes.Take i octets number _) k = (i < length k.halves) × (option_map (λ x. judged x.window number) (slice_get k.halves i) ≡ Some Fresh)
+Fits (changes.Take i octets number _) k = (i < length k.halves)
+    × (option_map (λ x. judged x.window number) (slice_get k.halves i) ≡ Some Fresh)
 Fits (changes.Look now gone) k = Unit {0}
 
 -- what a plan comes to

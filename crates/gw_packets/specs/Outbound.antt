@@ -35,7 +35,8 @@ spent i x k =
 -- the packet o is sent under the half x at place i, with its next number
 abbrev pub sent_under : List ℕ → Packet → ℕ → Half → Kept → Outcome
 sent_under o v i x k =
-    used (answers.Sent x.entry.name (x.sent + 1) (datagram x.entry (x.sent + 1) v o)) i (send k.clock (esp_len (length o))) (send k.clock (esp_len (length o)) x) k
+    used (answers.Sent x.entry.name (x.sent + 1) (datagram x.entry (x.sent + 1) v o)) i (send k.clock (esp_len (length o)))
+        (send k.clock (esp_len (length o)) x) k
 
 -- the half x at place i seals the packet unless it has sent its last number
 abbrev pub sealed_under : ℕ → List ℕ → Packet → ℕ → Half → Kept → Outcome
@@ -65,7 +66,8 @@ let_by_entry seq_last o v (Some p) k = let_by_action seq_last o v p p.action k
 -- octets that are no packet, or more than 65,000, are dropped
 abbrev pub let_by_view : ℕ → List ℕ → Result Packet NotPacket → Kept → Outcome
 let_by_view seq_last o (Err fault) k = dropped (fault_why fault) k
-let_by_view seq_last o (Ok v) k = if nat_lt 65000 (length o) then dropped why.TooLong k else let_by_entry seq_last o v (first_entry k.spd Out v) k
+let_by_view seq_last o (Ok v) k = if nat_lt 65000 (length o) then dropped why.TooLong k else let_by_entry seq_last o v
+    (first_entry k.spd Out v) k
 
 -- a packet from inside, where no half sends a number above the last one
 abbrev pub let_in : ℕ → List ℕ → Kept → Outcome

@@ -29,7 +29,8 @@ any-of : {X Y : Type 0} (p : Y → Bool) (f : X → Y) (xs : List X) → list_an
 any-of p f [] = refl
 any-of p f (x ∷ xs) = by-test (p (f x)) refl (any-of p f xs)
   where
-    by-test : (b : Bool) → p (f x) ≡ b → list_any p (map f xs) ≡ list_any (λ y. p (f y)) xs → list_any p (map f (x ∷ xs)) ≡ list_any (λ y. p (f y)) (x ∷ xs)
+    by-test : (b : Bool) → p (f x) ≡ b → list_any p (map f xs) ≡ list_any (λ y. p (f y)) xs
+        → list_any p (map f (x ∷ xs)) ≡ list_any (λ y. p (f y)) (x ∷ xs)
     by-test true t ih = rw t refl
     by-test false t ih = rw t ih
 
@@ -78,7 +79,8 @@ last-passed : (rows : List SadRow) (r : SadRow) → ArePassed (rows ++ r ∷ [])
 last-passed [] r h = h.0
 last-passed (x ∷ rows) r h = last-passed rows r h.1
 
-by-change : (k : Kept) (r : table.Outcome) (c : Change) → table.Fits (tree_of k) c → table.Makes (tree_of k) r c → IsTree r.tree → MayChange r.tree.spd c k
+by-change : (k : Kept) (r : table.Outcome) (c : Change) → table.Fits (tree_of k) c → table.Makes (tree_of k) r c → IsTree r.tree
+    → MayChange r.tree.spd c k
 by-change k r changes.Nothing fits makes sound = tt
 by-change k r changes.Spd fits makes sound = sound.policies
 by-change k r (changes.Put e) fits makes sound =
@@ -87,6 +89,9 @@ by-change k r (changes.Put e) fits makes sound =
 by-change k r (changes.Gone name) fits makes sound = tt
 
 -- a reply changes nothing without a place, where the databases after it have no fault
-pub may-change : ((t : Tree) (a : Ask) → table.Fits t (table.reply t a).change) → ((t : Tree) (a : Ask) → table.Makes t (table.reply t a) (table.reply t a).change) →
-    (k : Kept) (a : Ask) → IsTree (table.reply (tree_of k) a).tree → MayChange (table.reply (tree_of k) a).tree.spd (table.reply (tree_of k) a).change k
-may-change fit make k a sound = by-change k (table.reply (tree_of k) a) (table.reply (tree_of k) a).change (fit (tree_of k) a) (make (tree_of k) a) sound
+pub may-change : ((t : Tree) (a : Ask) → table.Fits t (table.reply t a).change)
+    → ((t : Tree) (a : Ask) → table.Makes t (table.reply t a) (table.reply t a).change) →
+    (k : Kept) (a : Ask) → IsTree (table.reply (tree_of k) a).tree
+        → MayChange (table.reply (tree_of k) a).tree.spd (table.reply (tree_of k) a).change k
+may-change fit make k a sound = by-change k (table.reply (tree_of k) a) (table.reply (tree_of k) a).change (fit (tree_of k) a)
+    (make (tree_of k) a) sound

@@ -19,7 +19,8 @@ use Rattle.hist_controller.proofs.Often.{keyed}
 
 -- ## keys
 
-key-passes : (a b c : Bool) → (if not a then Some refusals.KeyLength else if b then Some refusals.KeySeen else if c then Some refusals.KeyLimit else None) ≡ None → (a ≡ true) × (b ≡ false) × (c ≡ false)
+key-passes : (a b c : Bool) → (if not a then Some refusals.KeyLength else if b then Some refusals.KeySeen else if c
+    then Some refusals.KeyLimit else None) ≡ None → (a ≡ true) × (b ≡ false) × (c ≡ false)
 key-passes true false false e = (refl, refl, refl)
 key-passes true false true e = cc
 key-passes true true c e = cc
@@ -33,7 +34,8 @@ seen-at : (k : List ℕ) (i : ℕ) (ks : List (List ℕ)) (a : List ℕ) → pla
 seen-at k i [] a e s = cc
 seen-at k i (x ∷ ks) a e s = case (i == 0) refl e (seen-at k (i - 1) ks a)
   where
-    case : (b : Bool) → (i == 0) ≡ b → (if b then Some x else place (i - 1) ks) ≡ Some a → (place (i - 1) ks ≡ Some a → aes_part a ≡ aes_part k → is_seen k ks ≡ true) → is_seen k (x ∷ ks) ≡ true
+    case : (b : Bool) → (i == 0) ≡ b → (if b then Some x else place (i - 1) ks) ≡ Some a
+        → (place (i - 1) ks ≡ Some a → aes_part a ≡ aes_part k → is_seen k ks ≡ true) → is_seen k (x ∷ ks) ≡ true
     case true t e f =
         let w : x ≡ a = cc in
         let q = same-bytes (aes_part x) (aes_part k) (ap aes_part w ∙ s) in
@@ -46,7 +48,8 @@ Apart ks = (i j : ℕ) (a b : List ℕ) → place i ks ≡ Some a → place j ks
 apart-more : (ks : List (List ℕ)) (k : List ℕ) → is_seen k ks ≡ false → Apart ks → Apart (ks ++ k ∷ [])
 apart-more ks k n f i j a b p q e = both (place-old i ks k a p) (place-old j ks k b q)
   where
-    both : ((i < length ks) × (place i ks ≡ Some a)) ⊎ ((i ≡ length ks) × (k ≡ a)) → ((j < length ks) × (place j ks ≡ Some b)) ⊎ ((j ≡ length ks) × (k ≡ b)) → i ≡ j
+    both : ((i < length ks) × (place i ks ≡ Some a)) ⊎ ((i ≡ length ks) × (k ≡ a)) → ((j < length ks) × (place j ks ≡ Some b))
+        ⊎ ((j ≡ length ks) × (k ≡ b)) → i ≡ j
     both (inl u) (inl v) = f i j a b u.1 v.1 e
     both (inl u) (inr v) = let w = seen-at k i ks a u.1 (e ∙ ap aes_part (sym v.1)) in absurd (let z : true ≡ false = sym w ∙ n in cc)
     both (inr u) (inl v) = let w = seen-at k j ks b v.1 (sym e ∙ ap aes_part (sym u.1)) in absurd (let z : true ≡ false = sym w ∙ n in cc)
@@ -104,7 +107,8 @@ few-serials p h l =
     let m = k.many in
     omega arith
 
-all-more : (ks : List (List ℕ)) (k : List ℕ) → is_key_length (length k) ≡ true → list_all (λ x. is_key_length (length x)) ks ≡ true → list_all (λ x. is_key_length (length x)) (ks ++ k ∷ []) ≡ true
+all-more : (ks : List (List ℕ)) (k : List ℕ) → is_key_length (length k) ≡ true → list_all (λ x. is_key_length (length x)) ks ≡ true
+    → list_all (λ x. is_key_length (length x)) (ks ++ k ∷ []) ≡ true
 all-more [] k e f = rw e refl
 all-more (x ∷ ks) k e f = let ih = all-more ks k e in grind (arith, ih)
 
@@ -132,7 +136,9 @@ pub record Placing (p : ℕ) (d : Way) : Type 0 where
   pub receiver : d.receiver < p
   pub apart : (d.sender == d.receiver) ≡ false
 
-pub tunnel-passes : (a b c d e : Bool) → (if not (a && b) then Some refusals.UnknownGateway else if c then Some refusals.SameGateway else if d then Some refusals.TunnelExists else if e then Some refusals.TunnelLimit else None) ≡ None → (a ≡ true) × (b ≡ true) × (c ≡ false) × (d ≡ false) × (e ≡ false)
+pub tunnel-passes : (a b c d e : Bool) → (if not (a && b) then Some refusals.UnknownGateway else if c then Some refusals.SameGateway
+    else if d then Some refusals.TunnelExists else if e then Some refusals.TunnelLimit else None) ≡ None → (a ≡ true) × (b ≡ true)
+    × (c ≡ false) × (d ≡ false) × (e ≡ false)
 tunnel-passes true true false false false q = (refl, refl, refl, refl, refl)
 tunnel-passes true true false false true q = cc
 tunnel-passes true true false true e q = cc
@@ -146,10 +152,12 @@ turned n m e = grind arith
 placed-new : (p n : ℕ) (h : List ControllerAct) (c : PlacedCommand) (d : Way) → refusal p h c ≡ None → Has d (new_ways n c) → Placing p d
 placed-new p n h (SetPolicy g l) d e i = absurd i
 placed-new p n h (Tunnel t) d e (inl i) =
-    let q = tunnel-passes (nat_lt t.first p) (nat_lt t.second p) (t.first == t.second) (has_tunnel t.spec.reqid h) (nat_le 1024 (tunnels h (directions h))) e in
+    let q = tunnel-passes (nat_lt t.first p) (nat_lt t.second p) (t.first == t.second) (has_tunnel t.spec.reqid h)
+        (nat_le 1024 (tunnels h (directions h))) e in
     rw i (record { sender = ltb-true t.first p q.0; receiver = ltb-true t.second p q.1; apart = q.2 })
 placed-new p n h (Tunnel t) d e (inr (inl i)) =
-    let q = tunnel-passes (nat_lt t.first p) (nat_lt t.second p) (t.first == t.second) (has_tunnel t.spec.reqid h) (nat_le 1024 (tunnels h (directions h))) e in
+    let q = tunnel-passes (nat_lt t.first p) (nat_lt t.second p) (t.first == t.second) (has_tunnel t.spec.reqid h)
+        (nat_le 1024 (tunnels h (directions h))) e in
     rw i (record { sender = ltb-true t.second p q.1; receiver = ltb-true t.first p q.0; apart = turned t.first t.second q.2 })
 placed-new p n h (Tunnel t) d e (inr (inr i)) = absurd i
 placed-new p n h (End r) d e i = absurd i

@@ -45,14 +45,19 @@ first-of-4 a b c e = grind arith
 pub old-left : (h : List ControllerAct) (d : Way) (x : Association) → Has x (left d h ++ []) → Has x (left d h)
 old-left h d x i = subst (Has x) (append-nil (left d h)) i
 
-gone-remove : (p : ℕ) (h : List ControllerAct) → IsControllerPast p h → Marked h → (g q : ℕ) → MayOrderInRemove h g q → (d : Way) (x : Association) → Has x (left d h) → (b : Bool) → (x.serial == q) ≡ b → (b || was_ordered RemovingIn x.serial h) ≡ true → is_ended x h ≡ true
+gone-remove : (p : ℕ) (h : List ControllerAct) → IsControllerPast p h → Marked h → (g q : ℕ) → MayOrderInRemove h g q
+    → (d : Way) (x : Association) → Has x (left d h) → (b : Bool) → (x.serial == q) ≡ b → (b || was_ordered RemovingIn x.serial h) ≡ true
+    → is_ended x h ≡ true
 gone-remove p h l k g q m d x i true e w =
     let s : x.serial ≡ q = grind arith in
     let t = one p h l d m.way x m.association i m.left (s ∙ m.name) in
-    rw t (first-of-4 (is_ended m.association h) (not (is_out_ordered m.association.serial h) || has_answer RemovingOut m.association.serial h) (is_read m.way.receiver h) m.may)
+    rw t (first-of-4 (is_ended m.association h) (not (is_out_ordered m.association.serial h)
+        || has_answer RemovingOut m.association.serial h) (is_read m.way.receiver h) m.may)
 gone-remove p h l k g q m d x i false e w = k.gone d x i w
 
-gone-put : (p : ℕ) (h : List ControllerAct) → IsControllerPast p h → Marked h → (z : Association) → z.serial ≡ serials h + 1 → (d : Way) (x : Association) → Has x (left d h) ⊎ Has x (inbound_put d (PutIn z)) → was_ordered RemovingIn x.serial h ≡ true → (not (x.serial == z.serial) && is_ended x h) ≡ true
+gone-put : (p : ℕ) (h : List ControllerAct) → IsControllerPast p h → Marked h → (z : Association) → z.serial ≡ serials h + 1
+    → (d : Way) (x : Association) → Has x (left d h) ⊎ Has x (inbound_put d (PutIn z)) → was_ordered RemovingIn x.serial h ≡ true
+    → (not (x.serial == z.serial) && is_ended x h) ≡ true
 gone-put p h l k z e d x (inl i) w =
     let b = low p h l d x i in
     let r : (x.serial == z.serial) ≡ false = grind arith in
@@ -67,7 +72,8 @@ gone-put p h l k z e d x (inr i) w =
 pub not-either : (a b : Bool) → a ≡ false → b ≡ false → (a || b) ≡ false
 not-either a b e f = rw (e, f) refl
 
-marked-order : (p : ℕ) (h : List ControllerAct) (g s i : ℕ) (o : ControllerOrder) → IsControllerPast p h → MayOrder h g o → Marked h → Marked (Ordered g s i o ∷ h)
+marked-order : (p : ℕ) (h : List ControllerAct) (g s i : ℕ) (o : ControllerOrder) → IsControllerPast p h → MayOrder h g o → Marked h
+    → Marked (Ordered g s i o ∷ h)
 marked-order p h g s i Read l m k = record { new = k.new; gone = λ d x j w. k.gone d x (old-left h d x j) w }
 marked-order p h g s i (Policy q) l m k = record { new = k.new; gone = λ d x j w. k.gone d x (old-left h d x j) w }
 marked-order p h g s i (PutIn z) l m k =
@@ -91,10 +97,13 @@ marked p (Opened g s ∷ h) l = let k = marked p h l.1 in record { new = k.new; 
 marked p (Cut g s ∷ h) l = let k = marked p h l.1 in record { new = k.new; gone = λ d x i w. or-right _ _ (k.gone d x i w) }
 marked p (Answered g s n a ∷ h) l =
     let k = marked p h l.1 in
-    record { new = k.new; gone = λ d x i w. or-right _ _ (k.gone d x (has-filter (λ y. not (is_answer_to RemovingIn y.serial (oldest (queue g h)))) x (left d h) i) w) }
+    record { new = k.new; gone =
+        λ d x i w. or-right _ _ (k.gone d x (has-filter (λ y. not (is_answer_to RemovingIn y.serial (oldest (queue g h)))) x (left d h) i)
+        w) }
 marked p (Heard g s t ∷ h) l = let k = marked p h l.1 in record { new = k.new; gone = k.gone }
 marked p (Ordered g s n o ∷ h) l = marked-order p h g s n o l.1 l.0.3 (marked p h l.1)
-marked p (Accepted c ∷ h) l = let k = marked p h l.1 in record { new = k.new; gone = λ d x i w. or-right _ _ (k.gone d x (has-if x _ (left d h) i).1 w) }
+marked p (Accepted c ∷ h) l = let k = marked p h l.1 in
+    record { new = k.new; gone = λ d x i w. or-right _ _ (k.gone d x (has-if x _ (left d h) i).1 w) }
 marked p (Refused w ∷ h) l = let k = marked p h l.1 in record { new = k.new; gone = k.gone }
 
 -- ## where an outbound put waits
@@ -110,8 +119,10 @@ pub record Home (h : List ControllerAct) (g : ℕ) (y : Association) : Type 0 wh
 abbrev Homes : List ControllerAct → Type 0
 Homes h = (g : ℕ) (y : Association) → Has (PutOut y) (queue g h) → Home h g y
 
-pub has-queue : (b : Bool) (q : List ControllerOrder) (o z : ControllerOrder) → Has z (if b then q ++ o ∷ [] else q) → Has z q ⊎ ((z ≡ o) × (b ≡ true))
-has-queue true q o z i = elim (has-more z q (o ∷ []) i) as (λ w. Has z q ⊎ ((z ≡ o) × (true ≡ true))) [ inl j ↦ inl j | inr j ↦ inr (last z o j, refl) ]
+pub has-queue : (b : Bool) (q : List ControllerOrder) (o z : ControllerOrder) → Has z (if b then q ++ o ∷ [] else q) → Has z q
+    ⊎ ((z ≡ o) × (b ≡ true))
+has-queue true q o z i = elim (has-more z q (o ∷ []) i) as (λ w. Has z q ⊎ ((z ≡ o) × (true ≡ true)))
+    [ inl j ↦ inl j | inr j ↦ inr (last z o j, refl) ]
   where
     last : (z o : ControllerOrder) → Has z (o ∷ []) → z ≡ o
     last z o (inl e) = e
@@ -131,7 +142,8 @@ grown : (b : Bool) (n : ℕ) → n ≤ (if b then n + 1 else n)
 grown true n = omega arith
 grown false n = omega arith
 
-pub home-order : (p : ℕ) (h : List ControllerAct) (f s i : ℕ) (o : ControllerOrder) → IsControllerPast p h → MayOrder h f o → (g : ℕ) (y : Association) → Home h g y → Home (Ordered f s i o ∷ h) g y
+pub home-order : (p : ℕ) (h : List ControllerAct) (f s i : ℕ) (o : ControllerOrder) → IsControllerPast p h → MayOrder h f o
+    → (g : ℕ) (y : Association) → Home h g y → Home (Ordered f s i o ∷ h) g y
 home-order p h f s i o l m g y k =
     let b = k.low in
     let r = grown (is_inbound_put o) (serials h) in
@@ -152,7 +164,8 @@ home-order p h f s i o l m g y k =
         let b = k.low in
         absurd (omega arith)
 
-pub new-home : (p : ℕ) (h : List ControllerAct) (f s i : ℕ) (g : ℕ) (y : Association) → IsControllerPast p h → MayOrderOutPut h f y → g ≡ f → Home (Ordered f s i (PutOut y) ∷ h) g y
+pub new-home : (p : ℕ) (h : List ControllerAct) (f s i : ℕ) (g : ℕ) (y : Association) → IsControllerPast p h → MayOrderOutPut h f y → g ≡ f
+    → Home (Ordered f s i (PutOut y) ∷ h) g y
 new-home p h f s i g y l m e =
     record {
       way = m.way;
@@ -163,7 +176,8 @@ new-home p h f s i g y l m e =
       alone = λ d x j q. one p h l d m.way x y (old-left h d x j) m.left q;
     }
 
-homes-order : (p : ℕ) (h : List ControllerAct) (f s i : ℕ) (o : ControllerOrder) → IsControllerPast p h → MayOrder h f o → Homes h → (g : ℕ) (y : Association) → Has (PutOut y) (queue g h) ⊎ ((PutOut y ≡ o) × ((g == f) ≡ true)) → Home (Ordered f s i o ∷ h) g y
+homes-order : (p : ℕ) (h : List ControllerAct) (f s i : ℕ) (o : ControllerOrder) → IsControllerPast p h → MayOrder h f o → Homes h
+    → (g : ℕ) (y : Association) → Has (PutOut y) (queue g h) ⊎ ((PutOut y ≡ o) × ((g == f) ≡ true)) → Home (Ordered f s i o ∷ h) g y
 homes-order p h f s i o l m k g y (inl j) = home-order p h f s i o l m g y (k g y j)
 homes-order p h f s i o l m k g y (inr j) =
     let e : g ≡ f = let t = j.1 in grind arith in
@@ -172,22 +186,31 @@ homes-order p h f s i o l m k g y (inr j) =
 
 homes : (p : ℕ) (h : List ControllerAct) → IsControllerPast p h → Homes h
 homes p [] l g y i = absurd i
-homes p (Opened f s ∷ h) l g y i = let k = homes p h l.1 g y (has-none (g == f) (queue g h) (PutOut y) i) in record { way = k.way; of = k.of; own = k.own; at = k.at; low = k.low; alone = k.alone }
-homes p (Cut f s ∷ h) l g y i = let k = homes p h l.1 g y (has-none (g == f) (queue g h) (PutOut y) i) in record { way = k.way; of = k.of; own = k.own; at = k.at; low = k.low; alone = k.alone }
+homes p (Opened f s ∷ h) l g y i = let k = homes p h l.1 g y (has-none (g == f) (queue g h) (PutOut y) i) in
+    record { way = k.way; of = k.of; own = k.own; at = k.at; low = k.low; alone = k.alone }
+homes p (Cut f s ∷ h) l g y i = let k = homes p h l.1 g y (has-none (g == f) (queue g h) (PutOut y) i) in
+    record { way = k.way; of = k.of; own = k.own; at = k.at; low = k.low; alone = k.alone }
 homes p (Answered f s n a ∷ h) l g y i =
     let k = homes p h l.1 g y (has-rest (g == f) (queue g h) (PutOut y) i) in
-    record { way = k.way; of = k.of; own = k.own; at = k.at; low = k.low; alone = λ d x j e. k.alone d x (has-filter (λ z. not (is_answer_to RemovingIn z.serial (oldest (queue f h)))) x (left d h) j) e }
-homes p (Heard f s t ∷ h) l g y i = let k = homes p h l.1 g y i in record { way = k.way; of = k.of; own = k.own; at = k.at; low = k.low; alone = k.alone }
-homes p (Ordered f s n o ∷ h) l g y i = homes-order p h f s n o l.1 l.0.3 (homes p h l.1) g y (has-queue (g == f) (queue g h) o (PutOut y) i)
+    record { way = k.way; of = k.of; own = k.own; at = k.at; low = k.low; alone =
+        λ d x j e. k.alone d x (has-filter (λ z. not (is_answer_to RemovingIn z.serial (oldest (queue f h)))) x (left d h) j) e }
+homes p (Heard f s t ∷ h) l g y i = let k = homes p h l.1 g y i in
+    record { way = k.way; of = k.of; own = k.own; at = k.at; low = k.low; alone = k.alone }
+homes p (Ordered f s n o ∷ h) l g y i = homes-order p h f s n o l.1 l.0.3 (homes p h l.1) g y
+    (has-queue (g == f) (queue g h) o (PutOut y) i)
 homes p (Accepted c ∷ h) l g y i =
     let k = homes p h l.1 g y i in
-    record { way = k.way; of = has-left k.way (directions h) _ k.of; own = k.own; at = k.at; low = k.low; alone = λ d x j e. k.alone d x (has-if x _ (left d h) j).1 e }
-homes p (Refused w ∷ h) l g y i = let k = homes p h l.1 g y i in record { way = k.way; of = k.of; own = k.own; at = k.at; low = k.low; alone = k.alone }
+    record { way = k.way; of = has-left k.way (directions h) _ k.of; own = k.own; at = k.at; low = k.low; alone =
+        λ d x j e. k.alone d x (has-if x _ (left d h) j).1 e }
+homes p (Refused w ∷ h) l g y i = let k = homes p h l.1 g y i in
+    record { way = k.way; of = k.of; own = k.own; at = k.at; low = k.low; alone = k.alone }
 
 -- no outbound put of the association waits anywhere, where its direction is free
-pub no-put-in : (q : List ControllerOrder) (n : ℕ) → ((y : Association) → Has (PutOut y) q → (n == y.serial) ≡ false) → list_any (is_kind PuttingOut n) q ≡ false
+pub no-put-in : (q : List ControllerOrder) (n : ℕ) → ((y : Association) → Has (PutOut y) q → (n == y.serial) ≡ false)
+    → list_any (is_kind PuttingOut n) q ≡ false
 no-put-in [] n f = refl
-no-put-in (o ∷ os) n f = not-either (is_kind PuttingOut n o) (list_any (is_kind PuttingOut n) os) (here o (λ y e. f y (inl e))) (no-put-in os n (λ y j. f y (inr j)))
+no-put-in (o ∷ os) n f = not-either (is_kind PuttingOut n o) (list_any (is_kind PuttingOut n) os) (here o (λ y e. f y (inl e)))
+    (no-put-in os n (λ y j. f y (inr j)))
   where
     here : (o : ControllerOrder) → ((y : Association) → PutOut y ≡ o → (n == y.serial) ≡ false) → is_kind PuttingOut n o ≡ false
     here Read g = refl
@@ -203,10 +226,12 @@ is-not false f = refl
 
 pub any-yes : {A : Type 0} (p : A → Bool) (xs : List A) (x : A) → Has x xs → p x ≡ true → list_any p xs ≡ false → ⊥
 any-yes p [] x i e f = absurd i
-any-yes p (y ∷ ys) x (inl q) e f = let w : p y ≡ true = ap p (sym q) ∙ e in let t = neither (p y) (list_any p ys) f in let u : true ≡ false = sym w ∙ t.0 in cc
+any-yes p (y ∷ ys) x (inl q) e f = let w : p y ≡ true = ap p (sym q) ∙ e in let t = neither (p y) (list_any p ys) f in
+    let u : true ≡ false = sym w ∙ t.0 in cc
 any-yes p (y ∷ ys) x (inr i) e f = any-yes p ys x i e (neither (p y) (list_any p ys) f).1
 
-no-put : (p : ℕ) (h : List ControllerAct) (f n : ℕ) → IsControllerPast p h → MayOrderOutRemove h f n → (g : ℕ) → list_any (is_kind PuttingOut n) (queue g h) ≡ false
+no-put : (p : ℕ) (h : List ControllerAct) (f n : ℕ) → IsControllerPast p h → MayOrderOutRemove h f n → (g : ℕ)
+    → list_any (is_kind PuttingOut n) (queue g h) ≡ false
 no-put p h f n l m g = no-put-in (queue g h) n (λ y j. is-not (n == y.serial) (λ e.
     let k = homes p h l g y j in
     let s : m.association.serial ≡ y.serial = let q = m.name in grind arith in
@@ -216,7 +241,8 @@ no-put p h f n l m g = no-put-in (queue g h) n (λ y j. is-not (n == y.serial) (
     let b = k.own in
     let c : k.way ≡ m.way = one-way h k.way m.way k.of m.of (grind arith) in
     let v : g ≡ m.way.sender = k.at ∙ ap (λ (z : Way). z.sender) c in
-    let w = neither (list_any (is_own m.way (left m.way h)) (queue m.way.sender h)) (list_any (is_own m.way (left m.way h)) (queue m.way.receiver h)) m.free in
+    let w = neither (list_any (is_own m.way (left m.way h)) (queue m.way.sender h))
+        (list_any (is_own m.way (left m.way h)) (queue m.way.receiver h)) m.free in
     any-yes (is_own m.way (left m.way h)) (queue m.way.sender h) (PutOut y) (subst (λ z. Has (PutOut y) (queue z h)) v j) a' w.0))
 
 -- ## each order
@@ -230,7 +256,8 @@ third-of-5 a b c d e q = grind arith
 pub not-ended : (a b c d e f : Bool) → ((not a && b) && c && d && e && f) ≡ true → a ≡ false
 not-ended a b c d e f q = grind arith
 
-spoiled : (x : Association) (g : ℕ) (o : Option ControllerOrder) (a : Answer) (done sent : Bool) → sent ≡ false → is_not_shown x g o a done ≡ true → is_spoiled x g o a done sent ≡ true
+spoiled : (x : Association) (g : ℕ) (o : Option ControllerOrder) (a : Answer) (done sent : Bool) → sent ≡ false
+    → is_not_shown x g o a done ≡ true → is_spoiled x g o a done sent ≡ true
 spoiled x g None a done sent e t = cc
 spoiled x g (Some Read) a done sent e t = grind arith
 spoiled x g (Some (Policy l)) a done sent e t = cc
@@ -239,7 +266,8 @@ spoiled x g (Some (PutOut y)) a done sent e t = cc
 spoiled x g (Some (RemoveIn n)) a done sent e t = cc
 spoiled x g (Some (RemoveOut n)) a done sent e t = cc
 
-missed-put : (r q m s e : Bool) → (m ≡ true → s ≡ false → e ≡ true) → (not r && m) ≡ true → (not r && (q || s)) ≡ false → (not r && e) ≡ true
+missed-put : (r q m s e : Bool) → (m ≡ true → s ≡ false → e ≡ true) → (not r && m) ≡ true → (not r && (q || s)) ≡ false
+    → (not r && e) ≡ true
 missed-put true q m s e f t u = cc
 missed-put false true m s e f t u = cc
 missed-put false false m s e f t u = f t u
@@ -252,9 +280,12 @@ missed-ended : (x : Association) (h : List ControllerAct) → was_missed x h ≡
 missed-ended x [] t e = cc
 missed-ended x (Opened g s ∷ h) t e = missed-ended x h t e
 missed-ended x (Cut g s ∷ h) t e = or-right _ _ (missed-ended x h t e)
-missed-ended x (Answered g s n a ∷ h) t e = missed-or _ _ _ _ (spoiled x g (oldest (queue g h)) a (has_answer PuttingIn x.serial h) (is_out_ordered x.serial h) e) (λ u. missed-ended x h u e) t
+missed-ended x (Answered g s n a ∷ h) t e =
+    missed-or _ _ _ _ (spoiled x g (oldest (queue g h)) a (has_answer PuttingIn x.serial h) (is_out_ordered x.serial h) e)
+    (λ u. missed-ended x h u e) t
 missed-ended x (Heard g s n ∷ h) t e = missed-ended x h t e
-missed-ended x (Ordered g s n o ∷ h) t e = missed-put (is_kind PuttingIn x.serial o) (is_kind PuttingOut x.serial o) (was_missed x h) (is_out_ordered x.serial h) (is_ended x h) (missed-ended x h) t e
+missed-ended x (Ordered g s n o ∷ h) t e = missed-put (is_kind PuttingIn x.serial o) (is_kind PuttingOut x.serial o) (was_missed x h)
+    (is_out_ordered x.serial h) (is_ended x h) (missed-ended x h) t e
 missed-ended x (Accepted c ∷ h) t e = or-right _ _ (missed-ended x h t e)
 missed-ended x (Refused w ∷ h) t e = missed-ended x h t e
 
@@ -265,19 +296,29 @@ before p h g (PutIn x) l m = let k = once p x.serial h l in let e = m.serial in 
 before p h g (PutOut x) l m =
     let k = once p x.serial h l in
     let w = marked p h l in
-    let e = not-ended (is_ended x h) (not (has_answer PuttingOut x.serial h)) (not (is_out_ordered x.serial h)) (has_answer PuttingIn x.serial h) (is_read m.way.sender h) (is_read m.way.receiver h) m.may in (
-      third-of-5 (is_in_progress h x) (not (is_out_ordered x.serial h)) (has_answer PuttingIn x.serial h) (is_read m.way.sender h) (is_read m.way.receiver h) m.may,
-      none-given PuttingOut x.serial h (k.sent_out (not-sent (is_in_progress h x) (is_out_ordered x.serial h) (has_answer PuttingIn x.serial h) (is_read m.way.sender h) (is_read m.way.receiver h) m.may)),
+    let e = not-ended (is_ended x h) (not (has_answer PuttingOut x.serial h)) (not (is_out_ordered x.serial h))
+        (has_answer PuttingIn x.serial h) (is_read m.way.sender h) (is_read m.way.receiver h) m.may in (
+      third-of-5 (is_in_progress h x) (not (is_out_ordered x.serial h)) (has_answer PuttingIn x.serial h) (is_read m.way.sender h)
+          (is_read m.way.receiver h) m.may,
+      none-given PuttingOut x.serial h
+          (k.sent_out (not-sent (is_in_progress h x) (is_out_ordered x.serial h) (has_answer PuttingIn x.serial h) (is_read m.way.sender h)
+          (is_read m.way.receiver h) m.may)),
       is-not (was_ordered RemovingIn x.serial h) (λ t. let u = w.gone m.way x m.left t in cc),
-      is-not (was_missed x h) (λ t. let u = missed-ended x h t (not-sent (is_in_progress h x) (is_out_ordered x.serial h) (has_answer PuttingIn x.serial h) (is_read m.way.sender h) (is_read m.way.receiver h) m.may) in cc),
+      is-not (was_missed x h) (λ t. let u =
+          missed-ended x h t (not-sent (is_in_progress h x) (is_out_ordered x.serial h) (has_answer PuttingIn x.serial h)
+          (is_read m.way.sender h) (is_read m.way.receiver h) m.may) in cc),
     )
 before p h g (RemoveOut n) l m = (
-  rw m.name (sent-given m.association.serial h (second-of-4 (is_ended m.association h) (is_out_ordered m.association.serial h) (not (has_answer RemovingOut m.association.serial h)) (is_read m.way.sender h) m.may)),
+  rw m.name (sent-given m.association.serial h (second-of-4 (is_ended m.association h) (is_out_ordered m.association.serial h)
+      (not (has_answer RemovingOut m.association.serial h)) (is_read m.way.sender h) m.may)),
   no-put p h g n l m,
 )
 before p h g (RemoveIn n) l m =
     let k = once p m.association.serial h l in
-    elim (split-or (is_out_ordered m.association.serial h) (has_answer RemovingOut m.association.serial h) (second-of-3 (is_ended m.association h) (not (is_out_ordered m.association.serial h) || has_answer RemovingOut m.association.serial h) (is_read m.way.receiver h) m.may)) as (λ q. (was_ordered PuttingOut n h ≡ false) ⊎ (has_answer RemovingOut n h ≡ true)) [
+    elim (split-or (is_out_ordered m.association.serial h) (has_answer RemovingOut m.association.serial h)
+        (second-of-3 (is_ended m.association h) (not (is_out_ordered m.association.serial h)
+        || has_answer RemovingOut m.association.serial h) (is_read m.way.receiver h) m.may)) as (λ q. (was_ordered PuttingOut n h ≡ false)
+        ⊎ (has_answer RemovingOut n h ≡ true)) [
       | inl e ↦ inl (rw m.name (none-given PuttingOut m.association.serial h (k.sent_out e)))
       | inr e ↦ inr (rw m.name e)
     ]

@@ -28,7 +28,8 @@ any-same : {A : Type 0} (p q : A → Bool) → ((x : A) → p x ≡ q x) → (xs
 any-same p q e [] = refl
 any-same p q e (x ∷ xs) = rw (e x, any-same p q e xs) refl
 
-same-own : (h : List ControllerAct) (d : Way) (xs : List Association) (o : ControllerOrder) → is_own_of d (map (association_of h) xs) o ≡ is_own d xs o
+same-own : (h : List ControllerAct) (d : Way) (xs : List Association) (o : ControllerOrder)
+    → is_own_of d (map (association_of h) xs) o ≡ is_own d xs o
 same-own h d xs Read = refl
 same-own h d xs (Policy l) = refl
 same-own h d xs (PutIn x) = refl
@@ -43,11 +44,13 @@ same-busy h d =
     let b = e (queue d.receiver h) in
     rw (a, b) refl
 
-first-if : (f : Association → KeptAssociation) (b : Bool) (x : Association) (o : Option KeptAssociation) (q : Option Association) → o ≡ option_map f q → (if b then Some (f x) else o) ≡ option_map f (if b then Some x else q)
+first-if : (f : Association → KeptAssociation) (b : Bool) (x : Association) (o : Option KeptAssociation) (q : Option Association)
+    → o ≡ option_map f q → (if b then Some (f x) else o) ≡ option_map f (if b then Some x else q)
 first-if f true x o q e = refl
 first-if f false x o q e = e
 
-first-via : (f : Association → KeptAssociation) (p : KeptAssociation → Bool) (xs : List Association) → first_of p (map f xs) ≡ option_map f (first (λ x. p (f x)) xs)
+first-via : (f : Association → KeptAssociation) (p : KeptAssociation → Bool) (xs : List Association)
+    → first_of p (map f xs) ≡ option_map f (first (λ x. p (f x)) xs)
 first-via f p [] = refl
 first-via f p (x ∷ xs) = first-if f (p (f x)) x (first_of p (map f xs)) (first (λ y. p (f y)) xs) (first-via f p xs)
 
@@ -55,23 +58,31 @@ same-key : (h : List ControllerAct) (d : Way) (ks : List (List ℕ)) → key_put
 same-key h d [] = refl
 same-key h d (k ∷ ks) = refl
 
-same-out-put : (h : List ControllerAct) (d : Way) (o : Option Association) → out_put_of (state_of h) (way_of h d) (option_map (association_of h) o) ≡ out_put h d o
+same-out-put : (h : List ControllerAct) (d : Way) (o : Option Association)
+    → out_put_of (state_of h) (way_of h d) (option_map (association_of h) o) ≡ out_put h d o
 same-out-put h d (Some x) = refl
 same-out-put h d None = same-key h d (spare h)
 
-same-in-remove : (h : List ControllerAct) (d : Way) (o : Option Association) → in_remove_of (state_of h) (way_of h d) (option_map (association_of h) o) ≡ in_remove h d o
+same-in-remove : (h : List ControllerAct) (d : Way) (o : Option Association)
+    → in_remove_of (state_of h) (way_of h d) (option_map (association_of h) o) ≡ in_remove h d o
 same-in-remove h d (Some x) = refl
-same-in-remove h d None = ap (out_put_of (state_of h) (way_of h d)) (first-via (association_of h) (may_out_put_of (state_of h) (way_of h d)) (left d h)) ∙ same-out-put h d (first (may_out_put h d) (left d h))
+same-in-remove h d None = ap (out_put_of (state_of h) (way_of h d)) (first-via (association_of h) (may_out_put_of (state_of h) (way_of h d))
+    (left d h)) ∙ same-out-put h d (first (may_out_put h d) (left d h))
 
-same-out-remove : (h : List ControllerAct) (d : Way) (o : Option Association) → out_remove_of (state_of h) (way_of h d) (option_map (association_of h) o) ≡ out_remove h d o
+same-out-remove : (h : List ControllerAct) (d : Way) (o : Option Association)
+    → out_remove_of (state_of h) (way_of h d) (option_map (association_of h) o) ≡ out_remove h d o
 same-out-remove h d (Some x) = refl
-same-out-remove h d None = ap (in_remove_of (state_of h) (way_of h d)) (first-via (association_of h) (may_in_remove_of (state_of h) (way_of h d)) (left d h)) ∙ same-in-remove h d (first (may_in_remove h d) (left d h))
+same-out-remove h d None =
+    ap (in_remove_of (state_of h) (way_of h d)) (first-via (association_of h) (may_in_remove_of (state_of h) (way_of h d)) (left d h))
+    ∙ same-in-remove h d (first (may_in_remove h d) (left d h))
 
 pub same-give : (h : List ControllerAct) (d : Way) → give_of (state_of h) (way_of h d) ≡ give h d
 same-give h d =
-    ap (λ b. if b then [] else out_remove_of (state_of h) (way_of h d) (first_of (may_out_remove_of (state_of h) (way_of h d)) (map (association_of h) (left d h)))) (same-busy h d)
+    ap (λ b. if b then [] else out_remove_of (state_of h) (way_of h d) (first_of (may_out_remove_of (state_of h) (way_of h d))
+        (map (association_of h) (left d h)))) (same-busy h d)
     ∙ ap (λ t. if is_busy d h then [] else t)
-    (ap (out_remove_of (state_of h) (way_of h d)) (first-via (association_of h) (may_out_remove_of (state_of h) (way_of h d)) (left d h)) ∙ same-out-remove h d (first (may_out_remove h d) (left d h)))
+    (ap (out_remove_of (state_of h) (way_of h d)) (first-via (association_of h) (may_out_remove_of (state_of h) (way_of h d)) (left d h))
+        ∙ same-out-remove h d (first (may_out_remove h d) (left d h)))
 
 -- ## the pass
 
@@ -96,10 +107,12 @@ place-via : (f : Way → KeptWay) (i : ℕ) (xs : List Way) → place i (map f x
 place-via f i [] = refl
 place-via f i (x ∷ xs) = let ih = place-via f (i - 1) xs in grind (arith, ih)
 
-same-at-place : (h : List ControllerAct) (i : ℕ) (d : Way) → place i (directions h) ≡ Some d → give_at (state_of h) (place i (state_of h).ways) ≡ give h d
+same-at-place : (h : List ControllerAct) (i : ℕ) (d : Way) → place i (directions h) ≡ Some d
+    → give_at (state_of h) (place i (state_of h).ways) ≡ give h d
 same-at-place h i d e = ap (give_at (state_of h)) (place-via (way_of h) i (directions h) ∙ ap (option_map (way_of h)) e) ∙ same-give h d
 
-same-pass : (f : Way → KeptWay) (h : List ControllerAct) (i : ℕ) (ds : List Way) → AtPlaces i ds (directions h) → pass_of (state_of h) i (map f ds) ≡ pass h ds
+same-pass : (f : Way → KeptWay) (h : List ControllerAct) (i : ℕ) (ds : List Way) → AtPlaces i ds (directions h)
+    → pass_of (state_of h) i (map f ds) ≡ pass h ds
 same-pass f h i [] p = refl
 same-pass f h i (d ∷ ds) p =
     let g = same-at-place h i d p.0 in
@@ -111,7 +124,8 @@ same-pass f h i (d ∷ ds) p =
 same-asked-then : (h os : List ControllerAct) → asked_then_of (state_of h) os ≡ asked_then h os
 same-asked-then h os =
     ap (λ s. os ++ pass_of s 0 s.ways) (keeps_all h os)
-    ∙ ap (λ t. os ++ t) (same-pass (way_of (after h os)) (after h os) 0 (directions (after h os)) (at-rest [] 0 (directions (after h os)) refl))
+    ∙ ap (λ t. os ++ t) (same-pass (way_of (after h os)) (after h os) 0 (directions (after h os))
+        (at-rest [] 0 (directions (after h os)) refl))
 
 -- ## the orders that belong to no direction
 
@@ -120,7 +134,8 @@ same-with-list h g None = refl
 same-with-list h g (Some l) = refl
 
 same-read-put : (h : List ControllerAct) (g : ℕ) → read_put_of (state_of h) g ≡ read_put h g
-same-read-put h g = ap (λ t. order h g Read ∷ t) (ap (λ s. with_list_of s g (newest_list g h)) (sym (keeps h (order h g Read))) ∙ same-with-list (order h g Read ∷ h) g (newest_list g h))
+same-read-put h g = ap (λ t. order h g Read ∷ t) (ap (λ s. with_list_of s g (newest_list g h)) (sym (keeps h (order h g Read)))
+    ∙ same-with-list (order h g Read ∷ h) g (newest_list g h))
 
 same-command : (h : List ControllerAct) (c : PlacedCommand) → by_command_of (state_of h) c ≡ by_command h c
 same-command h (SetPolicy g l) = refl
@@ -184,12 +199,14 @@ same-by-refusal : (h : List ControllerAct) (c : PlacedCommand) (o : Option Refus
 same-by-refusal h c None = same-going h (Accepted c)
 same-by-refusal h c (Some w) = refl
 
-same-by-answer : (h : List ControllerAct) (g : ℕ) (a : Answer) (os : List ControllerOrder) → by_answer_of (state_of h) g a os ≡ by_answer h g a os
+same-by-answer : (h : List ControllerAct) (g : ℕ) (a : Answer) (os : List ControllerOrder)
+    → by_answer_of (state_of h) g a os ≡ by_answer h g a os
 same-by-answer h g a [] = refl
 same-by-answer h g a (o ∷ os) = same-going h (Answered g (openings g h) (answered g h + 1) a)
 
 pub acts_of-state_of : (p : List Peer) (h : List ControllerAct) (e : ControllerEvent) → acts_of p (state_of h) e ≡ block p h e
-acts_of-state_of p h (Told c) = ap (by_refusal_of (state_of h) (placed_command p c)) (same-refusal (length p) h (placed_command p c)) ∙ same-by-refusal h (placed_command p c) (refusal (length p) h (placed_command p c))
+acts_of-state_of p h (Told c) = ap (by_refusal_of (state_of h) (placed_command p c)) (same-refusal (length p) h (placed_command p c))
+    ∙ same-by-refusal h (placed_command p c) (refusal (length p) h (placed_command p c))
 acts_of-state_of p h (Opens g) = ap (λ t. if is_open g h then [] else t) (same-going h (Opened g (openings g h + 1)))
 acts_of-state_of p h (Cuts g) = ap (λ t. if is_open g h then t else []) (same-going h (Cut g (openings g h)))
 acts_of-state_of p h (Answers g a) = same-by-answer h g a (queue g h)

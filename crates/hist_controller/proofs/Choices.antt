@@ -33,7 +33,8 @@ gives-out-remove h g n m = let a = m.free in let b = m.oldest in let c = m.at in
 
 gives-in-remove : (h : List ControllerAct) (g n : ℕ) → (m : MayOrderInRemove h g n) → give h m.way ≡ order h g (RemoveIn n) ∷ []
 gives-in-remove h g n m =
-    let a = m.free in let b = first-no (may_out_remove h m.way) (left m.way h) m.no_out_remove in let e = m.oldest in let c = m.at in let d = m.name in
+    let a = m.free in let b = first-no (may_out_remove h m.way) (left m.way h) m.no_out_remove in let e = m.oldest in let c = m.at in
+        let d = m.name in
     rw (a, b, e, c, d) refl
 
 gives-out-put : (h : List ControllerAct) (g : ℕ) (x : Association) → (m : MayOrderOutPut h g x) → give h m.way ≡ order h g (PutOut x) ∷ []
@@ -86,26 +87,33 @@ data Sorted (h : List ControllerAct) : ControllerAct → Type 0 where
   due : (g : ℕ) (o : ControllerOrder) → IsDue h g o → Sorted h (order h g o)
   in_turn : (a : ControllerAct) (d : Way) → Has d (directions h) → give h d ≡ a ∷ [] → HasTurn h d → Sorted h a
 
-as-ordered : (h : List ControllerAct) (g s n : ℕ) (o : ControllerOrder) → s ≡ openings g h → n ≡ orders g h + 1 → Ordered g s n o ≡ order h g o
+as-ordered : (h : List ControllerAct) (g s n : ℕ) (o : ControllerOrder) → s ≡ openings g h → n ≡ orders g h + 1
+    → Ordered g s n o ≡ order h g o
 as-ordered h g s n o e f = rw (e, f) refl
 
-sorted : (p : ℕ) (h : List ControllerAct) (g s n : ℕ) (o : ControllerOrder) → ControllerMayAct p h (Ordered g s n o) → ComesNext h o → Sorted h (Ordered g s n o)
+sorted : (p : ℕ) (h : List ControllerAct) (g s n : ℕ) (o : ControllerOrder) → ControllerMayAct p h (Ordered g s n o) → ComesNext h o
+    → Sorted h (Ordered g s n o)
 sorted p h g s n Read m c = subst (Sorted h) (sym (as-ordered h g s n Read m.0 m.1)) (due g Read m.3)
 sorted p h g s n (Policy l) m c = subst (Sorted h) (sym (as-ordered h g s n (Policy l) m.0 m.1)) (due g (Policy l) (m.2, m.3.0, m.3.1))
 sorted p h g s n (PutIn x) m c =
     let r : MayOrderInPut h g x = m.3 in
-    subst (Sorted h) (sym (as-ordered h g s n (PutIn x) m.0 m.1)) (in_turn (order h g (PutIn x)) x.way r.of (gives-in-put h g x r) (c x.way r.of (eq-own x.way.id)))
+    subst (Sorted h) (sym (as-ordered h g s n (PutIn x) m.0 m.1)) (in_turn (order h g (PutIn x)) x.way r.of (gives-in-put h g x r)
+        (c x.way r.of (eq-own x.way.id)))
 sorted p h g s n (PutOut x) m c =
     let r : MayOrderOutPut h g x = m.3 in
-    subst (Sorted h) (sym (as-ordered h g s n (PutOut x) m.0 m.1)) (in_turn (order h g (PutOut x)) r.way r.of (gives-out-put h g x r) (c r.way r.of (of-way h r.way x r.left)))
+    subst (Sorted h) (sym (as-ordered h g s n (PutOut x) m.0 m.1)) (in_turn (order h g (PutOut x)) r.way r.of (gives-out-put h g x r)
+        (c r.way r.of (of-way h r.way x r.left)))
 sorted p h g s n (RemoveIn i) m c =
     let r : MayOrderInRemove h g i = m.3 in
     let e : (r.association.serial == i) ≡ true = let w = r.name in grind arith in
-    subst (Sorted h) (sym (as-ordered h g s n (RemoveIn i) m.0 m.1)) (in_turn (order h g (RemoveIn i)) r.way r.of (gives-in-remove h g i r) (c r.way r.of (any-has (λ (y : Association). y.serial == i) r.association (left r.way h) r.left e)))
+    subst (Sorted h) (sym (as-ordered h g s n (RemoveIn i) m.0 m.1)) (in_turn (order h g (RemoveIn i)) r.way r.of (gives-in-remove h g i r)
+        (c r.way r.of (any-has (λ (y : Association). y.serial == i) r.association (left r.way h) r.left e)))
 sorted p h g s n (RemoveOut i) m c =
     let r : MayOrderOutRemove h g i = m.3 in
     let e : (r.association.serial == i) ≡ true = let w = r.name in grind arith in
-    subst (Sorted h) (sym (as-ordered h g s n (RemoveOut i) m.0 m.1)) (in_turn (order h g (RemoveOut i)) r.way r.of (gives-out-remove h g i r) (c r.way r.of (any-has (λ (y : Association). y.serial == i) r.association (left r.way h) r.left e)))
+    subst (Sorted h) (sym (as-ordered h g s n (RemoveOut i) m.0 m.1))
+        (in_turn (order h g (RemoveOut i)) r.way r.of (gives-out-remove h g i r)
+        (c r.way r.of (any-has (λ (y : Association). y.serial == i) r.association (left r.way h) r.left e)))
 
 no-order : (a : ControllerAct) (xs : List ControllerAct) → xs ≡ a ∷ [] → xs ≡ [] → ⊥
 no-order a xs e f = cc
@@ -163,7 +171,8 @@ list-at (Accepted c ∷ h) f g e i = list-for c f g e i
 list-at (Refused w ∷ h) f g e i = cc
 
 same-list : (h : List ControllerAct) (f g : ℕ) (l m : List SpdEntry) → f ≡ g → newest_list f h ≡ Some l → newest_list g h ≡ Some m → l ≡ m
-same-list h f g l m e a b = let w : newest_list f h ≡ newest_list g h = ap (λ z. newest_list z h) e in let q : Some l ≡ Some m = sym a ∙ (w ∙ b) in cc
+same-list h f g l m e a b = let w : newest_list f h ≡ newest_list g h = ap (λ z. newest_list z h) e in
+    let q : Some l ≡ Some m = sym a ∙ (w ∙ b) in cc
 
 due-one : (h : List ControllerAct) (f g : ℕ) (o z : ControllerOrder) → IsDue h f o → IsDue h g z → order h f o ≡ order h g z
 due-one h f g Read Read a b = ap (λ k. order h k Read) (reading-at h f g a b)
@@ -191,9 +200,11 @@ apart n m false e = inr (equal-or (n == m) refl)
     equal-or true f = inl (grind arith)
     equal-or false f = inr (grind (arith, common_steps))
 
-same-turn : (h : List ControllerAct) (a b : ControllerAct) (d e : Way) → Has d (directions h) → Has e (directions h) → give h d ≡ a ∷ [] → give h e ≡ b ∷ [] → HasTurn h d → HasTurn h e → (d.id < e.id) ⊎ ((d.id ≡ e.id) ⊎ (e.id < d.id)) → a ≡ b
+same-turn : (h : List ControllerAct) (a b : ControllerAct) (d e : Way) → Has d (directions h) → Has e (directions h) → give h d ≡ a ∷ []
+    → give h e ≡ b ∷ [] → HasTurn h d → HasTurn h e → (d.id < e.id) ⊎ ((d.id ≡ e.id) ⊎ (e.id < d.id)) → a ≡ b
 same-turn h a b d e i j p q t u (inl w) = absurd (no-order a (give h d) p (idle-gives h d (u.earlier d i w) (is_busy d h) refl))
-same-turn h a b d e i j p q t u (inr (inl w)) = let r : d ≡ e = one-way h d e i j w in let z : a ∷ [] ≡ b ∷ [] = sym p ∙ (ap (give h) r ∙ q) in cc
+same-turn h a b d e i j p q t u (inr (inl w)) = let r : d ≡ e = one-way h d e i j w in
+    let z : a ∷ [] ≡ b ∷ [] = sym p ∙ (ap (give h) r ∙ q) in cc
 same-turn h a b d e i j p q t u (inr (inr w)) = absurd (no-order b (give h e) q (idle-gives h e (t.earlier e j w) (is_busy e h) refl))
 
 one-next : (h : List ControllerAct) (a b : ControllerAct) → Sorted h a → Sorted h b → a ≡ b
@@ -208,7 +219,8 @@ one-list p h [] [] a b = refl
 one-list p h [] (Ordered g s n o ∷ ys) a b = absurd (none-next h (Ordered g s n o) a.0 a.1 (sorted p h g s n o b.0 b.1))
 one-list p h (Ordered g s n o ∷ xs) [] a b = absurd (none-next h (Ordered g s n o) b.0 b.1 (sorted p h g s n o a.0 a.1))
 one-list p h (Ordered f r m z ∷ xs) (Ordered g s n o ∷ ys) a b =
-    let e : Ordered f r m z ≡ Ordered g s n o = one-next h (Ordered f r m z) (Ordered g s n o) (sorted p h f r m z a.0 a.1) (sorted p h g s n o b.0 b.1) in
+    let e : Ordered f r m z ≡ Ordered g s n o = one-next h (Ordered f r m z) (Ordered g s n o) (sorted p h f r m z a.0 a.1)
+        (sorted p h g s n o b.0 b.1) in
     let q : xs ≡ ys = one-list p (Ordered f r m z ∷ h) xs ys a.2 (subst (λ c. AreOrdersNext p (c ∷ h) ys) (sym e) b.2) in
     rw (e, q) refl
 one-list p h [] (Opened g s ∷ ys) a b = absurd b
@@ -232,17 +244,22 @@ one-list p h (Refused w ∷ xs) ys a b = absurd a
 
 -- ## the pass over the directions gives the orders that come next
 
-with-serial : (n : ℕ) (x : Association) (xs : List Association) (b : Bool) → (x.serial == n) ≡ b → (list_any (λ (y : Association). y.serial == n) xs ≡ true → (z : Association) × Has z xs × ((z.serial == n) ≡ true)) → (b || list_any (λ (y : Association). y.serial == n) xs) ≡ true → (z : Association) × Has z (x ∷ xs) × ((z.serial == n) ≡ true)
+with-serial : (n : ℕ) (x : Association) (xs : List Association) (b : Bool) → (x.serial == n) ≡ b
+    → (list_any (λ (y : Association). y.serial == n) xs ≡ true → (z : Association) × Has z xs × ((z.serial == n) ≡ true))
+    → (b || list_any (λ (y : Association). y.serial == n) xs) ≡ true → (z : Association) × Has z (x ∷ xs) × ((z.serial == n) ≡ true)
 with-serial n x xs true q f t = (x, inl refl, q)
 with-serial n x xs false q f t = let r = f t in (r.0, inr r.1, r.2)
 
-found-own : (n : ℕ) (xs : List Association) → list_any (λ (y : Association). y.serial == n) xs ≡ true → (x : Association) × Has x xs × ((x.serial == n) ≡ true)
+found-own : (n : ℕ) (xs : List Association) → list_any (λ (y : Association). y.serial == n) xs ≡ true → (x : Association) × Has x xs
+    × ((x.serial == n) ≡ true)
 found-own n [] e = cc
 found-own n (x ∷ xs) e = with-serial n x xs (x.serial == n) refl (found-own n xs) e
 
-own-id : (p : ℕ) (h : List ControllerAct) → IsControllerPast p h → (d e : Way) (x : Association) → Has x (left e h) → list_any (λ (y : Association). y.serial == x.serial) (left d h) ≡ true → (b : Bool) → (d.id == e.id) ≡ b → d.id ≡ e.id
+own-id : (p : ℕ) (h : List ControllerAct) → IsControllerPast p h → (d e : Way) (x : Association) → Has x (left e h)
+    → list_any (λ (y : Association). y.serial == x.serial) (left d h) ≡ true → (b : Bool) → (d.id == e.id) ≡ b → d.id ≡ e.id
 own-id p h l d e x i q true w = grind arith
-own-id p h l d e x i q false w = let r = found-own x.serial (left d h) q in absurd (let u : true ≡ false = sym r.2 ∙ other-out p h l d e w x i r.0 r.1 in cc)
+own-id p h l d e x i q false w = let r = found-own x.serial (left d h) q in
+    absurd (let u : true ≡ false = sym r.2 ∙ other-out p h l d e w x i r.0 r.1 in cc)
 
 own-put : (h : List ControllerAct) (d e : Way) (x : Association) → Has x (left e h) → (d.id == x.way.id) ≡ true → d.id ≡ e.id
 own-put h d e x i q = let w = of-way h e x i in grind arith
@@ -250,7 +267,8 @@ own-put h d e x i q = let w = of-way h e x i in grind arith
 turn-of : (h : List ControllerAct) (d e : Way) → HasTurn h e → d.id ≡ e.id → HasTurn h d
 turn-of h d e t q = record { none_due = t.none_due; earlier = λ c i w. t.earlier c i (let u : c.id < e.id = rw (← q) w in u) }
 
-one-turn : (p : ℕ) (h : List ControllerAct) (e : Way) (os more : List ControllerAct) → IsControllerPast p h → Has e (directions h) → HasTurn h e → Given h e os → AreOrdersNext p (after h os) more → AreOrdersNext p h (os ++ more)
+one-turn : (p : ℕ) (h : List ControllerAct) (e : Way) (os more : List ControllerAct) → IsControllerPast p h → Has e (directions h)
+    → HasTurn h e → Given h e os → AreOrdersNext p (after h os) more → AreOrdersNext p h (os ++ more)
 one-turn p h e _ more l i t (nothing q) r = r
 one-turn p h e _ more l i t (out_removed x f j m n1) r =
     ((may-given p h e _ i (out_removed x f j m n1)).0, (λ d k w. turn-of h d e t (own-id p h l d e x j w (d.id == e.id) refl)), r)
@@ -262,7 +280,8 @@ one-turn p h e _ more l i t (in_was_put k ks f s m n1 n2 n3) r =
     ((may-given p h e _ i (in_was_put k ks f s m n1 n2 n3)).0, (λ d c w. turn-of h d e t (grind arith)), r)
 
 -- after an order nothing is due, but a list after the reading of an opening
-no-due : (h : List ControllerAct) (z : ControllerOrder) (f : ℕ) → ((g : ℕ) → is_policy_due g (order h f z ∷ h) ≡ false) → NoneDue (order h f z ∷ h)
+no-due : (h : List ControllerAct) (z : ControllerOrder) (f : ℕ) → ((g : ℕ) → is_policy_due g (order h f z ∷ h) ≡ false)
+    → NoneDue (order h f z ∷ h)
 no-due h z f q g Read i = cc
 no-due h z f q g (Policy l) i = absurd (let u : true ≡ false = sym i.2 ∙ q g in cc)
 no-due h z f q g (PutIn x) i = i
@@ -276,9 +295,12 @@ none-after h e _ (nothing q) u = u
 none-after h e _ (out_removed x f j m n1) u = no-due h (RemoveOut x.serial) e.sender (λ g. and-false _)
 none-after h e _ (in_removed x f j m n1 n2) u = no-due h (RemoveIn x.serial) e.receiver (λ g. and-false _)
 none-after h e _ (out_was_put x f j m n1 n2 n3) u = no-due h (PutOut x) e.sender (λ g. and-false _)
-none-after h e _ (in_was_put k ks f s m n1 n2 n3) u = no-due h (PutIn (record { serial = serials h + 1; key = k; way = e })) e.receiver (λ g. and-false _)
+none-after h e _ (in_was_put k ks f s m n1 n2 n3) u = no-due h (PutIn (record { serial = serials h + 1; key = k; way = e })) e.receiver
+    (λ g. and-false _)
 
-pass-next : (p : ℕ) (h : List ControllerAct) → IsControllerPast p h → NoneDue h → (m : ℕ) (ds : List Way) → Rising m ds → ((d : Way) → Has d ds → Has d (directions h)) → ((d : Way) → Has d (directions h) → Has d ds ⊎ Idle h d) → AreOrdersNext p h (pass h ds)
+pass-next : (p : ℕ) (h : List ControllerAct) → IsControllerPast p h → NoneDue h → (m : ℕ) (ds : List Way) → Rising m ds
+    → ((d : Way) → Has d ds → Has d (directions h)) → ((d : Way) → Has d (directions h) → Has d ds ⊎ Idle h d)
+    → AreOrdersNext p h (pass h ds)
 pass-next p h l u m [] r f g = (u, λ d i w. from-idle h d (elim (g d i) as (λ z. Idle h d) [ inl j ↦ absurd j | inr q ↦ q ]) w)
 pass-next p h l u m (e ∷ ds) r f g =
     let he : Has e (directions h) = f e (inl refl) in
@@ -306,7 +328,8 @@ rest-next p h l u = pass-next p h l u 0 (directions h) (rising h) (λ d i. i) (�
 -- ## the orders that belong to no direction
 
 -- nothing is due where the newest act asks for no reading and no list
-none-asked : (h : List ControllerAct) → ((g : ℕ) → is_reading_due g h ≡ false) → ((g : ℕ) → is_open g h ≡ true → is_policy_due g h ≡ false) → NoneDue h
+none-asked : (h : List ControllerAct) → ((g : ℕ) → is_reading_due g h ≡ false) → ((g : ℕ) → is_open g h ≡ true → is_policy_due g h ≡ false)
+    → NoneDue h
 none-asked h a b g Read i = absurd (let u : true ≡ false = sym i ∙ a g in cc)
 none-asked h a b g (Policy l) i = absurd (let u : true ≡ false = sym i.2 ∙ b g i.0 in cc)
 none-asked h a b g (PutIn x) i = i
@@ -314,20 +337,28 @@ none-asked h a b g (PutOut x) i = i
 none-asked h a b g (RemoveIn n) i = i
 none-asked h a b g (RemoveOut n) i = i
 
-none-commanded : (h : List ControllerAct) (c : PlacedCommand) → ((g : ℕ) → is_open g h ≡ true → is_list_for g c ≡ false) → NoneDue (Accepted c ∷ h)
+none-commanded : (h : List ControllerAct) (c : PlacedCommand) → ((g : ℕ) → is_open g h ≡ true → is_list_for g c ≡ false)
+    → NoneDue (Accepted c ∷ h)
 none-commanded h c b = none-asked (Accepted c ∷ h) (λ g. refl) b
 
-list-next : (p : ℕ) (h : List ControllerAct) (g : ℕ) (l : List SpdEntry) (b : Bool) → is_open g h ≡ b → IsControllerPast p (Accepted (SetPolicy g l) ∷ h) → AreOrdersNext p (Accepted (SetPolicy g l) ∷ h) (asked_then (Accepted (SetPolicy g l) ∷ h) (if b then order (Accepted (SetPolicy g l) ∷ h) g (Policy l) ∷ [] else []))
+list-next : (p : ℕ) (h : List ControllerAct) (g : ℕ) (l : List SpdEntry) (b : Bool) → is_open g h ≡ b
+    → IsControllerPast p (Accepted (SetPolicy g l) ∷ h)
+    → AreOrdersNext p (Accepted (SetPolicy g l) ∷ h)
+    (asked_then (Accepted (SetPolicy g l) ∷ h) (if b then order (Accepted (SetPolicy g l) ∷ h) g (Policy l) ∷ [] else []))
 list-next p h g l true o k =
-    let m : ControllerMayAct p (Accepted (SetPolicy g l) ∷ h) (order (Accepted (SetPolicy g l) ∷ h) g (Policy l)) = (refl, refl, o, (rw (eq-own g) refl, eq-own g)) in
-    (m, (λ d i w. cc), rest-next p (order (Accepted (SetPolicy g l) ∷ h) g (Policy l) ∷ Accepted (SetPolicy g l) ∷ h) (m, k) (no-due (Accepted (SetPolicy g l) ∷ h) (Policy l) g (λ f. and-false _)))
-list-next p h g l false o k = rest-next p (Accepted (SetPolicy g l) ∷ h) k (none-commanded h (SetPolicy g l) (λ f w. shut f (f == g) refl w))
+    let m : ControllerMayAct p (Accepted (SetPolicy g l) ∷ h) (order (Accepted (SetPolicy g l) ∷ h) g (Policy l)) =
+        (refl, refl, o, (rw (eq-own g) refl, eq-own g)) in
+    (m, (λ d i w. cc), rest-next p (order (Accepted (SetPolicy g l) ∷ h) g (Policy l) ∷ Accepted (SetPolicy g l) ∷ h) (m, k)
+        (no-due (Accepted (SetPolicy g l) ∷ h) (Policy l) g (λ f. and-false _)))
+list-next p h g l false o k =
+    rest-next p (Accepted (SetPolicy g l) ∷ h) k (none-commanded h (SetPolicy g l) (λ f w. shut f (f == g) refl w))
   where
     shut : (f : ℕ) (b : Bool) → (f == g) ≡ b → is_open f h ≡ true → b ≡ false
     shut f true e w = let q : f ≡ g = grind arith in absurd (let u : true ≡ false = sym w ∙ (ap (λ z. is_open z h) q ∙ o) in cc)
     shut f false e w = refl
 
-command-next : (p : ℕ) (h : List ControllerAct) (c : PlacedCommand) → IsControllerPast p (Accepted c ∷ h) → AreOrdersNext p (Accepted c ∷ h) (asked_then (Accepted c ∷ h) (by_command (Accepted c ∷ h) c))
+command-next : (p : ℕ) (h : List ControllerAct) (c : PlacedCommand) → IsControllerPast p (Accepted c ∷ h)
+    → AreOrdersNext p (Accepted c ∷ h) (asked_then (Accepted c ∷ h) (by_command (Accepted c ∷ h) c))
 command-next p h (SetPolicy g l) k = list-next p h g l (is_open g h) refl k
 command-next p h (Tunnel t) k = rest-next p (Accepted (Tunnel t) ∷ h) k (none-commanded h (Tunnel t) (λ f w. refl))
 command-next p h (End r) k = rest-next p (Accepted (End r) ∷ h) k (none-commanded h (End r) (λ f w. refl))
@@ -338,7 +369,8 @@ command-next p h (Keys q) k = rest-next p (Accepted (Keys q) ∷ h) k (none-comm
 abbrev read_at : List ControllerAct → ℕ → ℕ → List ControllerAct
 read_at h g s = order (Opened g s ∷ h) g Read ∷ Opened g s ∷ h
 
-newest-next : (p : ℕ) (h : List ControllerAct) (g s : ℕ) (o : Option (List SpdEntry)) → newest_list g h ≡ o → IsControllerPast p (read_at h g s) → AreOrdersNext p (read_at h g s) (asked_then (read_at h g s) (with_list (read_at h g s) g o))
+newest-next : (p : ℕ) (h : List ControllerAct) (g s : ℕ) (o : Option (List SpdEntry)) → newest_list g h ≡ o
+    → IsControllerPast p (read_at h g s) → AreOrdersNext p (read_at h g s) (asked_then (read_at h g s) (with_list (read_at h g s) g o))
 newest-next p h g s None e k = rest-next p (read_at h g s) k (no-list (read_at h g s) refl)
   where
     no-list : (w : List ControllerAct) → w ≡ read_at h g s → NoneDue (read_at h g s)
@@ -346,7 +378,8 @@ newest-next p h g s None e k = rest-next p (read_at h g s) k (no-list (read_at h
     no-list w t f (Policy l) i = absurd (none-there f l (f == g) refl i)
       where
         none-there : (f : ℕ) (l : List SpdEntry) (b : Bool) → (f == g) ≡ b → IsDue (read_at h g s) f (Policy l) → ⊥
-        none-there f l true q i = let w : f ≡ g = grind arith in let u : None ≡ Some l = sym e ∙ (ap (λ z. newest_list z h) (sym w) ∙ i.1) in cc
+        none-there f l true q i = let w : f ≡ g = grind arith in
+            let u : None ≡ Some l = sym e ∙ (ap (λ z. newest_list z h) (sym w) ∙ i.1) in cc
         none-there f l false q i = let u = i.2 in let v : (false && (f == g)) ≡ true = subst (λ b. (b && (f == g)) ≡ true) q u in cc
     no-list w t f (PutIn x) i = i
     no-list w t f (PutOut x) i = i
@@ -355,33 +388,46 @@ newest-next p h g s None e k = rest-next p (read_at h g s) k (no-list (read_at h
 newest-next p h g s (Some l) e k =
     let q = eq-own g in
     let m : ControllerMayAct p (read_at h g s) (order (read_at h g s) g (Policy l)) = (refl, refl, rw q refl, (e, rw q refl)) in
-    (m, (λ d i w. cc), rest-next p (order (read_at h g s) g (Policy l) ∷ read_at h g s) (m, k) (no-due (read_at h g s) (Policy l) g (λ f. and-false _)))
+    (m, (λ d i w. cc), rest-next p (order (read_at h g s) g (Policy l) ∷ read_at h g s) (m, k)
+        (no-due (read_at h g s) (Policy l) g (λ f. and-false _)))
 
-opening-next : (p : ℕ) (h : List ControllerAct) (g s : ℕ) → IsControllerPast p (Opened g s ∷ h) → AreOrdersNext p (Opened g s ∷ h) (asked_then (Opened g s ∷ h) (read_put (Opened g s ∷ h) g))
+opening-next : (p : ℕ) (h : List ControllerAct) (g s : ℕ) → IsControllerPast p (Opened g s ∷ h)
+    → AreOrdersNext p (Opened g s ∷ h) (asked_then (Opened g s ∷ h) (read_put (Opened g s ∷ h) g))
 opening-next p h g s k =
     let q = eq-own g in
     let m : ControllerMayAct p (Opened g s ∷ h) (order (Opened g s ∷ h) g Read) = (refl, refl, rw q refl, q) in
     (m, (λ d i w. cc), newest-next p h g s (newest_list g h) refl (m, k))
 
-spi-next : (p : ℕ) (h : List ControllerAct) (g s n : ℕ) (b : Bool) → list_any is_reading (queue g h) ≡ b → is_open g h ≡ true → IsControllerPast p (Heard g s (notices.BadSpi n) ∷ h) → AreOrdersNext p (Heard g s (notices.BadSpi n) ∷ h) (asked_then (Heard g s (notices.BadSpi n) ∷ h) (if b then [] else order (Heard g s (notices.BadSpi n) ∷ h) g Read ∷ []))
-spi-next p h g s n true e o k = rest-next p (Heard g s (notices.BadSpi n) ∷ h) k (none-asked (Heard g s (notices.BadSpi n) ∷ h) (λ f. waits f (f == g) refl) (λ f w. refl))
+spi-next : (p : ℕ) (h : List ControllerAct) (g s n : ℕ) (b : Bool) → list_any is_reading (queue g h) ≡ b → is_open g h ≡ true
+    → IsControllerPast p (Heard g s (notices.BadSpi n) ∷ h) → AreOrdersNext p (Heard g s (notices.BadSpi n) ∷ h)
+    (asked_then (Heard g s (notices.BadSpi n) ∷ h) (if b then [] else order (Heard g s (notices.BadSpi n) ∷ h) g Read ∷ []))
+spi-next p h g s n true e o k =
+    rest-next p (Heard g s (notices.BadSpi n) ∷ h) k (none-asked (Heard g s (notices.BadSpi n) ∷ h) (λ f. waits f (f == g) refl)
+    (λ f w. refl))
   where
     waits : (f : ℕ) (b : Bool) → (f == g) ≡ b → (b && true && not (list_any is_reading (queue f h))) ≡ false
-    waits f true q = let w : f ≡ g = grind arith in let u : list_any is_reading (queue f h) ≡ true = ap (λ z. list_any is_reading (queue z h)) w ∙ e in rw u refl
+    waits f true q = let w : f ≡ g = grind arith in
+        let u : list_any is_reading (queue f h) ≡ true = ap (λ z. list_any is_reading (queue z h)) w ∙ e in rw u refl
     waits f false q = refl
 spi-next p h g s n false e o k =
     let q = eq-own g in
-    let m : ControllerMayAct p (Heard g s (notices.BadSpi n) ∷ h) (order (Heard g s (notices.BadSpi n) ∷ h) g Read) = (refl, refl, o, rw (q, e) refl) in
-    (m, (λ d i w. cc), rest-next p (order (Heard g s (notices.BadSpi n) ∷ h) g Read ∷ Heard g s (notices.BadSpi n) ∷ h) (m, k) (no-due (Heard g s (notices.BadSpi n) ∷ h) Read g (λ f. and-false _)))
+    let m : ControllerMayAct p (Heard g s (notices.BadSpi n) ∷ h) (order (Heard g s (notices.BadSpi n) ∷ h) g Read) =
+        (refl, refl, o, rw (q, e) refl) in
+    (m, (λ d i w. cc), rest-next p (order (Heard g s (notices.BadSpi n) ∷ h) g Read ∷ Heard g s (notices.BadSpi n) ∷ h) (m, k)
+        (no-due (Heard g s (notices.BadSpi n) ∷ h) Read g (λ f. and-false _)))
 
 no-reading : (a c : Bool) → (a && false && c) ≡ false
 no-reading true c = refl
 no-reading false c = refl
 
-notice-next : (p : ℕ) (h : List ControllerAct) (g s : ℕ) (t : Notice) → is_open g h ≡ true → IsControllerPast p (Heard g s t ∷ h) → AreOrdersNext p (Heard g s t ∷ h) (asked_then (Heard g s t ∷ h) (by_notice (Heard g s t ∷ h) g t))
-notice-next p h g s (notices.Acquire r f) o k = rest-next p (Heard g s (notices.Acquire r f) ∷ h) k (none-asked (Heard g s (notices.Acquire r f) ∷ h) (λ z. no-reading _ _) (λ z w. refl))
-notice-next p h g s (notices.Expire m b c) o k = rest-next p (Heard g s (notices.Expire m b c) ∷ h) k (none-asked (Heard g s (notices.Expire m b c) ∷ h) (λ z. no-reading _ _) (λ z w. refl))
-notice-next p h g s (notices.SeqOverflow m) o k = rest-next p (Heard g s (notices.SeqOverflow m) ∷ h) k (none-asked (Heard g s (notices.SeqOverflow m) ∷ h) (λ z. no-reading _ _) (λ z w. refl))
+notice-next : (p : ℕ) (h : List ControllerAct) (g s : ℕ) (t : Notice) → is_open g h ≡ true → IsControllerPast p (Heard g s t ∷ h)
+    → AreOrdersNext p (Heard g s t ∷ h) (asked_then (Heard g s t ∷ h) (by_notice (Heard g s t ∷ h) g t))
+notice-next p h g s (notices.Acquire r f) o k = rest-next p (Heard g s (notices.Acquire r f) ∷ h) k
+    (none-asked (Heard g s (notices.Acquire r f) ∷ h) (λ z. no-reading _ _) (λ z w. refl))
+notice-next p h g s (notices.Expire m b c) o k = rest-next p (Heard g s (notices.Expire m b c) ∷ h) k
+    (none-asked (Heard g s (notices.Expire m b c) ∷ h) (λ z. no-reading _ _) (λ z w. refl))
+notice-next p h g s (notices.SeqOverflow m) o k = rest-next p (Heard g s (notices.SeqOverflow m) ∷ h) k
+    (none-asked (Heard g s (notices.SeqOverflow m) ∷ h) (λ z. no-reading _ _) (λ z w. refl))
 notice-next p h g s (notices.BadSpi n) o k = spi-next p h g s n (list_any is_reading (queue g h)) refl o k
 
 -- ## a block meets the clauses
@@ -389,11 +435,14 @@ notice-next p h g s (notices.BadSpi n) o k = spi-next p h g s n (list_any is_rea
 refused-whole : (h : List ControllerAct) (w : Refusal) → NotIdle h → NoneDue (Refused w ∷ h) × NotIdle (Refused w ∷ h)
 refused-whole h w q = (none-asked (Refused w ∷ h) (λ g. refl) (λ g o. refl), idle-refused h w q)
 
-refusal-block : (ps : List Peer) (h : List ControllerAct) (c : Command) (o : Option Refusal) → refusal (length ps) h (placed_command ps c) ≡ o → IsControllerPast (length ps) h → NotIdle h → IsBlock ps h (Told c) (by_refusal h (placed_command ps c) o)
+refusal-block : (ps : List Peer) (h : List ControllerAct) (c : Command) (o : Option Refusal)
+    → refusal (length ps) h (placed_command ps c) ≡ o → IsControllerPast (length ps) h → NotIdle h
+    → IsBlock ps h (Told c) (by_refusal h (placed_command ps c) o)
 refusal-block ps h c None e l q = (refl, e, command-next (length ps) h (placed_command ps c) (e, l))
 refusal-block ps h c (Some w) e l q = (e, (placed_command ps c, e), refused-whole h w q)
 
-block-if : (ps : List Peer) (h : List ControllerAct) (e : ControllerEvent) (b : Bool) (xs ys : List ControllerAct) → (b ≡ true → IsBlock ps h e xs) → (b ≡ false → IsBlock ps h e ys) → IsBlock ps h e (if b then xs else ys)
+block-if : (ps : List Peer) (h : List ControllerAct) (e : ControllerEvent) (b : Bool) (xs ys : List ControllerAct)
+    → (b ≡ true → IsBlock ps h e xs) → (b ≡ false → IsBlock ps h e ys) → IsBlock ps h e (if b then xs else ys)
 block-if ps h e true xs ys f g = f refl
 block-if ps h e false xs ys f g = g refl
 
@@ -440,14 +489,17 @@ none-answers ps h g a o (Ordered f s n z) i m = i
 none-answers ps h g a o (Accepted k) i m = i
 none-answers ps h g a o (Refused w) i m = i
 
-answer-block : (ps : List Peer) (h : List ControllerAct) (g : ℕ) (a : Answer) (os : List ControllerOrder) → queue g h ≡ os → IsControllerPast (length ps) h → IsBlock ps h (Answers g a) (by_answer h g a os)
+answer-block : (ps : List Peer) (h : List ControllerAct) (g : ℕ) (a : Answer) (os : List ControllerOrder) → queue g h ≡ os
+    → IsControllerPast (length ps) h → IsBlock ps h (Answers g a) (by_answer h g a os)
 answer-block ps h g a [] e l = none-answers ps h g a e
 answer-block ps h g a (o ∷ os) e l =
     let m : ControllerMayAct (length ps) h (Answered g (openings g h) (answered g h + 1) a) = (o, ap oldest e, refl, refl) in
-    ((refl, refl), m, rest-next (length ps) (Answered g (openings g h) (answered g h + 1) a ∷ h) (m, l) (none-asked (Answered g (openings g h) (answered g h + 1) a ∷ h) (λ f. refl) (λ f o. refl)))
+    ((refl, refl), m, rest-next (length ps) (Answered g (openings g h) (answered g h + 1) a ∷ h) (m, l)
+        (none-asked (Answered g (openings g h) (answered g h + 1) a ∷ h) (λ f. refl) (λ f o. refl)))
 
 -- the block of an event meets the clauses
-pub block-meets : (ps : List Peer) (h : List ControllerAct) (e : ControllerEvent) → IsControllerPast (length ps) h → NotIdle h → IsBlock ps h e (block ps h e)
+pub block-meets : (ps : List Peer) (h : List ControllerAct) (e : ControllerEvent) → IsControllerPast (length ps) h → NotIdle h
+    → IsBlock ps h e (block ps h e)
 block-meets ps h (Told c) l q = refusal-block ps h c (refusal (length ps) h (placed_command ps c)) refl l q
 block-meets ps h (Opens g) l q =
     block-if ps h (Opens g) (is_open g h) [] (going h (Opened g (openings g h + 1)))
@@ -455,7 +507,8 @@ block-meets ps h (Opens g) l q =
     (λ o. (refl, (o, refl), opening-next (length ps) h g (openings g h + 1) ((o, refl), l)))
 block-meets ps h (Cuts g) l q =
     block-if ps h (Cuts g) (is_open g h) (going h (Cut g (openings g h))) []
-    (λ o. (refl, (o, refl), rest-next (length ps) (Cut g (openings g h) ∷ h) ((o, refl), l) (none-asked (Cut g (openings g h) ∷ h) (λ f. refl) (λ f o. refl))))
+    (λ o. (refl, (o, refl), rest-next (length ps) (Cut g (openings g h) ∷ h) ((o, refl), l)
+        (none-asked (Cut g (openings g h) ∷ h) (λ f. refl) (λ f o. refl))))
     (λ o. none-cuts ps h g o)
 block-meets ps h (Answers g a) l q = answer-block ps h g a (queue g h) refl l
 block-meets ps h (Notices g t) l q =
@@ -469,16 +522,19 @@ abbrev told_act : PlacedCommand → Option Refusal → ControllerAct
 told_act c None = Accepted c
 told_act c (Some w) = Refused w
 
-own-told : (ps : List Peer) (h : List ControllerAct) (c : Command) (a : ControllerAct) → IsOwnAct ps h (Told c) a → ControllerMayAct (length ps) h a → a ≡ told_act (placed_command ps c) (refusal (length ps) h (placed_command ps c))
+own-told : (ps : List Peer) (h : List ControllerAct) (c : Command) (a : ControllerAct) → IsOwnAct ps h (Told c) a
+    → ControllerMayAct (length ps) h a → a ≡ told_act (placed_command ps c) (refusal (length ps) h (placed_command ps c))
 own-told ps h c (Opened f s) i m = absurd i
 own-told ps h c (Cut f s) i m = absurd i
 own-told ps h c (Answered f s n b) i m = absurd i
 own-told ps h c (Heard f s u) i m = absurd i
 own-told ps h c (Ordered f s n z) i m = absurd i
-own-told ps h c (Accepted k) i m = let t : refusal (length ps) h (placed_command ps c) ≡ None = ap (refusal (length ps) h) (sym i) ∙ m in rw (i, t) refl
+own-told ps h c (Accepted k) i m = let t : refusal (length ps) h (placed_command ps c) ≡ None = ap (refusal (length ps) h) (sym i) ∙ m in
+    rw (i, t) refl
 own-told ps h c (Refused w) i m = rw i refl
 
-own-opens : (ps : List Peer) (h : List ControllerAct) (g : ℕ) (a : ControllerAct) → IsOwnAct ps h (Opens g) a → ControllerMayAct (length ps) h a → a ≡ Opened g (openings g h + 1)
+own-opens : (ps : List Peer) (h : List ControllerAct) (g : ℕ) (a : ControllerAct) → IsOwnAct ps h (Opens g) a
+    → ControllerMayAct (length ps) h a → a ≡ Opened g (openings g h + 1)
 own-opens ps h g (Opened f s) i m = let t = m.1 in rw (t, i) refl
 own-opens ps h g (Cut f s) i m = absurd i
 own-opens ps h g (Answered f s n b) i m = absurd i
@@ -487,7 +543,8 @@ own-opens ps h g (Ordered f s n z) i m = absurd i
 own-opens ps h g (Accepted k) i m = absurd i
 own-opens ps h g (Refused w) i m = absurd i
 
-own-cuts : (ps : List Peer) (h : List ControllerAct) (g : ℕ) (a : ControllerAct) → IsOwnAct ps h (Cuts g) a → ControllerMayAct (length ps) h a → a ≡ Cut g (openings g h)
+own-cuts : (ps : List Peer) (h : List ControllerAct) (g : ℕ) (a : ControllerAct) → IsOwnAct ps h (Cuts g) a
+    → ControllerMayAct (length ps) h a → a ≡ Cut g (openings g h)
 own-cuts ps h g (Opened f s) i m = absurd i
 own-cuts ps h g (Cut f s) i m = let t = m.1 in rw (t, i) refl
 own-cuts ps h g (Answered f s n b) i m = absurd i
@@ -496,7 +553,8 @@ own-cuts ps h g (Ordered f s n z) i m = absurd i
 own-cuts ps h g (Accepted k) i m = absurd i
 own-cuts ps h g (Refused w) i m = absurd i
 
-own-answers : (ps : List Peer) (h : List ControllerAct) (g : ℕ) (r : Answer) (a : ControllerAct) → IsOwnAct ps h (Answers g r) a → ControllerMayAct (length ps) h a → a ≡ Answered g (openings g h) (answered g h + 1) r
+own-answers : (ps : List Peer) (h : List ControllerAct) (g : ℕ) (r : Answer) (a : ControllerAct) → IsOwnAct ps h (Answers g r) a
+    → ControllerMayAct (length ps) h a → a ≡ Answered g (openings g h) (answered g h + 1) r
 own-answers ps h g r (Opened f s) i m = absurd i
 own-answers ps h g r (Cut f s) i m = absurd i
 own-answers ps h g r (Answered f s n b) i m = let t = m.2 in let w = m.3 in let x = i.0 in let y = i.1 in rw (t, w, x, y) refl
@@ -505,7 +563,8 @@ own-answers ps h g r (Ordered f s n z) i m = absurd i
 own-answers ps h g r (Accepted k) i m = absurd i
 own-answers ps h g r (Refused w) i m = absurd i
 
-own-notices : (ps : List Peer) (h : List ControllerAct) (g : ℕ) (t : Notice) (a : ControllerAct) → IsOwnAct ps h (Notices g t) a → ControllerMayAct (length ps) h a → a ≡ Heard g (openings g h) t
+own-notices : (ps : List Peer) (h : List ControllerAct) (g : ℕ) (t : Notice) (a : ControllerAct) → IsOwnAct ps h (Notices g t) a
+    → ControllerMayAct (length ps) h a → a ≡ Heard g (openings g h) t
 own-notices ps h g t (Opened f s) i m = absurd i
 own-notices ps h g t (Cut f s) i m = absurd i
 own-notices ps h g t (Answered f s n b) i m = absurd i
@@ -514,14 +573,16 @@ own-notices ps h g t (Ordered f s n z) i m = absurd i
 own-notices ps h g t (Accepted k) i m = absurd i
 own-notices ps h g t (Refused w) i m = absurd i
 
-one-own : (ps : List Peer) (h : List ControllerAct) (e : ControllerEvent) (a b : ControllerAct) → IsOwnAct ps h e a → ControllerMayAct (length ps) h a → IsOwnAct ps h e b → ControllerMayAct (length ps) h b → a ≡ b
+one-own : (ps : List Peer) (h : List ControllerAct) (e : ControllerEvent) (a b : ControllerAct) → IsOwnAct ps h e a
+    → ControllerMayAct (length ps) h a → IsOwnAct ps h e b → ControllerMayAct (length ps) h b → a ≡ b
 one-own ps h (Told c) a b i m j n = own-told ps h c a i m ∙ sym (own-told ps h c b j n)
 one-own ps h (Opens g) a b i m j n = own-opens ps h g a i m ∙ sym (own-opens ps h g b j n)
 one-own ps h (Cuts g) a b i m j n = own-cuts ps h g a i m ∙ sym (own-cuts ps h g b j n)
 one-own ps h (Answers g r) a b i m j n = own-answers ps h g r a i m ∙ sym (own-answers ps h g r b j n)
 one-own ps h (Notices g t) a b i m j n = own-notices ps h g t a i m ∙ sym (own-notices ps h g t b j n)
 
-one-block : (ps : List Peer) (h : List ControllerAct) (e : ControllerEvent) (xs ys : List ControllerAct) → IsBlock ps h e xs → IsBlock ps h e ys → xs ≡ ys
+one-block : (ps : List Peer) (h : List ControllerAct) (e : ControllerEvent) (xs ys : List ControllerAct) → IsBlock ps h e xs
+    → IsBlock ps h e ys → xs ≡ ys
 one-block ps h e [] [] a b = refl
 one-block ps h e [] (y ∷ ys) a b = absurd (a y b.0 b.1)
 one-block ps h e (x ∷ xs) [] a b = absurd (b x a.0 a.1)
@@ -531,5 +592,6 @@ one-block ps h e (x ∷ xs) (y ∷ ys) a b =
     rw (q, r) refl
 
 -- acts that meet the clauses are the block
-pub only-block : (ps : List Peer) (h : List ControllerAct) (e : ControllerEvent) (xs : List ControllerAct) → IsControllerPast (length ps) h → NotIdle h → IsBlock ps h e xs → xs ≡ block ps h e
+pub only-block : (ps : List Peer) (h : List ControllerAct) (e : ControllerEvent) (xs : List ControllerAct) → IsControllerPast (length ps) h
+    → NotIdle h → IsBlock ps h e xs → xs ≡ block ps h e
 only-block ps h e xs l q i = one-block ps h e xs (block ps h e) i (block-meets ps h e l q)

@@ -14,7 +14,8 @@ pub length-count : {A : Type 0} (p : A → Bool) (xs : List A) → length (filte
 length-count p [] = refl
 length-count p (x ∷ xs) = one (p x) (length-count p xs)
   where
-    one : (b : Bool) → length (filter p xs) ≡ count p xs → length (if b then x ∷ filter p xs else filter p xs) ≡ (if b then count p xs + 1 else count p xs)
+    one : (b : Bool) → length (filter p xs) ≡ count p xs → length (if b then x ∷ filter p xs else filter p xs) ≡ (if b then count p xs + 1
+        else count p xs)
     one true e = grind (arith, e)
     one false e = e
 
@@ -35,7 +36,8 @@ pub count-less : {A : Type 0} (p q : A → Bool) (xs : List A) → ((x : A) → 
 count-less p q [] f = omega arith
 count-less p q (x ∷ xs) f = one (p x) (q x) (f x) (count-less p q xs f)
   where
-    one : (a b : Bool) → (a ≡ true → b ≡ true) → count p xs ≤ count q xs → (if a then count p xs + 1 else count p xs) ≤ (if b then count q xs + 1 else count q xs)
+    one : (a b : Bool) → (a ≡ true → b ≡ true) → count p xs ≤ count q xs
+        → (if a then count p xs + 1 else count p xs) ≤ (if b then count q xs + 1 else count q xs)
     one true b g e = rw (g refl) (omega arith)
     one false true g e = omega arith
     one false false g e = e
@@ -52,7 +54,9 @@ count-last p [] x = one (p x)
     one false = refl
 count-last p (y ∷ ys) x = one (p y) (count-last p ys x)
   where
-    one : (b : Bool) → count p (ys ++ x ∷ []) ≡ count p ys + (if p x then 1 else 0) → (if b then count p (ys ++ x ∷ []) + 1 else count p (ys ++ x ∷ [])) ≡ (if b then count p ys + 1 else count p ys) + (if p x then 1 else 0)
+    one : (b : Bool) → count p (ys ++ x ∷ []) ≡ count p ys + (if p x then 1 else 0)
+        → (if b then count p (ys ++ x ∷ []) + 1 else count p (ys ++ x ∷ [])) ≡ (if b then count p ys + 1 else count p ys) +
+        (if p x then 1 else 0)
     one true e = omega arith
     one false e = e
 
@@ -70,7 +74,8 @@ count-rest p (o ∷ q) = one (p o)
     one true = omega arith
     one false = omega arith
 
-pub rest-less : (p r : ControllerOrder → Bool) → ((o : ControllerOrder) → p o ≡ true → r o ≡ true) → (b : Bool) (q : List ControllerOrder) → count p (if b then rest q else q) ≤ count r q
+pub rest-less : (p r : ControllerOrder → Bool) → ((o : ControllerOrder) → p o ≡ true → r o ≡ true) → (b : Bool) (q : List ControllerOrder)
+    → count p (if b then rest q else q) ≤ count r q
 rest-less p r f true q = let a = count-rest p q in let b = count-less p r q f in omega arith
 rest-less p r f false q = count-less p r q f
 
@@ -78,11 +83,14 @@ pub none-less : (p : ControllerOrder → Bool) (b : Bool) (q : List ControllerOr
 none-less p true q = omega arith
 none-less p false q = omega arith
 
-pub grown-count : (p r : ControllerOrder → Bool) (q : List ControllerOrder) (z : ControllerOrder) → ((o : ControllerOrder) → Has o q → p o ≡ r o) → (b : Bool) → count p (if b then q ++ z ∷ [] else q) ≡ count r q + (if b && p z then 1 else 0)
+pub grown-count : (p r : ControllerOrder → Bool) (q : List ControllerOrder) (z : ControllerOrder)
+    → ((o : ControllerOrder) → Has o q → p o ≡ r o) → (b : Bool) → count p (if b then q ++ z ∷ [] else q) ≡ count r q + (if b
+    && p z then 1 else 0)
 grown-count p r q z f true = count-last p q z ∙ ap (λ n. n + (if p z then 1 else 0)) (count-same p r q f)
 grown-count p r q z f false = let e = count-same p r q f in omega arith
 
-front-two : (p : ControllerOrder → Bool) (q : List ControllerOrder) (z o : ControllerOrder) → oldest q ≡ Some z → Has o (rest q) → p z ≡ true → p o ≡ true → 2 ≤ count p q
+front-two : (p : ControllerOrder → Bool) (q : List ControllerOrder) (z o : ControllerOrder) → oldest q ≡ Some z → Has o (rest q)
+    → p z ≡ true → p o ≡ true → 2 ≤ count p q
 front-two p [] z o e i t u = absurd i
 front-two p (x ∷ q) z o e i t u =
     let w : x ≡ z = cc in
@@ -98,7 +106,9 @@ abbrev AtOne : ℕ → ℕ → ℕ → Type 0
 AtOne g s r = (g ≡ s) ⊎ (g ≡ r)
 
 -- the front of a queue and an order behind it, or in the other queue
-pub front-and : (p : ControllerOrder → Bool) (h : List ControllerAct) (s r g f : ℕ) (z o : ControllerOrder) → (s == r) ≡ false → AtOne g s r → AtOne f s r → oldest (queue g h) ≡ Some z → p z ≡ true → p o ≡ true → (b : Bool) → (f == g) ≡ b → Has o (if b then rest (queue f h) else queue f h) → 2 ≤ count p (queue s h) + count p (queue r h)
+pub front-and : (p : ControllerOrder → Bool) (h : List ControllerAct) (s r g f : ℕ) (z o : ControllerOrder) → (s == r) ≡ false → AtOne g s r
+    → AtOne f s r → oldest (queue g h) ≡ Some z → p z ≡ true → p o ≡ true → (b : Bool) → (f == g) ≡ b
+    → Has o (if b then rest (queue f h) else queue f h) → 2 ≤ count p (queue s h) + count p (queue r h)
 front-and p h s r g f z o n a c e t u true w i =
     let q : f ≡ g = grind arith in
     let e' : oldest (queue f h) ≡ Some z = ap (λ k. oldest (queue k h)) q ∙ e in
@@ -114,7 +124,8 @@ front-and p h s r g f z o n a c e t u false w i =
     at a c m k
   where
     at : AtOne g s r → AtOne f s r → 1 ≤ count p (queue g h) → 1 ≤ count p (queue f h) → 2 ≤ count p (queue s h) + count p (queue r h)
-    at (inl x) (inl y) m k = absurd (let v : f ≡ g = y ∙ sym x in let u : (f == g) ≡ true = grind arith in let y : true ≡ false = sym u ∙ w in cc)
+    at (inl x) (inl y) m k = absurd (let v : f ≡ g = y ∙ sym x in let u : (f == g) ≡ true = grind arith in
+        let y : true ≡ false = sym u ∙ w in cc)
     at (inl x) (inr y) m k =
         let m' : 1 ≤ count p (queue s h) = subst (λ n. 1 ≤ count p (queue n h)) x m in
         let k' : 1 ≤ count p (queue r h) = subst (λ n. 1 ≤ count p (queue n h)) y k in
@@ -123,4 +134,5 @@ front-and p h s r g f z o n a c e t u false w i =
         let m' : 1 ≤ count p (queue r h) = subst (λ n. 1 ≤ count p (queue n h)) x m in
         let k' : 1 ≤ count p (queue s h) = subst (λ n. 1 ≤ count p (queue n h)) y k in
         omega arith
-    at (inr x) (inr y) m k = absurd (let v : f ≡ g = y ∙ sym x in let u : (f == g) ≡ true = grind arith in let y : true ≡ false = sym u ∙ w in cc)
+    at (inr x) (inr y) m k = absurd (let v : f ≡ g = y ∙ sym x in let u : (f == g) ≡ true = grind arith in
+        let y : true ≡ false = sym u ∙ w in cc)

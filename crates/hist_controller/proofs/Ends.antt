@@ -12,13 +12,16 @@ use Rattle.hist_controller.proofs.OwnCauses.{wanted-stands, stands-wanted, over-
 -- ## what ended an association
 
 one-later : (x : Association) (a : ControllerAct) (h : List ControllerAct) → is_begun_by x a ≡ false → WasEndedBy x h → WasEndedBy x (a ∷ h)
-one-later x a h e r = record { recent = a ∷ r.recent; act = r.act; old = r.old; all = ap (λ z. a ∷ z) r.all; is = r.is; since = rw e r.since }
+one-later x a h e r = record { recent = a ∷ r.recent; act = r.act; old = r.old; all = ap (λ z. a ∷ z) r.all; is = r.is; since =
+    rw e r.since }
 
-or-ended : (x : Association) (a : ControllerAct) (h : List ControllerAct) (b w : Bool) → is_ended_by x a h ≡ b → is_begun_by x a ≡ false → (w ≡ true → WasEndedBy x h) → (b || w) ≡ true → WasEndedBy x (a ∷ h)
+or-ended : (x : Association) (a : ControllerAct) (h : List ControllerAct) (b w : Bool) → is_ended_by x a h ≡ b → is_begun_by x a ≡ false
+    → (w ≡ true → WasEndedBy x h) → (b || w) ≡ true → WasEndedBy x (a ∷ h)
 or-ended x a h true w e n f t = record { recent = []; act = a; old = h; all = refl; is = e; since = refl }
 or-ended x a h false w e n f t = one-later x a h n (f t)
 
-put-ended : (x : Association) (g s n : ℕ) (o : ControllerOrder) (h : List ControllerAct) (b w : Bool) → is_kind PuttingIn x.serial o ≡ b → (w ≡ true → WasEndedBy x h) → (not b && w) ≡ true → WasEndedBy x (Ordered g s n o ∷ h)
+put-ended : (x : Association) (g s n : ℕ) (o : ControllerOrder) (h : List ControllerAct) (b w : Bool) → is_kind PuttingIn x.serial o ≡ b
+    → (w ≡ true → WasEndedBy x h) → (not b && w) ≡ true → WasEndedBy x (Ordered g s n o ∷ h)
 put-ended x g s n o h true w e f t = absurd (false≢true t)
 put-ended x g s n o h false w e f t = one-later x (Ordered g s n o) h e (f t)
 
@@ -41,7 +44,8 @@ ended-now x (Ordered g s n o) h e = absurd (false≢true e)
 ended-now x (Accepted c) h e = or_left _ _ e
 ended-now x (Refused w) h e = absurd (false≢true e)
 
-stays-ended : (x : Association) (recent old : List ControllerAct) → list_any (is_begun_by x) recent ≡ false → is_ended x old ≡ true → is_ended x (recent ++ old) ≡ true
+stays-ended : (x : Association) (recent old : List ControllerAct) → list_any (is_begun_by x) recent ≡ false → is_ended x old ≡ true
+    → is_ended x (recent ++ old) ≡ true
 stays-ended x [] old n e = e
 stays-ended x (Opened g s ∷ recent) old n e = stays-ended x recent old n e
 stays-ended x (Cut g s ∷ recent) old n e = or_right _ _ (stays-ended x recent old n e)
@@ -49,19 +53,22 @@ stays-ended x (Answered g s i a ∷ recent) old n e = or_right _ _ (stays-ended 
 stays-ended x (Heard g s t ∷ recent) old n e = stays-ended x recent old n e
 stays-ended x (Ordered g s i o ∷ recent) old n e =
     let r = or_parts (is_kind PuttingIn x.serial o) (list_any (is_begun_by x) recent) n in
-    and_from (not (is_kind PuttingIn x.serial o)) (is_ended x (recent ++ old)) (not_from_false (is_kind PuttingIn x.serial o) r.0) (stays-ended x recent old r.1 e)
+    and_from (not (is_kind PuttingIn x.serial o)) (is_ended x (recent ++ old)) (not_from_false (is_kind PuttingIn x.serial o) r.0)
+        (stays-ended x recent old r.1 e)
 stays-ended x (Accepted c ∷ recent) old n e = or_right _ _ (stays-ended x recent old n e)
 stays-ended x (Refused w ∷ recent) old n e = stays-ended x recent old n e
 
 pub by-ended : (x : Association) (h : List ControllerAct) → WasEndedBy x h → is_ended x h ≡ true
-by-ended x h r = subst (λ z. is_ended x z ≡ true) (sym r.all) (stays-ended x r.recent (r.act ∷ r.old) r.since (ended-now x r.act r.old r.is))
+by-ended x h r = subst (λ z. is_ended x z ≡ true) (sym r.all)
+    (stays-ended x r.recent (r.act ∷ r.old) r.since (ended-now x r.act r.old r.is))
 
 -- ## what was put last in a direction
 
 abbrev Last : Way → List ControllerAct → Type 0
 Last d h = (x : Association) × WasPutLast d x h × (newest_serial d h ≡ x.serial)
 
-last-later : (d : Way) (a : ControllerAct) (h : List ControllerAct) → is_anew d a h ≡ false → newest_serial d (a ∷ h) ≡ newest_serial d h → Last d h → Last d (a ∷ h)
+last-later : (d : Way) (a : ControllerAct) (h : List ControllerAct) → is_anew d a h ≡ false → newest_serial d (a ∷ h) ≡ newest_serial d h
+    → Last d h → Last d (a ∷ h)
 last-later d a h n e (x, r, s) = (
   x,
   record {
@@ -77,11 +84,14 @@ last-later d a h n e (x, r, s) = (
   e ∙ s,
 )
 
-last-put : (d : Way) (g s n : ℕ) (x : Association) (h : List ControllerAct) (b : Bool) → (d.id == x.way.id) ≡ b → (0 < newest_serial d h → Last d h) → 0 < (if b then x.serial else newest_serial d h) → Last d (Ordered g s n (PutIn x) ∷ h)
-last-put d g s n x h true e f l = (x, record { recent = []; gateway = g; session = s; number = n; old = h; all = refl; own = e; since = tt }, rw e refl)
+last-put : (d : Way) (g s n : ℕ) (x : Association) (h : List ControllerAct) (b : Bool) → (d.id == x.way.id) ≡ b
+    → (0 < newest_serial d h → Last d h) → 0 < (if b then x.serial else newest_serial d h) → Last d (Ordered g s n (PutIn x) ∷ h)
+last-put d g s n x h true e f l = (x, record { recent = []; gateway = g; session = s; number = n; old = h; all = refl; own = e; since =
+    tt }, rw e refl)
 last-put d g s n x h false e f l = last-later d (Ordered g s n (PutIn x)) h e (rw e refl) (f l)
 
-last-told : (d : Way) (c : PlacedCommand) (h : List ControllerAct) (b : Bool) → is_made_by c (length (directions h)) d ≡ b → (0 < newest_serial d h → Last d h) → 0 < (if b then 0 else newest_serial d h) → Last d (Accepted c ∷ h)
+last-told : (d : Way) (c : PlacedCommand) (h : List ControllerAct) (b : Bool) → is_made_by c (length (directions h)) d ≡ b
+    → (0 < newest_serial d h → Last d h) → 0 < (if b then 0 else newest_serial d h) → Last d (Accepted c ∷ h)
 last-told d c h true e f l = absurd (omega (arith, l))
 last-told d c h false e f l = last-later d (Accepted c) h e (rw e refl) (f l)
 

@@ -73,7 +73,8 @@ all-at : (p : List ℕ → Bool) (i : ℕ) (ks : List (List ℕ)) (k : List ℕ)
 all-at p i [] k e t = cc
 all-at p i (x ∷ ks) k e t = at (i == 0) e (and_parts (p x) (list_all p ks) t) (all-at p (i - 1) ks k)
   where
-    at : (b : Bool) → (if b then Some x else place (i - 1) ks) ≡ Some k → (p x ≡ true) × (list_all p ks ≡ true) → (place (i - 1) ks ≡ Some k → list_all p ks ≡ true → p k ≡ true) → p k ≡ true
+    at : (b : Bool) → (if b then Some x else place (i - 1) ks) ≡ Some k → (p x ≡ true) × (list_all p ks ≡ true)
+        → (place (i - 1) ks ≡ Some k → list_all p ks ≡ true → p k ≡ true) → p k ≡ true
     at true e q f = let w : x ≡ k = cc in ap p (sym w) ∙ q.0
     at false e q f = f e q.1
 
@@ -81,7 +82,8 @@ record Put (h : List ControllerAct) (x : Association) : Type 0 where
   pub key : place (x.serial - 1) (keys h) ≡ Some x.key
   pub first : 1 ≤ x.serial
 
-put-now : (p : ℕ) (h : List ControllerAct) (g s n : ℕ) (o : ControllerOrder) (x : Association) → IsControllerPast p (Ordered g s n o ∷ h) → PutIn x ≡ o → Put (Ordered g s n o ∷ h) x
+put-now : (p : ℕ) (h : List ControllerAct) (g s n : ℕ) (o : ControllerOrder) (x : Association) → IsControllerPast p (Ordered g s n o ∷ h)
+    → PutIn x ≡ o → Put (Ordered g s n o ∷ h) x
 put-now p h g s n o x l e =
     let q = put-serial h g o x l.0.3 (sym e) in
     let k : KeyRight h o = (keyed p (Ordered g s n o ∷ h) l).all.0 in
@@ -96,7 +98,8 @@ put-of p (Answered f s n a ∷ h) l g x i = let k = put-of p h l.1 g x i in reco
 put-of p (Heard f s t ∷ h) l g x i = let k = put-of p h l.1 g x i in record { key = k.key; first = k.first }
 put-of p (Ordered f s n o ∷ h) l g x (inl e) = put-now p h f s n o x l e.0
 put-of p (Ordered f s n o ∷ h) l g x (inr i) = let k = put-of p h l.1 g x i in record { key = k.key; first = k.first }
-put-of p (Accepted c ∷ h) l g x i = let k = put-of p h l.1 g x i in record { key = place-stays (x.serial - 1) (keys h) (key_of c) x.key k.key; first = k.first }
+put-of p (Accepted c ∷ h) l g x i = let k = put-of p h l.1 g x i in
+    record { key = place-stays (x.serial - 1) (keys h) (key_of c) x.key k.key; first = k.first }
 put-of p (Refused w ∷ h) l g x i = let k = put-of p h l.1 g x i in record { key = k.key; first = k.first }
 
 -- ## commands
@@ -117,10 +120,12 @@ windows (Cut g s ∷ h) k d i = windows h k d i
 windows (Answered g s n a ∷ h) k d i = windows h k d i
 windows (Heard g s t ∷ h) k d i = windows h k d i
 windows (Ordered g s n o ∷ h) k d i = windows h k d i
-windows (Accepted c ∷ h) k d i = elim (has-more d (directions h) (new_ways (length (directions h)) c) i) as (λ q. is_window d.tunnel.window ≡ true) [ inl j ↦ windows h k.1 d j | inr j ↦ window-new (length (directions h)) c d k.0 j ]
+windows (Accepted c ∷ h) k d i = elim (has-more d (directions h) (new_ways (length (directions h)) c) i) as
+    (λ q. is_window d.tunnel.window ≡ true) [ inl j ↦ windows h k.1 d j | inr j ↦ window-new (length (directions h)) c d k.0 j ]
 windows (Refused w ∷ h) k d i = windows h k d i
 
-list-new : (g : ℕ) (c : PlacedCommand) (o : Option (List SpdEntry)) (l : List SpdEntry) → IsSoundCommand c → (o ≡ Some l → spd_fault l ≡ None) → list_if g c o ≡ Some l → spd_fault l ≡ None
+list-new : (g : ℕ) (c : PlacedCommand) (o : Option (List SpdEntry)) (l : List SpdEntry) → IsSoundCommand c
+    → (o ≡ Some l → spd_fault l ≡ None) → list_if g c o ≡ Some l → spd_fault l ≡ None
 list-new g (SetPolicy f q) o l k r e = at (g == f) e
   where
     at : (b : Bool) → (if b then Some q else o) ≡ Some l → spd_fault l ≡ None
@@ -143,7 +148,9 @@ lists (Refused w ∷ h) k g l e = lists h k g l e
 
 -- ## what is ordered
 
-no-fault : (e : SadEntry) → is_sad_name e.name ≡ true → nat_lt e.spi 256 ≡ false → is_key_length (length e.key) ≡ true → is_window e.window ≡ true → has_empty_range e.selector ≡ false → has_many_ranges e.selector ≡ false → is_one_family e.local e.remote ≡ true → sad_fault e ≡ None
+no-fault : (e : SadEntry) → is_sad_name e.name ≡ true → nat_lt e.spi 256 ≡ false → is_key_length (length e.key) ≡ true
+    → is_window e.window ≡ true → has_empty_range e.selector ≡ false → has_many_ranges e.selector ≡ false
+    → is_one_family e.local e.remote ≡ true → sad_fault e ≡ None
 unfolding sad_fault
 no-fault e a b c d f g i = rw (a, b, c, d, f, g, i) refl
 
@@ -155,7 +162,8 @@ record Fit (ps : List Peer) (x : Association) : Type 0 where
   pub sender : x.way.sender < length ps
   pub receiver : x.way.receiver < length ps
 
-fit : (ps : List Peer) (h : List ControllerAct) → IsControllerPast (length ps) h → SoundCommands h → (g : ℕ) (x : Association) → WasOrdered (PutIn x) g h → Fit ps x
+fit : (ps : List Peer) (h : List ControllerAct) → IsControllerPast (length ps) h → SoundCommands h → (g : ℕ) (x : Association)
+    → WasOrdered (PutIn x) g h → Fit ps x
 fit ps h l k g x i =
     let a = in-home (length ps) h l g x i in
     let b = put-of (length ps) h l g x i in
@@ -176,30 +184,40 @@ high-spi : (n : ℕ) → nat_lt (256 + n) 256 ≡ false
 high-spi n = grind (arith, common_steps)
 
 in-passes : (ps : List Peer) (x : Association) → OneFamily ps → Fit ps x → sad_fault (in_entry ps x) ≡ None
-in-passes ps x f k = let a = k.most in no-fault (in_entry ps x) (in-name-read x.serial (omega arith)) (high-spi x.serial) k.key k.window refl refl (f x.way.receiver x.way.sender k.receiver k.sender)
+in-passes ps x f k = let a = k.most in
+    no-fault (in_entry ps x) (in-name-read x.serial (omega arith)) (high-spi x.serial) k.key k.window refl refl
+    (f x.way.receiver x.way.sender k.receiver k.sender)
 
 out-passes : (ps : List Peer) (x : Association) → OneFamily ps → Fit ps x → sad_fault (out_entry ps x) ≡ None
-out-passes ps x f k = let a = k.most in no-fault (out_entry ps x) (out-name-read x.serial (omega arith)) (high-spi x.serial) k.key k.window refl refl (f x.way.sender x.way.receiver k.sender k.receiver)
+out-passes ps x f k = let a = k.most in
+    no-fault (out_entry ps x) (out-name-read x.serial (omega arith)) (high-spi x.serial) k.key k.window refl refl
+    (f x.way.sender x.way.receiver k.sender k.receiver)
 
 spi-range : (ps : List Peer) (x : Association) → Fit ps x → (257 ≤ 256 + x.serial) × (256 + x.serial ≤ 1048832)
 spi-range ps x k = let a = k.least in let b = k.most in (omega arith, omega arith)
 
-pub in-lawful : (ps : List Peer) (h : List ControllerAct) → IsControllerPast (length ps) h → SoundCommands h → OneFamily ps → (g : ℕ) (x : Association) → WasOrdered (PutIn x) g h → (sad_fault (in_entry ps x) ≡ None) × (257 ≤ (in_entry ps x).spi) × ((in_entry ps x).spi ≤ 1048832)
+pub in-lawful : (ps : List Peer) (h : List ControllerAct) → IsControllerPast (length ps) h → SoundCommands h → OneFamily ps
+    → (g : ℕ) (x : Association) → WasOrdered (PutIn x) g h → (sad_fault (in_entry ps x) ≡ None) × (257 ≤ (in_entry ps x).spi)
+    × ((in_entry ps x).spi ≤ 1048832)
 in-lawful ps h l k f g x i =
     let a = fit ps h l k g x i in
     let b = spi-range ps x a in
     (in-passes ps x f a, b.0, b.1)
 
-pub out-lawful : (ps : List Peer) (h : List ControllerAct) → IsControllerPast (length ps) h → SoundCommands h → OneFamily ps → (g : ℕ) (x : Association) → WasOrdered (PutOut x) g h → (sad_fault (out_entry ps x) ≡ None) × (257 ≤ (out_entry ps x).spi) × ((out_entry ps x).spi ≤ 1048832)
+pub out-lawful : (ps : List Peer) (h : List ControllerAct) → IsControllerPast (length ps) h → SoundCommands h → OneFamily ps
+    → (g : ℕ) (x : Association) → WasOrdered (PutOut x) g h → (sad_fault (out_entry ps x) ≡ None) × (257 ≤ (out_entry ps x).spi)
+    × ((out_entry ps x).spi ≤ 1048832)
 out-lawful ps h l k f g x i =
     let a = fit ps h l k x.way.receiver x (out-home (length ps) h l g x i).1 in
     let b = spi-range ps x a in
     (out-passes ps x f a, b.0, b.1)
 
-list-ordered : (h : List ControllerAct) (g : ℕ) (o : ControllerOrder) (l : List SpdEntry) → MayOrder h g o → SoundCommands h → Policy l ≡ o → spd_fault l ≡ None
+list-ordered : (h : List ControllerAct) (g : ℕ) (o : ControllerOrder) (l : List SpdEntry) → MayOrder h g o → SoundCommands h → Policy l ≡ o
+    → spd_fault l ≡ None
 list-ordered h g o l m k e = let m' : MayOrder h g (Policy l) = subst (MayOrder h g) (sym e) m in lists h k g l m'.0
 
-pub list-lawful : (p : ℕ) (h : List ControllerAct) → IsControllerPast p h → SoundCommands h → (g : ℕ) (l : List SpdEntry) → WasOrdered (Policy l) g h → spd_fault l ≡ None
+pub list-lawful : (p : ℕ) (h : List ControllerAct) → IsControllerPast p h → SoundCommands h → (g : ℕ) (l : List SpdEntry)
+    → WasOrdered (Policy l) g h → spd_fault l ≡ None
 list-lawful p [] q k g l i = absurd i
 list-lawful p (Opened f s ∷ h) q k g l i = list-lawful p h q.1 k g l i
 list-lawful p (Cut f s ∷ h) q k g l i = list-lawful p h q.1 k g l i
@@ -217,14 +235,16 @@ low-put p h l g x i =
     let d = few-keys p h l in
     omega arith
 
-pub in-removed-name : (p : ℕ) (h : List ControllerAct) → IsControllerPast p h → (g n : ℕ) → WasOrdered (RemoveIn n) g h → is_sad_name (in_name n) ≡ true
+pub in-removed-name : (p : ℕ) (h : List ControllerAct) → IsControllerPast p h → (g n : ℕ) → WasOrdered (RemoveIn n) g h
+    → is_sad_name (in_name n) ≡ true
 in-removed-name p h l g n i =
     let r = in-removal p h l g n i in
     let e : n ≡ r.0.serial = r.1 in
     let a = low-put p h l g r.0 r.2 in
     in-name-read n (omega arith)
 
-pub out-removed-name : (p : ℕ) (h : List ControllerAct) → IsControllerPast p h → (g n : ℕ) → WasOrdered (RemoveOut n) g h → is_sad_name (out_name n) ≡ true
+pub out-removed-name : (p : ℕ) (h : List ControllerAct) → IsControllerPast p h → (g n : ℕ) → WasOrdered (RemoveOut n) g h
+    → is_sad_name (out_name n) ≡ true
 out-removed-name p h l g n i =
     let r = out-removal p h l g n i in
     let e : n ≡ r.0.serial = r.1 in
@@ -241,7 +261,8 @@ seen-has : (k : List ℕ) (ks : List (List ℕ)) → is_seen k ks ≡ true → H
 seen-has k [] e = cc
 seen-has k (x ∷ ks) e = at (bytes_eq (aes_part x) (aes_part k)) refl e (seen-has k ks)
   where
-    at : (b : Bool) → bytes_eq (aes_part x) (aes_part k) ≡ b → (b || is_seen k ks) ≡ true → (is_seen k ks ≡ true → Has (aes_part k) (map aes_part ks)) → Has (aes_part k) (map aes_part (x ∷ ks))
+    at : (b : Bool) → bytes_eq (aes_part x) (aes_part k) ≡ b → (b || is_seen k ks) ≡ true
+        → (is_seen k ks ≡ true → Has (aes_part k) (map aes_part ks)) → Has (aes_part k) (map aes_part (x ∷ ks))
     at true t e f = inl (sym (bytes-equal (aes_part x) (aes_part k) t))
     at false t e f = inr (f e)
 
@@ -250,14 +271,18 @@ has-seen k [] i = absurd i
 has-seen k (x ∷ ks) (inl e) = rw (same-bytes (aes_part x) (aes_part k) (sym e)) refl
 has-seen k (x ∷ ks) (inr i) = or-right (bytes_eq (aes_part x) (aes_part k)) (is_seen k ks) (has-seen k ks i)
 
-key-refused : (a b c : Bool) → (if not a then Some refusals.KeyLength else if b then Some refusals.KeySeen else if c then Some refusals.KeyLimit else None) ≡ Some refusals.KeySeen → (a ≡ true) × (b ≡ true)
+key-refused : (a b c : Bool) → (if not a then Some refusals.KeyLength else if b then Some refusals.KeySeen else if c
+    then Some refusals.KeyLimit else None) ≡ Some refusals.KeySeen → (a ≡ true) × (b ≡ true)
 key-refused true true c e = (refl, refl)
 key-refused true false true e = cc
 key-refused true false false e = cc
 key-refused false b c e = cc
 
-pub refused-seen : (p : ℕ) (h : List ControllerAct) (k : List ℕ) → refusal p h (Keys k) ≡ Some refusals.KeySeen → (is_key_length (length k) ≡ true) × Has (aes_part k) (aes_parts h)
-refused-seen p h k e = let q = key-refused (is_key_length (length k)) (is_seen k (keys h)) (nat_le 1048576 (length (keys h))) e in (q.0, seen-has k (keys h) q.1)
+pub refused-seen : (p : ℕ) (h : List ControllerAct) (k : List ℕ) → refusal p h (Keys k) ≡ Some refusals.KeySeen
+    → (is_key_length (length k) ≡ true) × Has (aes_part k) (aes_parts h)
+refused-seen p h k e = let q = key-refused (is_key_length (length k)) (is_seen k (keys h)) (nat_le 1048576 (length (keys h))) e in
+    (q.0, seen-has k (keys h) q.1)
 
-pub seen-refused : (p : ℕ) (h : List ControllerAct) (k : List ℕ) → is_key_length (length k) ≡ true → Has (aes_part k) (aes_parts h) → refusal p h (Keys k) ≡ Some refusals.KeySeen
+pub seen-refused : (p : ℕ) (h : List ControllerAct) (k : List ℕ) → is_key_length (length k) ≡ true → Has (aes_part k) (aes_parts h)
+    → refusal p h (Keys k) ≡ Some refusals.KeySeen
 seen-refused p h k e i = rw (e, has-seen k (keys h) i) refl

@@ -95,7 +95,8 @@ opens-given p h d _ (in_was_put k ks f s m n1 n2 n3) = (tt, tt)
 
 opens-pass : (p : ℕ) (h : List ControllerAct) (ds : List Way) → OpensFit p (pass h ds)
 opens-pass p h [] = tt
-opens-pass p h (d ∷ ds) = opens-more p (give h d) (pass (after h (give h d)) ds) (opens-given p h d (give h d) (given h d)) (opens-pass p (after h (give h d)) ds)
+opens-pass p h (d ∷ ds) = opens-more p (give h d) (pass (after h (give h d)) ds) (opens-given p h d (give h d) (given h d))
+    (opens-pass p (after h (give h d)) ds)
 
 opens-list : (p : ℕ) (h : List ControllerAct) (g : ℕ) (o : Option (List SpdEntry)) → OpensFit p (with_list h g o)
 opens-list p h g None = tt
@@ -128,7 +129,9 @@ opens-asked p h (Accepted c) = opens-command p h c
 opens-asked p h (Refused w) = tt
 
 opens-going : (p : ℕ) (h : List ControllerAct) (a : ControllerAct) → OpenFits p a → OpensFit p (going h a)
-opens-going p h a o = (o, opens-more p (asked (a ∷ h) a) _ (opens-asked p (a ∷ h) a) (opens-pass p (after (a ∷ h) (asked (a ∷ h) a)) (directions (after (a ∷ h) (asked (a ∷ h) a)))))
+opens-going p h a o =
+    (o, opens-more p (asked (a ∷ h) a) _ (opens-asked p (a ∷ h) a)
+    (opens-pass p (after (a ∷ h) (asked (a ∷ h) a)) (directions (after (a ∷ h) (asked (a ∷ h) a)))))
 
 opens-refusal : (p : ℕ) (h : List ControllerAct) (c : PlacedCommand) (o : Option Refusal) → OpensFit p (by_refusal h c o)
 opens-refusal p h c None = opens-going p h (Accepted c) tt
@@ -138,25 +141,33 @@ opens-answer : (p : ℕ) (h : List ControllerAct) (g : ℕ) (a : Answer) (os : L
 opens-answer p h g a [] = tt
 opens-answer p h g a (o ∷ os) = opens-going p h (Answered g (openings g h) (answered g h + 1) a) tt
 
-opens-block : (ps : List Peer) (h : List ControllerAct) (e : ControllerEvent) → EventFits (length ps) e → OpensFit (length ps) (block ps h e)
+opens-block : (ps : List Peer) (h : List ControllerAct) (e : ControllerEvent) → EventFits (length ps) e
+    → OpensFit (length ps) (block ps h e)
 opens-block ps h (Told c) f = opens-refusal (length ps) h (placed_command ps c) (refusal (length ps) h (placed_command ps c))
-opens-block ps h (Opens g) f = opens-if (length ps) (is_open g h) [] (going h (Opened g (openings g h + 1))) tt (opens-going (length ps) h (Opened g (openings g h + 1)) f)
-opens-block ps h (Cuts g) f = opens-if (length ps) (is_open g h) (going h (Cut g (openings g h))) [] (opens-going (length ps) h (Cut g (openings g h)) tt) tt
+opens-block ps h (Opens g) f = opens-if (length ps) (is_open g h) [] (going h (Opened g (openings g h + 1))) tt
+    (opens-going (length ps) h (Opened g (openings g h + 1)) f)
+opens-block ps h (Cuts g) f = opens-if (length ps) (is_open g h) (going h (Cut g (openings g h))) []
+    (opens-going (length ps) h (Cut g (openings g h)) tt) tt
 opens-block ps h (Answers g a) f = opens-answer (length ps) h g a (queue g h)
-opens-block ps h (Notices g t) f = opens-if (length ps) (is_open g h) (going h (Heard g (openings g h) t)) [] (opens-going (length ps) h (Heard g (openings g h) t) tt) tt
+opens-block ps h (Notices g t) f = opens-if (length ps) (is_open g h) (going h (Heard g (openings g h) t)) []
+    (opens-going (length ps) h (Heard g (openings g h) t) tt) tt
 
 all-fit : (p : ℕ) (h xs : List ControllerAct) → AllFit p h → ControllerMayActAll p h xs → OpensFit p xs → AllFit p (after h xs)
 all-fit p h [] f m o = f
 all-fit p h (a ∷ xs) f m o = all-fit p (a ∷ h) xs (act-fits p h a f m.0 o.0, f) m.1 o.1
 
-pub fit-block : (ps : List Peer) (h : List ControllerAct) (e : ControllerEvent) → AllFit (length ps) h → EventFits (length ps) e → AllFit (length ps) (after h (block ps h e))
+pub fit-block : (ps : List Peer) (h : List ControllerAct) (e : ControllerEvent) → AllFit (length ps) h → EventFits (length ps) e
+    → AllFit (length ps) (after h (block ps h e))
 fit-block ps h e f t = all-fit (length ps) h (block ps h e) f (may-block ps h e) (opens-block ps h e t)
 
-fit-from : (ps : List Peer) (h : List ControllerAct) (es : List ControllerEvent) → AllFit (length ps) h → AllEventsFit (length ps) es → AllFit (length ps) (after h (history ps h es))
+fit-from : (ps : List Peer) (h : List ControllerAct) (es : List ControllerEvent) → AllFit (length ps) h → AllEventsFit (length ps) es
+    → AllFit (length ps) (after h (history ps h es))
 fit-from ps h [] f t = f
-fit-from ps h (e ∷ es) f t = subst (AllFit (length ps)) (sym (after-append h (block ps h e) (history ps (after h (block ps h e)) es))) (fit-from ps (after h (block ps h e)) es (fit-block ps h e f t.0) t.1)
+fit-from ps h (e ∷ es) f t = subst (AllFit (length ps)) (sym (after-append h (block ps h e) (history ps (after h (block ps h e)) es)))
+    (fit-from ps (after h (block ps h e)) es (fit-block ps h e f t.0) t.1)
 
-pub fit-history : (ps : List Peer) (es : List ControllerEvent) → AllEventsFit (length ps) es → AllFit (length ps) (after [] (history ps [] es))
+pub fit-history : (ps : List Peer) (es : List ControllerEvent) → AllEventsFit (length ps) es
+    → AllFit (length ps) (after [] (history ps [] es))
 fit-history ps es t = fit-from ps [] es tt t
 
 -- ## the table
@@ -184,7 +195,8 @@ length-did t (Refused w) = refl
 abbrev Stands : ℕ → Table → List ControllerAct → Type 0
 Stands p t h = (seen t ≡ state_of h) × (length t.gateways ≡ p) × AllFit p h
 
-stands-all : (p : ℕ) (t : Table) (h xs : List ControllerAct) → Stands p t h → ControllerMayActAll p h xs → OpensFit p xs → Stands p (did_all_table t xs) (after h xs)
+stands-all : (p : ℕ) (t : Table) (h xs : List ControllerAct) → Stands p t h → ControllerMayActAll p h xs → OpensFit p xs
+    → Stands p (did_all_table t xs) (after h xs)
 stands-all p t h [] s m o = s
 stands-all p t h (a ∷ xs) s m o =
     let f = act-fits p h a s.2 m.0 o.0 in
@@ -193,7 +205,9 @@ stands-all p t h (a ∷ xs) s m o =
     (e ∙ (ap (λ z. did z a) s.0 ∙ sym (keeps h a)), length-did t a ∙ s.1, (f, s.2))
     m.1 o.1
 
-pub table-step : (ps : List Peer) (t : Table) (h : List ControllerAct) (e : ControllerEvent) → IsControllerPast (length ps) h → AllFit (length ps) h → length t.gateways ≡ length ps → seen t ≡ state_of h → EventFits (length ps) e → Stands (length ps) (next_table ps t e) (after h (block ps h e))
+pub table-step : (ps : List Peer) (t : Table) (h : List ControllerAct) (e : ControllerEvent) → IsControllerPast (length ps) h
+    → AllFit (length ps) h → length t.gateways ≡ length ps → seen t ≡ state_of h → EventFits (length ps) e
+    → Stands (length ps) (next_table ps t e) (after h (block ps h e))
 table-step ps t h e l f n s v =
     subst (λ xs. Stands (length ps) (did_all_table t xs) (after h (block ps h e)))
     (sym (ap (λ z. acts_of ps z e) s ∙ acts_of-state_of ps h e))

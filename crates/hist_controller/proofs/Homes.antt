@@ -13,7 +13,8 @@ pub record Left (h : List ControllerAct) (x : Association) : Type 0 where
   pub put : WasOrdered (PutIn x) x.way.receiver h
   pub known : Has x.way (directions h)
 
-left-put : (h : List ControllerAct) (g s n : ℕ) (o : ControllerOrder) (x : Association) → MayOrder h g o → o ≡ PutIn x → Left (Ordered g s n o ∷ h) x
+left-put : (h : List ControllerAct) (g s n : ℕ) (o : ControllerOrder) (x : Association) → MayOrder h g o → o ≡ PutIn x
+    → Left (Ordered g s n o ∷ h) x
 left-put h g s n o x m e =
     let m' : MayOrderInPut h g x = subst (MayOrder h g) e m in
     record { put = inl (sym e, sym m'.at); known = m'.of }
@@ -22,17 +23,21 @@ pub lefts : (p : ℕ) (h : List ControllerAct) → IsControllerPast p h → (d :
 lefts p [] l d x i = absurd i
 lefts p (Opened g s ∷ h) l d x i = let k = lefts p h l.1 d x i in record { put = k.put; known = k.known }
 lefts p (Cut g s ∷ h) l d x i = let k = lefts p h l.1 d x i in record { put = k.put; known = k.known }
-lefts p (Answered g s n a ∷ h) l d x i = let k = lefts p h l.1 d x (has-filter (λ y. not (is_answer_to RemovingIn y.serial (oldest (queue g h)))) x (left d h) i) in record { put = k.put; known = k.known }
+lefts p (Answered g s n a ∷ h) l d x i = let k =
+    lefts p h l.1 d x (has-filter (λ y. not (is_answer_to RemovingIn y.serial (oldest (queue g h)))) x (left d h) i) in
+    record { put = k.put; known = k.known }
 lefts p (Heard g s t ∷ h) l d x i = let k = lefts p h l.1 d x i in record { put = k.put; known = k.known }
 lefts p (Ordered g s n o ∷ h) l d x i = elim (has-more x (left d h) (inbound_put d o) i) as (λ q. Left (Ordered g s n o ∷ h) x) [
   | inl j ↦ let k = lefts p h l.1 d x j in record { put = inr k.put; known = k.known }
   | inr j ↦ left-put h g s n o x l.0.3 (put-one d x o j).0
 ]
-lefts p (Accepted c ∷ h) l d x i = let k = lefts p h l.1 d x (has-if x _ (left d h) i).1 in record { put = k.put; known = has-left x.way (directions h) _ k.known }
+lefts p (Accepted c ∷ h) l d x i = let k = lefts p h l.1 d x (has-if x _ (left d h) i).1 in
+    record { put = k.put; known = has-left x.way (directions h) _ k.known }
 lefts p (Refused w ∷ h) l d x i = let k = lefts p h l.1 d x i in record { put = k.put; known = k.known }
 
 -- the direction in which it is left is its own
-pub own-way : (p : ℕ) (h : List ControllerAct) → IsControllerPast p h → (d : Way) (x : Association) → Has d (directions h) → Has x (left d h) → d ≡ x.way
+pub own-way : (p : ℕ) (h : List ControllerAct) → IsControllerPast p h → (d : Way) (x : Association) → Has d (directions h)
+    → Has x (left d h) → d ≡ x.way
 own-way p h l d x i j = let k = lefts p h l d x j in let e = of-way h d x j in one-way h d x.way i k.known (grind arith)
 
 pub record HomeIn (h : List ControllerAct) (g : ℕ) (x : Association) : Type 0 where
@@ -50,12 +55,15 @@ in-home p (Ordered f s n o ∷ h) l g x (inl e) =
     let m : MayOrderInPut h f x = subst (MayOrder h f) (sym e.0) l.0.3 in
     let q = m.serial in
     record { at = e.1 ∙ m.at; known = m.of; low = rw (sym e.0) (omega arith) }
-in-home p (Ordered f s n o ∷ h) l g x (inr i) = let k = in-home p h l.1 g x i in record { at = k.at; known = k.known; low = more-if (is_inbound_put o) x.serial (serials h) k.low }
-in-home p (Accepted c ∷ h) l g x i = let k = in-home p h l.1 g x i in record { at = k.at; known = has-left x.way (directions h) _ k.known; low = k.low }
+in-home p (Ordered f s n o ∷ h) l g x (inr i) = let k = in-home p h l.1 g x i in
+    record { at = k.at; known = k.known; low = more-if (is_inbound_put o) x.serial (serials h) k.low }
+in-home p (Accepted c ∷ h) l g x i = let k = in-home p h l.1 g x i in
+    record { at = k.at; known = has-left x.way (directions h) _ k.known; low = k.low }
 in-home p (Refused w ∷ h) l g x i = let k = in-home p h l.1 g x i in record { at = k.at; known = k.known; low = k.low }
 
 -- one serial is of one association
-pub one-put : (p : ℕ) (h : List ControllerAct) → IsControllerPast p h → (f g : ℕ) (x y : Association) → WasOrdered (PutIn x) f h → WasOrdered (PutIn y) g h → x.serial ≡ y.serial → x ≡ y
+pub one-put : (p : ℕ) (h : List ControllerAct) → IsControllerPast p h → (f g : ℕ) (x y : Association) → WasOrdered (PutIn x) f h
+    → WasOrdered (PutIn y) g h → x.serial ≡ y.serial → x ≡ y
 one-put p [] l f g x y i j e = absurd i
 one-put p (Opened k s ∷ h) l f g x y i j e = one-put p h l.1 f g x y i j e
 one-put p (Cut k s ∷ h) l f g x y i j e = one-put p h l.1 f g x y i j e
@@ -75,7 +83,8 @@ one-put p (Accepted c ∷ h) l f g x y i j e = one-put p h l.1 f g x y i j e
 one-put p (Refused w ∷ h) l f g x y i j e = one-put p h l.1 f g x y i j e
 
 -- an outbound half is put at the sender of its direction, after its inbound half at the receiver
-pub out-home : (p : ℕ) (h : List ControllerAct) → IsControllerPast p h → (g : ℕ) (x : Association) → WasOrdered (PutOut x) g h → (g ≡ x.way.sender) × WasOrdered (PutIn x) x.way.receiver h
+pub out-home : (p : ℕ) (h : List ControllerAct) → IsControllerPast p h → (g : ℕ) (x : Association) → WasOrdered (PutOut x) g h
+    → (g ≡ x.way.sender) × WasOrdered (PutIn x) x.way.receiver h
 out-home p [] l g x i = absurd i
 out-home p (Opened f s ∷ h) l g x i = out-home p h l.1 g x i
 out-home p (Cut f s ∷ h) l g x i = out-home p h l.1 g x i
@@ -90,14 +99,19 @@ out-home p (Accepted c ∷ h) l g x i = out-home p h l.1 g x i
 out-home p (Refused w ∷ h) l g x i = out-home p h l.1 g x i
 
 -- where the outbound put of a serial was ordered since the inbound one, some association was put so
-older : (n : ℕ) (h : List ControllerAct) (f s i : ℕ) (o : ControllerOrder) → (g : ℕ) × PutOf PutOut n g h → (g : ℕ) × PutOf PutOut n g (Ordered f s i o ∷ h)
+older : (n : ℕ) (h : List ControllerAct) (f s i : ℕ) (o : ControllerOrder) → (g : ℕ) × PutOf PutOut n g h → (g : ℕ)
+    × PutOf PutOut n g (Ordered f s i o ∷ h)
 older n h f s i o k = (k.0, (k.1.0, k.1.1, inr k.1.2))
 
-sent-now : (n : ℕ) (h : List ControllerAct) (f s i : ℕ) (y : Association) (b : Bool) → (n == y.serial) ≡ b → (is_out_ordered n h ≡ true → (g : ℕ) × PutOf PutOut n g h) → (b || is_out_ordered n h) ≡ true → (g : ℕ) × PutOf PutOut n g (Ordered f s i (PutOut y) ∷ h)
+sent-now : (n : ℕ) (h : List ControllerAct) (f s i : ℕ) (y : Association) (b : Bool) → (n == y.serial) ≡ b
+    → (is_out_ordered n h ≡ true → (g : ℕ) × PutOf PutOut n g h) → (b || is_out_ordered n h) ≡ true → (g : ℕ)
+    × PutOf PutOut n g (Ordered f s i (PutOut y) ∷ h)
 sent-now n h f s i y true t ih e = (f, (y, grind arith, inl (refl, refl)))
 sent-now n h f s i y false t ih e = older n h f s i (PutOut y) (ih e)
 
-sent-order : (n : ℕ) (h : List ControllerAct) (f s i : ℕ) (o : ControllerOrder) (b : Bool) → (is_out_ordered n h ≡ true → (g : ℕ) × PutOf PutOut n g h) → (not b && (is_kind PuttingOut n o || is_out_ordered n h)) ≡ true → (g : ℕ) × PutOf PutOut n g (Ordered f s i o ∷ h)
+sent-order : (n : ℕ) (h : List ControllerAct) (f s i : ℕ) (o : ControllerOrder) (b : Bool)
+    → (is_out_ordered n h ≡ true → (g : ℕ) × PutOf PutOut n g h) → (not b && (is_kind PuttingOut n o || is_out_ordered n h)) ≡ true
+    → (g : ℕ) × PutOf PutOut n g (Ordered f s i o ∷ h)
 sent-order n h f s i o true ih e = cc
 sent-order n h f s i (PutOut y) false ih e = sent-now n h f s i y (n == y.serial) refl ih e
 sent-order n h f s i Read false ih e = older n h f s i Read (ih e)
@@ -127,7 +141,8 @@ removed-in p h g n l m =
 
 removed-out : (p : ℕ) (h : List ControllerAct) (g n : ℕ) → IsControllerPast p h → MayOrderOutRemove h g n → PutOf PutOut n g h
 removed-out p h g n l m =
-    let s = second-of-4 (is_ended m.association h) (is_out_ordered m.association.serial h) (not (has_answer RemovingOut m.association.serial h)) (is_read m.way.sender h) m.may in
+    let s = second-of-4 (is_ended m.association h) (is_out_ordered m.association.serial h)
+        (not (has_answer RemovingOut m.association.serial h)) (is_read m.way.sender h) m.may in
     let k = sent-put m.association.serial h s in
     let o = out-home p h l k.0 k.1.0 k.1.2 in
     let i = (lefts p h l m.way m.association m.left).put in
@@ -136,7 +151,8 @@ removed-out p h g n l m =
     let e : k.0 ≡ g = o.0 ∙ (ap (λ (x : Association). x.way.sender) (sym q) ∙ (ap (λ (d : Way). d.sender) (sym w) ∙ sym m.at)) in
     (k.1.0, m.name ∙ k.1.1, subst (λ f. WasOrdered (PutOut k.1.0) f h) e k.1.2)
 
-later : (put : Association → ControllerOrder) (n g : ℕ) (h : List ControllerAct) (f s i : ℕ) (o : ControllerOrder) → PutOf put n g h → PutOf put n g (Ordered f s i o ∷ h)
+later : (put : Association → ControllerOrder) (n g : ℕ) (h : List ControllerAct) (f s i : ℕ) (o : ControllerOrder) → PutOf put n g h
+    → PutOf put n g (Ordered f s i o ∷ h)
 later put n g h f s i o k = (k.0, k.1, inr k.2)
 
 -- a removal of a half is ordered where it was put

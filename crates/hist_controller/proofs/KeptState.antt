@@ -22,7 +22,8 @@ pub any-via : {A B : Type 0} (g : A → B) (p : B → Bool) (xs : List A) → li
 any-via g p [] = refl
 any-via g p (x ∷ xs) = ap (λ t. p (g x) || t) (any-via g p xs)
 
-filter-one : {A B : Type 0} (g : A → B) (b : Bool) (x : A) (xs : List A) (ys : List B) → map g xs ≡ ys → map g (if b then x ∷ xs else xs) ≡ (if b then g x ∷ ys else ys)
+filter-one : {A B : Type 0} (g : A → B) (b : Bool) (x : A) (xs : List A) (ys : List B) → map g xs ≡ ys
+    → map g (if b then x ∷ xs else xs) ≡ (if b then g x ∷ ys else ys)
 filter-one g true x xs ys e = ap (λ t. g x ∷ t) e
 filter-one g false x xs ys e = e
 
@@ -39,19 +40,24 @@ eq-own n = grind arith
 
 -- ## gateways
 
-gate-opened : (b : Bool) (x : KeptGateway) → record { up = b || x.up; session = if b then x.session + 1 else x.session; orders = if b then 0 else x.orders; answers = if b then 0 else x.answers; queue = if b then [] else x.queue; read = not b && x.read; list = x.list } ≡ (if b then gateway_opened x else x)
+gate-opened : (b : Bool) (x : KeptGateway) → record { up = b || x.up; session = if b then x.session + 1 else x.session; orders =
+    if b then 0 else x.orders; answers = if b then 0 else x.answers; queue = if b then [] else x.queue; read = not b && x.read; list =
+    x.list } ≡ (if b then gateway_opened x else x)
 gate-opened true x = refl
 gate-opened false x = refl
 
-gate-cut : (b : Bool) (x : KeptGateway) → record x { up = not b && x.up; queue = if b then [] else x.queue } ≡ (if b then gateway_cut x else x)
+gate-cut : (b : Bool) (x : KeptGateway) → record x { up = not b && x.up; queue = if b then [] else x.queue } ≡
+    (if b then gateway_cut x else x)
 gate-cut true x = refl
 gate-cut false x = refl
 
-gate-answered : (b : Bool) (n : ℕ) (x : KeptGateway) → record x { answers = if b then x.answers + 1 else x.answers; queue = if b then rest x.queue else x.queue; read = (b && (n == 1)) || x.read } ≡ (if b then gateway_answered n x else x)
+gate-answered : (b : Bool) (n : ℕ) (x : KeptGateway) → record x { answers = if b then x.answers + 1 else x.answers; queue =
+    if b then rest x.queue else x.queue; read = (b && (n == 1)) || x.read } ≡ (if b then gateway_answered n x else x)
 gate-answered true n x = refl
 gate-answered false n x = refl
 
-gate-ordered : (b : Bool) (o : ControllerOrder) (x : KeptGateway) → record x { orders = if b then x.orders + 1 else x.orders; queue = if b then x.queue ++ o ∷ [] else x.queue } ≡ (if b then gateway_ordered o x else x)
+gate-ordered : (b : Bool) (o : ControllerOrder) (x : KeptGateway) → record x { orders = if b then x.orders + 1 else x.orders; queue =
+    if b then x.queue ++ o ∷ [] else x.queue } ≡ (if b then gateway_ordered o x else x)
 gate-ordered true o x = refl
 gate-ordered false o x = refl
 
@@ -83,7 +89,8 @@ rising (Cut g s ∷ h) = rising h
 rising (Answered g s n a ∷ h) = rising h
 rising (Heard g s t ∷ h) = rising h
 rising (Ordered g s n o ∷ h) = rising h
-rising (Accepted c ∷ h) = Rising-more 0 (length (directions h)) (directions h) (new_ways (length (directions h)) c) (grind arith) (rising h) (Rising-born (length (directions h)) c)
+rising (Accepted c ∷ h) = Rising-more 0 (length (directions h)) (directions h) (new_ways (length (directions h)) c) (grind arith) (rising h)
+    (Rising-born (length (directions h)) c)
 rising (Refused w ∷ h) = rising h
 
 pub made-no : (c : PlacedCommand) (n : ℕ) (d : Way) → d.id < n → is_made_by c n d ≡ false
@@ -99,10 +106,13 @@ way d o w n xs = record { way = d; over = o; wanted = w; newest = n; association
 same-way : (d : Way) (o w : Bool) (n : ℕ) (xs ys : List KeptAssociation) → xs ≡ ys → way d o w n xs ≡ way d o w n ys
 same-way d o w n xs ys e = ap (way d o w n) e
 
-pub way-told : (h : List ControllerAct) (c : PlacedCommand) (d : Way) → is_made_by c (length (directions h)) d ≡ false → way_of (Accepted c ∷ h) d ≡ way_told c (way_of h d)
-way-told h c d e = rw e (same-way d _ _ _ _ _ (map-via (association_of (Accepted c ∷ h)) (association_of h) (kept_told c) (λ x. refl) (left d h)))
+pub way-told : (h : List ControllerAct) (c : PlacedCommand) (d : Way) → is_made_by c (length (directions h)) d ≡ false
+    → way_of (Accepted c ∷ h) d ≡ way_told c (way_of h d)
+way-told h c d e = rw e (same-way d _ _ _ _ _ (map-via (association_of (Accepted c ∷ h)) (association_of h) (kept_told c) (λ x. refl)
+    (left d h)))
 
-told-ways : (h : List ControllerAct) (c : PlacedCommand) (m : ℕ) (ds : List Way) → Rising m ds → m + length ds ≤ length (directions h) → map (way_of (Accepted c ∷ h)) ds ≡ map (way_told c) (map (way_of h) ds)
+told-ways : (h : List ControllerAct) (c : PlacedCommand) (m : ℕ) (ds : List Way) → Rising m ds → m + length ds ≤ length (directions h)
+    → map (way_of (Accepted c ∷ h)) ds ≡ map (way_told c) (map (way_of h) ds)
 told-ways h c m [] r e = refl
 told-ways h c m (d ∷ ds) r e =
     let i : d.id ≡ m = r.0 in
@@ -110,7 +120,8 @@ told-ways h c m (d ∷ ds) r e =
     let ih = told-ways h c (m + 1) ds r.1 (grind arith) in
     rw (a, ih) refl
 
-fresh-ways : (h : List ControllerAct) (c : PlacedCommand) → map (way_of (Accepted c ∷ h)) (new_ways (length (directions h)) c) ≡ map (fresh_way c) (new_ways (length (directions h)) c)
+fresh-ways : (h : List ControllerAct) (c : PlacedCommand) → map (way_of (Accepted c ∷ h)) (new_ways (length (directions h)) c) ≡ map
+    (fresh_way c) (new_ways (length (directions h)) c)
 fresh-ways h (SetPolicy g l) = refl
 fresh-ways h (Tunnel t) =
     let n : ℕ = length (directions h) in
@@ -122,9 +133,11 @@ fresh-ways h (Rekey r) = refl
 fresh-ways h (Keys k) = refl
 
 pub way-cut : (h : List ControllerAct) (g s : ℕ) (d : Way) → way_of (Cut g s ∷ h) d ≡ way_cut (queue g h) (way_of h d)
-way-cut h g s d = same-way d _ _ _ _ _ (map-via (association_of (Cut g s ∷ h)) (association_of h) (kept_cut (queue g h)) (λ x. refl) (left d h))
+way-cut h g s d = same-way d _ _ _ _ _ (map-via (association_of (Cut g s ∷ h)) (association_of h) (kept_cut (queue g h)) (λ x. refl)
+    (left d h))
 
-same-misses : (h : List ControllerAct) (d : Way) (g : ℕ) (o : Option ControllerOrder) (a : Answer) → is_cause_reading h d g o a ≡ is_cause_reading_of (way_of h d) g o a
+same-misses : (h : List ControllerAct) (d : Way) (g : ℕ) (o : Option ControllerOrder) (a : Answer)
+    → is_cause_reading h d g o a ≡ is_cause_reading_of (way_of h d) g o a
 same-misses h d g None a = refl
 same-misses h d g (Some Read) a = sym (any-via (association_of h) (is_unseen_of d g a.names) (left d h))
 same-misses h d g (Some (Policy l)) a = refl
@@ -133,31 +146,41 @@ same-misses h d g (Some (PutOut x)) a = refl
 same-misses h d g (Some (RemoveIn n)) a = refl
 same-misses h d g (Some (RemoveOut n)) a = refl
 
-pub way-answered : (h : List ControllerAct) (g s n : ℕ) (a : Answer) (d : Way) → way_of (Answered g s n a ∷ h) d ≡ way_answered g (oldest (queue g h)) a (way_of h d)
+pub way-answered : (h : List ControllerAct) (g s n : ℕ) (a : Answer) (d : Way) → way_of (Answered g s n a ∷ h) d ≡ way_answered g
+    (oldest (queue g h)) a (way_of h d)
 way-answered h g s n a d =
     let o : Option ControllerOrder = oldest (queue g h) in
     rw (same-misses h d g (oldest (queue g h)) a)
     (same-way d _ _ _ _ _
-    (filter-via (association_of (Answered g s n a ∷ h)) (λ k. not (is_answer_to RemovingIn k.association.serial (oldest (queue g h)))) (left d h)
-    ∙ ap (filter (λ k. not (is_answer_to RemovingIn k.association.serial (oldest (queue g h))))) (map-via (association_of (Answered g s n a ∷ h)) (association_of h) (kept_answered g (oldest (queue g h)) a) (λ x. refl) (left d h))))
+    (filter-via (association_of (Answered g s n a ∷ h)) (λ k. not (is_answer_to RemovingIn k.association.serial (oldest (queue g h))))
+        (left d h)
+    ∙ ap (filter (λ k. not (is_answer_to RemovingIn k.association.serial (oldest (queue g h)))))
+        (map-via (association_of (Answered g s n a ∷ h)) (association_of h) (kept_answered g (oldest (queue g h)) a) (λ x. refl)
+        (left d h))))
 
 same-newest : (h : List ControllerAct) (d : Way) (g : ℕ) (name : List ℕ) → is_of_newest h d g name ≡ is_newest_of (way_of h d) g name
-same-newest h d g name = ap (λ b. is_half_at d g name (newest_serial d h) && b) (sym (any-via (association_of h) (λ k. (k.association.serial == newest_serial d h) && not k.ended) (left d h)))
+same-newest h d g name = ap (λ b. is_half_at d g name (newest_serial d h) && b)
+    (sym (any-via (association_of h) (λ k. (k.association.serial == newest_serial d h) && not k.ended) (left d h)))
 
-same-calls : (h : List ControllerAct) (d : Way) (g : ℕ) (t : Notice) → is_cause_notice h d g t ≡ is_cause_notice_of (newest_list g h) (way_of h d) g t
-same-calls h d g (notices.Acquire p f) = ap (λ b. (d.sender == g) && has_entry p d.tunnel.reqid (newest_list g h) && not b) (sym (any-via (association_of h) is_kept_in_progress (left d h)))
+same-calls : (h : List ControllerAct) (d : Way) (g : ℕ) (t : Notice) → is_cause_notice h d g t ≡ is_cause_notice_of (newest_list g h)
+    (way_of h d) g t
+same-calls h d g (notices.Acquire p f) = ap (λ b. (d.sender == g) && has_entry p d.tunnel.reqid (newest_list g h) && not b)
+    (sym (any-via (association_of h) is_kept_in_progress (left d h)))
 same-calls h d g (notices.Expire m b c) = same-newest h d g m
 same-calls h d g (notices.SeqOverflow m) = same-newest h d g m
 same-calls h d g (notices.BadSpi s) = refl
 
-pub way-heard : (h : List ControllerAct) (g s : ℕ) (t : Notice) (d : Way) → way_of (Heard g s t ∷ h) d ≡ way_heard (newest_list g h) g t (way_of h d)
+pub way-heard : (h : List ControllerAct) (g s : ℕ) (t : Notice) (d : Way) → way_of (Heard g s t ∷ h) d ≡ way_heard (newest_list g h) g t
+    (way_of h d)
 way-heard h g s t d = rw (same-calls h d g t) (same-way d _ _ _ _ _ refl)
 
-fresh-if : (h : List ControllerAct) (g s n : ℕ) (x : Association) (b : Bool) → map (association_of (Ordered g s n (PutIn x) ∷ h)) (if b then x ∷ [] else []) ≡ map fresh (if b then x ∷ [] else [])
+fresh-if : (h : List ControllerAct) (g s n : ℕ) (x : Association) (b : Bool) → map (association_of (Ordered g s n (PutIn x) ∷ h))
+    (if b then x ∷ [] else []) ≡ map fresh (if b then x ∷ [] else [])
 fresh-if h g s n x true = rw (eq-own x.serial) refl
 fresh-if h g s n x false = refl
 
-fresh-put : (h : List ControllerAct) (g s n : ℕ) (d : Way) (o : ControllerOrder) → map (association_of (Ordered g s n o ∷ h)) (inbound_put d o) ≡ map fresh (inbound_put d o)
+fresh-put : (h : List ControllerAct) (g s n : ℕ) (d : Way) (o : ControllerOrder)
+    → map (association_of (Ordered g s n o ∷ h)) (inbound_put d o) ≡ map fresh (inbound_put d o)
 fresh-put h g s n d Read = refl
 fresh-put h g s n d (Policy l) = refl
 fresh-put h g s n d (PutIn x) = fresh-if h g s n x (d.id == x.way.id)
@@ -165,33 +188,43 @@ fresh-put h g s n d (PutOut x) = refl
 fresh-put h g s n d (RemoveIn m) = refl
 fresh-put h g s n d (RemoveOut m) = refl
 
-pub way-ordered : (h : List ControllerAct) (g s n : ℕ) (o : ControllerOrder) (d : Way) → way_of (Ordered g s n o ∷ h) d ≡ way_ordered o (way_of h d)
+pub way-ordered : (h : List ControllerAct) (g s n : ℕ) (o : ControllerOrder) (d : Way)
+    → way_of (Ordered g s n o ∷ h) d ≡ way_ordered o (way_of h d)
 way-ordered h g s n o d =
     let m = map-more (association_of (Ordered g s n o ∷ h)) (left d h) (inbound_put d o) in
     let v = map-via (association_of (Ordered g s n o ∷ h)) (association_of h) (kept_ordered o) (λ x. refl) (left d h) in
     let f = fresh-put h g s n d o in
-    same-way d _ _ _ _ _ (m ∙ (ap (λ t. t ++ map (association_of (Ordered g s n o ∷ h)) (inbound_put d o)) v ∙ ap (λ t. map (kept_ordered o) (map (association_of h) (left d h)) ++ t) f))
+    same-way d _ _ _ _ _ (m ∙ (ap (λ t. t ++ map (association_of (Ordered g s n o ∷ h)) (inbound_put d o)) v
+        ∙ ap (λ t. map (kept_ordered o) (map (association_of h) (left d h)) ++ t) f))
 
 -- ## the whole
 
 abbrev pub state : (ℕ → KeptGateway) → List KeptWay → List (List ℕ) → List (List ℕ) → ℕ → ControllerState
 state f xs ks ss n = record { gateway = f; ways = xs; keys = ks; spare = ss; serials = n }
 
-pub same-state : (f g : ℕ → KeptGateway) (xs ys : List KeptWay) (ks ss : List (List ℕ)) (n : ℕ) → f ≡ g → xs ≡ ys → state f xs ks ss n ≡ state g ys ks ss n
+pub same-state : (f g : ℕ → KeptGateway) (xs ys : List KeptWay) (ks ss : List (List ℕ)) (n : ℕ) → f ≡ g → xs ≡ ys
+    → state f xs ks ss n ≡ state g ys ks ss n
 same-state f g xs ys ks ss n e d = ap (λ t. state t xs ks ss n) e ∙ ap (λ t. state g t ks ss n) d
 
-ways-told : (h : List ControllerAct) (c : PlacedCommand) → map (way_of (Accepted c ∷ h)) (directions h ++ new_ways (length (directions h)) c) ≡ map (way_told c) (map (way_of h) (directions h)) ++ map (fresh_way c) (new_ways (length (map (way_of h) (directions h))) c)
+ways-told : (h : List ControllerAct) (c : PlacedCommand)
+    → map (way_of (Accepted c ∷ h)) (directions h ++ new_ways (length (directions h)) c) ≡ map (way_told c) (map (way_of h) (directions h))
+    ++ map (fresh_way c) (new_ways (length (map (way_of h) (directions h))) c)
 ways-told h c =
     rw (length-map (way_of h) (directions h))
     (map-more (way_of (Accepted c ∷ h)) (directions h) (new_ways (length (directions h)) c)
-    ∙ (ap (λ t. t ++ map (way_of (Accepted c ∷ h)) (new_ways (length (directions h)) c)) (told-ways h c 0 (directions h) (rising h) (grind arith))
+    ∙ (ap (λ t. t ++ map (way_of (Accepted c ∷ h)) (new_ways (length (directions h)) c))
+        (told-ways h c 0 (directions h) (rising h) (grind arith))
     ∙ ap (λ t. map (way_told c) (map (way_of h) (directions h)) ++ t) (fresh-ways h c)))
 
 pub keeps : (h : List ControllerAct) (a : ControllerAct) → state_of (a ∷ h) ≡ did (state_of h) a
 keeps h (Opened f n) = same-state _ _ _ _ _ _ _ (same-at _ _ (λ g. gate-opened (g == f) (gateway_of h g))) refl
-keeps h (Cut f n) = same-state _ _ _ _ _ _ _ (same-at _ _ (λ g. gate-cut (g == f) (gateway_of h g))) (map-via (way_of (Cut f n ∷ h)) (way_of h) (way_cut (queue f h)) (way-cut h f n) (directions h))
-keeps h (Answered f n i a) = same-state _ _ _ _ _ _ _ (same-at _ _ (λ g. gate-answered (g == f) i (gateway_of h g))) (map-via (way_of (Answered f n i a ∷ h)) (way_of h) (way_answered f (oldest (queue f h)) a) (way-answered h f n i a) (directions h))
-keeps h (Heard f s t) = same-state _ _ _ _ _ _ _ refl (map-via (way_of (Heard f s t ∷ h)) (way_of h) (way_heard (newest_list f h) f t) (way-heard h f s t) (directions h))
-keeps h (Ordered f n i o) = same-state _ _ _ _ _ _ _ (same-at _ _ (λ g. gate-ordered (g == f) o (gateway_of h g))) (map-via (way_of (Ordered f n i o ∷ h)) (way_of h) (way_ordered o) (way-ordered h f n i o) (directions h))
+keeps h (Cut f n) = same-state _ _ _ _ _ _ _ (same-at _ _ (λ g. gate-cut (g == f) (gateway_of h g)))
+    (map-via (way_of (Cut f n ∷ h)) (way_of h) (way_cut (queue f h)) (way-cut h f n) (directions h))
+keeps h (Answered f n i a) = same-state _ _ _ _ _ _ _ (same-at _ _ (λ g. gate-answered (g == f) i (gateway_of h g)))
+    (map-via (way_of (Answered f n i a ∷ h)) (way_of h) (way_answered f (oldest (queue f h)) a) (way-answered h f n i a) (directions h))
+keeps h (Heard f s t) = same-state _ _ _ _ _ _ _ refl (map-via (way_of (Heard f s t ∷ h)) (way_of h) (way_heard (newest_list f h) f t)
+    (way-heard h f s t) (directions h))
+keeps h (Ordered f n i o) = same-state _ _ _ _ _ _ _ (same-at _ _ (λ g. gate-ordered (g == f) o (gateway_of h g)))
+    (map-via (way_of (Ordered f n i o ∷ h)) (way_of h) (way_ordered o) (way-ordered h f n i o) (directions h))
 keeps h (Accepted c) = same-state _ _ _ _ _ _ _ refl (ways-told h c)
 keeps h (Refused w) = refl

@@ -15,10 +15,12 @@ spare-keys p h l =
     let k = keyed p h l in
     sym (ap (λ n. drop n (keys h)) (sym k.many) ∙ (ap (drop (length k.gone)) k.split ∙ drop-append_seam k.gone (spare h)))
 
-pub left-key : (p : ℕ) (h : List ControllerAct) → IsControllerPast p h → (d : Way) (x : Association) → Has x (left d h) → place (x.serial - 1) (keys h) ≡ Some x.key
+pub left-key : (p : ℕ) (h : List ControllerAct) → IsControllerPast p h → (d : Way) (x : Association) → Has x (left d h)
+    → place (x.serial - 1) (keys h) ≡ Some x.key
 left-key p h l d x i = (keyed p h l).right d x i
 
-pub left-serial : (p : ℕ) (h : List ControllerAct) → IsControllerPast p h → (d : Way) (x : Association) → Has x (left d h) → (0 < x.serial) × (x.serial ≤ 1048576)
+pub left-serial : (p : ℕ) (h : List ControllerAct) → IsControllerPast p h → (d : Way) (x : Association) → Has x (left d h) → (0 < x.serial)
+    × (x.serial ≤ 1048576)
 left-serial p h l d x i =
     let a = left-serials p h l d x i in
     let a0 : 1 ≤ x.serial = a.0 in
@@ -27,7 +29,8 @@ left-serial p h l d x i =
     let c = few-keys p h l in
     (omega arith, omega arith)
 
-pub open-queue : (p : ℕ) (h : List ControllerAct) → IsControllerPast p h → (g : ℕ) → is_open g h ≡ true → orders g h ≡ answered g h + length (queue g h)
+pub open-queue : (p : ℕ) (h : List ControllerAct) → IsControllerPast p h → (g : ℕ) → is_open g h ≡ true
+    → orders g h ≡ answered g h + length (queue g h)
 open-queue p h l g o = (queued p g h l).count o
 
 -- ## the first answer of a session
@@ -36,7 +39,8 @@ opened-first : (b r : Bool) (n : ℕ) → (r ≡ true) ⊎ (n ≡ 0) → ((not b
 opened-first true r n k = inr refl
 opened-first false r n k = k
 
-answered-first : (g f n : ℕ) (h : List ControllerAct) → n ≡ answered f h + 1 → (b : Bool) → (g == f) ≡ b → (is_first_answered g h ≡ true) ⊎ (answered g h ≡ 0) → (((b && (n == 1)) || is_first_answered g h) ≡ true) ⊎ ((if b then answered g h + 1 else answered g h) ≡ 0)
+answered-first : (g f n : ℕ) (h : List ControllerAct) → n ≡ answered f h + 1 → (b : Bool) → (g == f) ≡ b → (is_first_answered g h ≡ true)
+    ⊎ (answered g h ≡ 0) → (((b && (n == 1)) || is_first_answered g h) ≡ true) ⊎ ((if b then answered g h + 1 else answered g h) ≡ 0)
 answered-first g f n h e true t (inl k) = inl (or-true (n == 1) (is_first_answered g h) k)
   where
     or-true : (a b : Bool) → b ≡ true → (a || b) ≡ true

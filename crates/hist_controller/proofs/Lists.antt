@@ -25,22 +25,28 @@ pub any-front : {A : Type 0} (p : A → Bool) (xs : List A) (x : A) → list_any
 any-front p [] x e = cc
 any-front p (y ∷ ys) x e = let ih = any-front p ys x in grind (arith, ih)
 
-pub any-if : {A : Type 0} (p : A → Bool) (b : Bool) (xs : List A) (x : A) → list_any p xs ≡ true → list_any p (if b then xs ++ x ∷ [] else xs) ≡ true
+pub any-if : {A : Type 0} (p : A → Bool) (b : Bool) (xs : List A) (x : A) → list_any p xs ≡ true
+    → list_any p (if b then xs ++ x ∷ [] else xs) ≡ true
 any-if p true xs x e = any-front p xs x e
 any-if p false xs x e = e
 
 -- what stands in a list with one more at its end
-pub place-old : {A : Type 0} (j : ℕ) (q : List A) (z o : A) → place j (q ++ z ∷ []) ≡ Some o → ((j < length q) × (place j q ≡ Some o)) ⊎ ((j ≡ length q) × (z ≡ o))
+pub place-old : {A : Type 0} (j : ℕ) (q : List A) (z o : A) → place j (q ++ z ∷ []) ≡ Some o → ((j < length q) × (place j q ≡ Some o))
+    ⊎ ((j ≡ length q) × (z ≡ o))
 place-old {A = A} j [] z o e = one (j == 0) refl e
   where
-    one : (b : Bool) → (j == 0) ≡ b → (if b then Some z else None) ≡ Some o → ((j < 0) × (◌≡◌ {A = Option A} None (Some o))) ⊎ ((j ≡ 0) × (z ≡ o))
+    one : (b : Bool) → (j == 0) ≡ b → (if b then Some z else None) ≡ Some o → ((j < 0) × (◌≡◌ {A = Option A} None (Some o)))
+        ⊎ ((j ≡ 0) × (z ≡ o))
     one true t e = inr (grind arith, let w : z ≡ o = cc in w)
     one false t e = cc
 place-old j (y ∷ q) z o e = step (j == 0) refl e (place-old (j - 1) q z o)
   where
-    step : (b : Bool) → (j == 0) ≡ b → (if b then Some y else place (j - 1) (q ++ z ∷ [])) ≡ Some o → (place (j - 1) (q ++ z ∷ []) ≡ Some o → ((j - 1 < length q) × (place (j - 1) q ≡ Some o)) ⊎ ((j - 1 ≡ length q) × (z ≡ o))) → ((j < length (y ∷ q)) × ((if j == 0 then Some y else place (j - 1) q) ≡ Some o)) ⊎ ((j ≡ length (y ∷ q)) × (z ≡ o))
+    step : (b : Bool) → (j == 0) ≡ b → (if b then Some y else place (j - 1) (q ++ z ∷ [])) ≡ Some o
+        → (place (j - 1) (q ++ z ∷ []) ≡ Some o → ((j - 1 < length q) × (place (j - 1) q ≡ Some o)) ⊎ ((j - 1 ≡ length q) × (z ≡ o)))
+        → ((j < length (y ∷ q)) × ((if j == 0 then Some y else place (j - 1) q) ≡ Some o)) ⊎ ((j ≡ length (y ∷ q)) × (z ≡ o))
     step true t e f = inl ((grind arith), rw t e)
-    step false t e f = elim (f e) as (λ w. ((j < length (y ∷ q)) × ((if j == 0 then Some y else place (j - 1) q) ≡ Some o)) ⊎ ((j ≡ length (y ∷ q)) × (z ≡ o))) [
+    step false t e f = elim (f e) as (λ w. ((j < length (y ∷ q)) × ((if j == 0 then Some y else place (j - 1) q) ≡ Some o))
+        ⊎ ((j ≡ length (y ∷ q)) × (z ≡ o))) [
       | inl p ↦ inl (let a : j - 1 < length q = p.0 in (grind arith), rw t p.1)
       | inr p ↦ inr (let a : j - 1 ≡ length q = p.0 in (grind arith), p.1)
     ]

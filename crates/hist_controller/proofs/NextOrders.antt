@@ -9,7 +9,8 @@ use Rattle.hist_controller.specs.Touch.{NextOrder, Nothing, RemovesOut, RemovesI
 
 -- ## the acts of the next order
 
-gives-key : (h : List ControllerAct) (d : Way) (ks : List (List ℕ)) → spare h ≡ ks → key_put h d ks ≡ acts_for h d (new_put (may_in_put h d))
+gives-key : (h : List ControllerAct) (d : Way) (ks : List (List ℕ)) → spare h ≡ ks
+    → key_put h d ks ≡ acts_for h d (new_put (may_in_put h d))
 gives-key h d [] e = none (may_in_put h d)
   where
     none : (b : Bool) → ◌≡◌ {A = List ControllerAct} [] (acts_for h d (new_put b))
@@ -36,7 +37,8 @@ gives-out-remove h d None = gives-in-remove h d (first (may_in_remove h d) (left
 pub gives-next : (h : List ControllerAct) (d : Way) → give h d ≡ acts_for h d (next_order h d)
 gives-next h d = at (is_busy d h)
   where
-    at : (b : Bool) → (if b then [] else out_remove h d (first (may_out_remove h d) (left d h))) ≡ acts_for h d (if b then Nothing else next_out_remove h d (first (may_out_remove h d) (left d h)))
+    at : (b : Bool) → (if b then [] else out_remove h d (first (may_out_remove h d) (left d h))) ≡ acts_for h d
+        (if b then Nothing else next_out_remove h d (first (may_out_remove h d) (left d h)))
     at true = refl
     at false = gives-out-remove h d (first (may_out_remove h d) (left d h))
 
@@ -83,24 +85,42 @@ is-chosen-put : (h : List ControllerAct) (d : Way) (u : Option Association) → 
 is-chosen-put h d (Some x) = refl
 is-chosen-put h d None = refl
 
-is-chosen-in : (h : List ControllerAct) (d : Way) (i : Option Association) → next_in_remove h d i ≡ chosen-in i (first (may_out_put h d) (left d h)) (may_in_put h d)
+is-chosen-in : (h : List ControllerAct) (d : Way) (i : Option Association)
+    → next_in_remove h d i ≡ chosen-in i (first (may_out_put h d) (left d h)) (may_in_put h d)
 is-chosen-in h d (Some x) = refl
 is-chosen-in h d None = is-chosen-put h d (first (may_out_put h d) (left d h))
 
-is-chosen-out : (h : List ControllerAct) (d : Way) (o : Option Association) → next_out_remove h d o ≡ chosen-out o (first (may_in_remove h d) (left d h)) (first (may_out_put h d) (left d h)) (may_in_put h d)
+is-chosen-out : (h : List ControllerAct) (d : Way) (o : Option Association)
+    → next_out_remove h d o ≡ chosen-out o (first (may_in_remove h d) (left d h)) (first (may_out_put h d) (left d h)) (may_in_put h d)
 is-chosen-out h d (Some x) = refl
 is-chosen-out h d None = is-chosen-in h d (first (may_in_remove h d) (left d h))
 
-is-chosen : (h : List ControllerAct) (d : Way) → next_order h d ≡ chosen (is_busy d h) (first (may_out_remove h d) (left d h)) (first (may_in_remove h d) (left d h)) (first (may_out_put h d) (left d h)) (may_in_put h d)
+is-chosen : (h : List ControllerAct) (d : Way) → next_order h d ≡ chosen (is_busy d h) (first (may_out_remove h d) (left d h))
+    (first (may_in_remove h d) (left d h)) (first (may_out_put h d) (left d h)) (may_in_put h d)
 is-chosen h d = ap (λ n. if is_busy d h then Nothing else n) (is-chosen-out h d (first (may_out_remove h d) (left d h)))
 
-same-chosen : (b b' : Bool) (o o' i i' u u' : Option Association) (m m' : Bool) → b ≡ b' → o ≡ o' → i ≡ i' → u ≡ u' → m ≡ m' → chosen b o i u m ≡ chosen b' o' i' u' m'
-same-chosen b b' o o' i i' u u' m m' p q r s t = ap (λ z. chosen z o i u m) p ∙ (ap (λ z. chosen b' z i u m) q ∙ (ap (λ z. chosen b' o' z u m) r ∙ (ap (λ z. chosen b' o' i' z m) s ∙ ap (λ z. chosen b' o' i' u' z) t)))
+same-chosen : (b b' : Bool) (o o' i i' u u' : Option Association) (m m' : Bool) → b ≡ b' → o ≡ o' → i ≡ i' → u ≡ u' → m ≡ m'
+    → chosen b o i u m ≡ chosen b' o' i' u' m'
+same-chosen b b' o o' i i' u u' m m' p q r s t = ap (λ z. chosen z o i u m) p
+    ∙ (ap (λ z. chosen b' z i u m) q
+    ∙ (ap (λ z. chosen b' o' z u m) r ∙ (ap (λ z. chosen b' o' i' z m) s ∙ ap (λ z. chosen b' o' i' u' z) t)))
 
 pub same-next : (h k : List ControllerAct) (d : Way) → SamePart h k d → next_order k d ≡ next_order h d
 same-next h k d s =
-    let a : first (may_out_remove k d) (left d k) ≡ first (may_out_remove h d) (left d h) = ap (first (may_out_remove k d)) s.left ∙ first-same (may_out_remove k d) (may_out_remove h d) (left d h) (λ x i. ap (λ z. out-remove-of z (is_read d.sender k)) (s.each x i) ∙ ap (out-remove-of (association_of h x)) s.sender) in
-    let b : first (may_in_remove k d) (left d k) ≡ first (may_in_remove h d) (left d h) = ap (first (may_in_remove k d)) s.left ∙ first-same (may_in_remove k d) (may_in_remove h d) (left d h) (λ x i. ap (λ z. in-remove-of z (is_read d.receiver k)) (s.each x i) ∙ ap (in-remove-of (association_of h x)) s.receiver) in
-    let c : first (may_out_put k d) (left d k) ≡ first (may_out_put h d) (left d h) = ap (first (may_out_put k d)) s.left ∙ first-same (may_out_put k d) (may_out_put h d) (left d h) (λ x i. ap (λ z. out-put-of z (is_read d.sender k) (is_read d.receiver k)) (s.each x i) ∙ (ap (λ r. out-put-of (association_of h x) r (is_read d.receiver k)) s.sender ∙ ap (out-put-of (association_of h x) (is_read d.sender h)) s.receiver)) in
-    let e : may_in_put k d ≡ may_in_put h d = ap (λ w. (w && not (is_over d k)) && is_read d.sender k && is_read d.receiver k) s.wanted ∙ (ap (λ o. (is_wanted d h && not o) && is_read d.sender k && is_read d.receiver k) s.over ∙ (ap (λ r. (is_wanted d h && not (is_over d h)) && r && is_read d.receiver k) s.sender ∙ ap (λ r. (is_wanted d h && not (is_over d h)) && is_read d.sender h && r) s.receiver)) in
-    is-chosen k d ∙ (same-chosen (is_busy d k) (is_busy d h) _ _ _ _ _ _ (may_in_put k d) (may_in_put h d) s.busy a b c e ∙ sym (is-chosen h d))
+    let a : first (may_out_remove k d) (left d k) ≡ first (may_out_remove h d) (left d h) = ap (first (may_out_remove k d)) s.left
+        ∙ first-same (may_out_remove k d) (may_out_remove h d) (left d h) (λ x i. ap (λ z. out-remove-of z (is_read d.sender k))
+        (s.each x i) ∙ ap (out-remove-of (association_of h x)) s.sender) in
+    let b : first (may_in_remove k d) (left d k) ≡ first (may_in_remove h d) (left d h) = ap (first (may_in_remove k d)) s.left
+        ∙ first-same (may_in_remove k d) (may_in_remove h d) (left d h) (λ x i. ap (λ z. in-remove-of z (is_read d.receiver k)) (s.each x i)
+        ∙ ap (in-remove-of (association_of h x)) s.receiver) in
+    let c : first (may_out_put k d) (left d k) ≡ first (may_out_put h d) (left d h) = ap (first (may_out_put k d)) s.left
+        ∙ first-same (may_out_put k d) (may_out_put h d) (left d h)
+        (λ x i. ap (λ z. out-put-of z (is_read d.sender k) (is_read d.receiver k)) (s.each x i)
+        ∙ (ap (λ r. out-put-of (association_of h x) r (is_read d.receiver k)) s.sender
+        ∙ ap (out-put-of (association_of h x) (is_read d.sender h)) s.receiver)) in
+    let e : may_in_put k d ≡ may_in_put h d = ap (λ w. (w && not (is_over d k)) && is_read d.sender k && is_read d.receiver k) s.wanted
+        ∙ (ap (λ o. (is_wanted d h && not o) && is_read d.sender k && is_read d.receiver k) s.over
+        ∙ (ap (λ r. (is_wanted d h && not (is_over d h)) && r && is_read d.receiver k) s.sender
+        ∙ ap (λ r. (is_wanted d h && not (is_over d h)) && is_read d.sender h && r) s.receiver)) in
+    is-chosen k d ∙ (same-chosen (is_busy d k) (is_busy d h) _ _ _ _ _ _ (may_in_put k d) (may_in_put h d) s.busy a b c e
+        ∙ sym (is-chosen h d))

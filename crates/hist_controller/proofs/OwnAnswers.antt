@@ -27,7 +27,8 @@ pub record Front (h : List ControllerAct) (g : ℕ) (x : Association) (k : Kind)
   pub same : waits.association ≡ x
 
 -- the order at the front, where it is one of an association left
-pub front : (p : ℕ) (h : List ControllerAct) → IsControllerPast p h → Orderly h → (g : ℕ) (d : Way) (x : Association) → Has x (left d h) → (k : Kind) → is_answer_to k x.serial (oldest (queue g h)) ≡ true → Front h g x k
+pub front : (p : ℕ) (h : List ControllerAct) → IsControllerPast p h → Orderly h → (g : ℕ) (d : Way) (x : Association) → Has x (left d h)
+    → (k : Kind) → is_answer_to k x.serial (oldest (queue g h)) ≡ true → Front h g x k
 front p h l c g d x i k t = at (oldest (queue g h)) refl t
   where
     at : (q : Option ControllerOrder) → oldest (queue g h) ≡ q → is_answer_to k x.serial q ≡ true → Front h g x k
@@ -35,10 +36,13 @@ front p h l c g d x i k t = at (oldest (queue g h)) refl t
     at (Some z) e t =
         let w = c.each g z (oldest-has (queue g h) z e) (kind-half k x.serial z t) in
         let s = kind-serial k x.serial z w.waits.association t w.waits.of in
-        record { order = z; oldest = e; kind = t; way = w.way; of = w.of; waits = w.waits; same = one p h l w.way d w.waits.association x w.waits.left i (sym s) }
+        record { order = z; oldest = e; kind = t; way = w.way; of = w.of; waits = w.waits; same =
+            one p h l w.way d w.waits.association x w.waits.left i (sym s) }
 
 -- it is no order of the association for which another one waits
-apart : (p : ℕ) (h : List ControllerAct) → IsControllerPast p h → Orderly h → (g f : ℕ) (d : Way) (o : ControllerOrder) → Has d (directions h) → (w : OwnWaits d h f o) → Has o (if f == g then rest (queue f h) else queue f h) → (k : Kind) → is_answer_to k w.association.serial (oldest (queue g h)) ≡ false
+apart : (p : ℕ) (h : List ControllerAct) → IsControllerPast p h → Orderly h → (g f : ℕ) (d : Way) (o : ControllerOrder)
+    → Has d (directions h) → (w : OwnWaits d h f o) → Has o (if f == g then rest (queue f h) else queue f h) → (k : Kind)
+    → is_answer_to k w.association.serial (oldest (queue g h)) ≡ false
 apart p h l c g f d o i w j k = is-not (is_answer_to k w.association.serial (oldest (queue g h))) (λ t.
     let z = front p h l c g d w.association w.left k t in
     let a = of-way h z.way z.waits.association z.waits.left in
@@ -47,17 +51,20 @@ apart p h l c g f d o i w j k = is-not (is_answer_to k w.association.serial (old
     let e : z.way ≡ d = one-way h z.way d z.of i (same-id z.way.id d.id w.association.way.id a' b) in
     let at : g ≡ place_of d z.order = z.waits.at ∙ ap (λ y. place_of y z.order) e in
     let own : is_own d (left d h) z.order ≡ true = subst (λ y. is_own y (left y h) z.order ≡ true) e (own-of h z.way g z.order z.waits) in
-    let m = front-and (is_own d (left d h)) h d.sender d.receiver g f z.order o (placings p h l d i).apart (at-one d z.order g at) (at-one d o f w.at) z.oldest own (own-of h d f o w) (f == g) refl j in
+    let m = front-and (is_own d (left d h)) h d.sender d.receiver g f z.order o (placings p h l d i).apart (at-one d z.order g at)
+        (at-one d o f w.at) z.oldest own (own-of h d f o w) (f == g) refl j in
     let n = c.few d i in
     absurd (omega arith))
 
-answered-state : (o : ControllerOrder) (x : Association) (i s d r e a pi po ro : Bool) → pi ≡ false → po ≡ false → ro ≡ false → is_awaited o (kept x i s d r e) ≡ true → is_awaited o (kept x (pi || i) s (po || d) (ro || r) (a || e)) ≡ true
+answered-state : (o : ControllerOrder) (x : Association) (i s d r e a pi po ro : Bool) → pi ≡ false → po ≡ false → ro ≡ false
+    → is_awaited o (kept x i s d r e) ≡ true → is_awaited o (kept x (pi || i) s (po || d) (ro || r) (a || e)) ≡ true
 answered-state o x i s d r e a true po ro u v w t = cc
 answered-state o x i s d r e a false true ro u v w t = cc
 answered-state o x i s d r e a false false true u v w t = cc
 answered-state o x i s d r e a false false false u v w t = later-state o x i s d r e a t
 
-answered-order : (x : Association) (i s d r e a pi po ro : Bool) → (po ≡ true → s ≡ true) → (ro ≡ true → (e ≡ true) × (s ≡ true)) → is_in_order (kept x i s d r e) ≡ true → is_in_order (kept x (pi || i) s (po || d) (ro || r) (a || e)) ≡ true
+answered-order : (x : Association) (i s d r e a pi po ro : Bool) → (po ≡ true → s ≡ true) → (ro ≡ true → (e ≡ true) × (s ≡ true))
+    → is_in_order (kept x i s d r e) ≡ true → is_in_order (kept x (pi || i) s (po || d) (ro || r) (a || e)) ≡ true
 answered-order x i s d r e a pi po ro f g t = later-order x (pi || i) s (po || d) (ro || r) e a (first pi po ro f g)
   where
     gone : (b : Bool) → (b ≡ true → (e ≡ true) × (s ≡ true)) → is_in_order (kept x i s d (b || r) e) ≡ true
@@ -75,11 +82,13 @@ answered-order x i s d r e a pi po ro f g t = later-order x (pi || i) s (po || d
         grind arith
     done false c f g = gone c g
 
-    first : (a b c : Bool) → (b ≡ true → s ≡ true) → (c ≡ true → (e ≡ true) × (s ≡ true)) → is_in_order (kept x (a || i) s (b || d) (c || r) e) ≡ true
+    first : (a b c : Bool) → (b ≡ true → s ≡ true) → (c ≡ true → (e ≡ true) × (s ≡ true))
+        → is_in_order (kept x (a || i) s (b || d) (c || r) e) ≡ true
     first true b c f g = let w = done b c f g in grind arith
     first false b c f g = done b c f g
 
-out-was-sent : (n : ℕ) (o : ControllerOrder) (k : KeptAssociation) → is_kind PuttingOut n o ≡ true → is_awaited o k ≡ true → k.out_sent ≡ true
+out-was-sent : (n : ℕ) (o : ControllerOrder) (k : KeptAssociation) → is_kind PuttingOut n o ≡ true → is_awaited o k ≡ true
+    → k.out_sent ≡ true
 out-was-sent n Read k e t = cc
 out-was-sent n (Policy l) k e t = cc
 out-was-sent n (PutIn x) k e t = cc
@@ -87,7 +96,8 @@ out-was-sent n (PutOut x) k e t = second-of-4 k.in_done k.out_sent (not k.out_do
 out-was-sent n (RemoveIn m) k e t = cc
 out-was-sent n (RemoveOut m) k e t = cc
 
-out-was-removed : (n : ℕ) (o : ControllerOrder) (k : KeptAssociation) → is_kind RemovingOut n o ≡ true → is_awaited o k ≡ true → (k.ended ≡ true) × (k.out_sent ≡ true)
+out-was-removed : (n : ℕ) (o : ControllerOrder) (k : KeptAssociation) → is_kind RemovingOut n o ≡ true → is_awaited o k ≡ true
+    → (k.ended ≡ true) × (k.out_sent ≡ true)
 out-was-removed n Read k e t = cc
 out-was-removed n (Policy l) k e t = cc
 out-was-removed n (PutIn x) k e t = cc
@@ -100,15 +110,19 @@ out-was-removed n (RemoveOut m) k e t = both k.ended k.out_sent (not k.out_gone)
     both true false c e = cc
     both false b c e = cc
 
-own-filter : (d : Way) (q : Association → Bool) (xs : List Association) (o : ControllerOrder) → is_own d (filter q xs) o ≡ true → is_own d xs o ≡ true
+own-filter : (d : Way) (q : Association → Bool) (xs : List Association) (o : ControllerOrder) → is_own d (filter q xs) o ≡ true
+    → is_own d xs o ≡ true
 own-filter d q xs Read e = e
 own-filter d q xs (Policy l) e = e
 own-filter d q xs (PutIn x) e = e
 own-filter d q xs (PutOut x) e = e
-own-filter d q xs (RemoveIn n) e = let f = found (λ (y : Association). y.serial == n) (filter q xs) e in any-has (λ (y : Association). y.serial == n) f.0 xs (has-filter q f.0 xs f.1) f.2
-own-filter d q xs (RemoveOut n) e = let f = found (λ (y : Association). y.serial == n) (filter q xs) e in any-has (λ (y : Association). y.serial == n) f.0 xs (has-filter q f.0 xs f.1) f.2
+own-filter d q xs (RemoveIn n) e = let f = found (λ (y : Association). y.serial == n) (filter q xs) e in
+    any-has (λ (y : Association). y.serial == n) f.0 xs (has-filter q f.0 xs f.1) f.2
+own-filter d q xs (RemoveOut n) e = let f = found (λ (y : Association). y.serial == n) (filter q xs) e in
+    any-has (λ (y : Association). y.serial == n) f.0 xs (has-filter q f.0 xs f.1) f.2
 
-answered-each : (p : ℕ) (h : List ControllerAct) (g s n : ℕ) (a : Answer) → IsControllerPast p h → Orderly h → (f : ℕ) (o : ControllerOrder) → Has o (if f == g then rest (queue f h) else queue f h) → is_half_order o ≡ true → Owner (Answered g s n a ∷ h) f o
+answered-each : (p : ℕ) (h : List ControllerAct) (g s n : ℕ) (a : Answer) → IsControllerPast p h → Orderly h → (f : ℕ) (o : ControllerOrder)
+    → Has o (if f == g then rest (queue f h) else queue f h) → is_half_order o ≡ true → Owner (Answered g s n a ∷ h) f o
 answered-each p h g s n a l c f o i t =
     let k = c.each f o (has-rest (f == g) (queue f h) o i) t in
     let x : Association = k.waits.association in
@@ -117,32 +131,49 @@ answered-each p h g s n a l c f o i t =
       way = k.way;
       of = k.of;
       waits = move h (Answered g s n a ∷ h) k.way f o k.waits
-          (filter-in (λ y. not (is_answer_to RemovingIn y.serial (oldest (queue g h)))) x (left k.way h) k.waits.left (rw (e RemovingIn) refl))
-          (answered-state o x (has_answer PuttingIn x.serial h) (is_out_ordered x.serial h) (has_answer PuttingOut x.serial h) (has_answer RemovingOut x.serial h) (is_ended x h) (is_spoiled x g (oldest (queue g h)) a (has_answer PuttingIn x.serial h) (is_out_ordered x.serial h)) (is_answer_to PuttingIn x.serial (oldest (queue g h))) (is_answer_to PuttingOut x.serial (oldest (queue g h))) (is_answer_to RemovingOut x.serial (oldest (queue g h))) (e PuttingIn) (e PuttingOut) (e RemovingOut) k.waits.state)
+          (filter-in (λ y. not (is_answer_to RemovingIn y.serial (oldest (queue g h)))) x (left k.way h) k.waits.left
+              (rw (e RemovingIn) refl))
+          (answered-state o x (has_answer PuttingIn x.serial h) (is_out_ordered x.serial h) (has_answer PuttingOut x.serial h)
+              (has_answer RemovingOut x.serial h) (is_ended x h) (is_spoiled x g (oldest (queue g h)) a (has_answer PuttingIn x.serial h)
+              (is_out_ordered x.serial h)) (is_answer_to PuttingIn x.serial (oldest (queue g h)))
+              (is_answer_to PuttingOut x.serial (oldest (queue g h))) (is_answer_to RemovingOut x.serial (oldest (queue g h))) (e PuttingIn)
+              (e PuttingOut) (e RemovingOut) k.waits.state)
           refl;
     }
 
-answered-sound : (p : ℕ) (h : List ControllerAct) (g s n : ℕ) (a : Answer) → IsControllerPast p h → Orderly h → (d : Way) (x : Association) → Has x (left d h) → is_in_order (association_of (Answered g s n a ∷ h) x) ≡ true
+answered-sound : (p : ℕ) (h : List ControllerAct) (g s n : ℕ) (a : Answer) → IsControllerPast p h → Orderly h → (d : Way) (x : Association)
+    → Has x (left d h) → is_in_order (association_of (Answered g s n a ∷ h) x) ≡ true
 answered-sound p h g s n a l c d x i =
-    answered-order x (has_answer PuttingIn x.serial h) (is_out_ordered x.serial h) (has_answer PuttingOut x.serial h) (has_answer RemovingOut x.serial h) (is_ended x h) (is_spoiled x g (oldest (queue g h)) a (has_answer PuttingIn x.serial h) (is_out_ordered x.serial h)) (is_answer_to PuttingIn x.serial (oldest (queue g h))) (is_answer_to PuttingOut x.serial (oldest (queue g h))) (is_answer_to RemovingOut x.serial (oldest (queue g h)))
-    (λ t. let z = front p h l c g d x i PuttingOut t in out-was-sent x.serial z.order (association_of h x) z.kind (state z.order z.waits.association z.same z.waits.state))
-    (λ t. let z = front p h l c g d x i RemovingOut t in out-was-removed x.serial z.order (association_of h x) z.kind (state z.order z.waits.association z.same z.waits.state))
+    answered-order x (has_answer PuttingIn x.serial h) (is_out_ordered x.serial h) (has_answer PuttingOut x.serial h)
+        (has_answer RemovingOut x.serial h) (is_ended x h) (is_spoiled x g (oldest (queue g h)) a (has_answer PuttingIn x.serial h)
+        (is_out_ordered x.serial h)) (is_answer_to PuttingIn x.serial (oldest (queue g h)))
+        (is_answer_to PuttingOut x.serial (oldest (queue g h))) (is_answer_to RemovingOut x.serial (oldest (queue g h)))
+    (λ t. let z = front p h l c g d x i PuttingOut t in
+        out-was-sent x.serial z.order (association_of h x) z.kind (state z.order z.waits.association z.same z.waits.state))
+    (λ t. let z = front p h l c g d x i RemovingOut t in
+        out-was-removed x.serial z.order (association_of h x) z.kind (state z.order z.waits.association z.same z.waits.state))
     (c.sound d x i)
   where
-    state : (o : ControllerOrder) (y : Association) → y ≡ x → is_awaited o (association_of h y) ≡ true → is_awaited o (association_of h x) ≡ true
+    state : (o : ControllerOrder) (y : Association) → y ≡ x → is_awaited o (association_of h y) ≡ true
+        → is_awaited o (association_of h x) ≡ true
     state o y e t = subst (λ z. is_awaited o (association_of h z) ≡ true) e t
 
 answered-few : (h : List ControllerAct) (g s n : ℕ) (a : Answer) (d : Way) → own-count d h ≤ 1 → own-count d (Answered g s n a ∷ h) ≤ 1
 answered-few h g s n a d e =
     let q : Association → Bool = λ x. not (is_answer_to RemovingIn x.serial (oldest (queue g h))) in
-    let b = rest-less (is_own d (left d (Answered g s n a ∷ h))) (is_own d (left d h)) (own-filter d (λ x. not (is_answer_to RemovingIn x.serial (oldest (queue g h)))) (left d h)) (d.sender == g) (queue d.sender h) in
-    let c = rest-less (is_own d (left d (Answered g s n a ∷ h))) (is_own d (left d h)) (own-filter d (λ x. not (is_answer_to RemovingIn x.serial (oldest (queue g h)))) (left d h)) (d.receiver == g) (queue d.receiver h) in
+    let b = rest-less (is_own d (left d (Answered g s n a ∷ h))) (is_own d (left d h))
+        (own-filter d (λ x. not (is_answer_to RemovingIn x.serial (oldest (queue g h)))) (left d h)) (d.sender == g) (queue d.sender h) in
+    let c = rest-less (is_own d (left d (Answered g s n a ∷ h))) (is_own d (left d h))
+        (own-filter d (λ x. not (is_answer_to RemovingIn x.serial (oldest (queue g h)))) (left d h)) (d.receiver == g) (queue d.receiver h)
+        in
     omega arith
 
-pub orderly-answered : (p : ℕ) (h : List ControllerAct) (g s n : ℕ) (a : Answer) → IsControllerPast p h → Orderly h → Orderly (Answered g s n a ∷ h)
+pub orderly-answered : (p : ℕ) (h : List ControllerAct) (g s n : ℕ) (a : Answer) → IsControllerPast p h → Orderly h
+    → Orderly (Answered g s n a ∷ h)
 orderly-answered p h g s n a l c =
     record {
       each = λ f o i t. answered-each p h g s n a l c f o i t;
       few = λ d i. answered-few h g s n a d (c.few d i);
-      sound = λ d x i. answered-sound p h g s n a l c d x (has-filter (λ y. not (is_answer_to RemovingIn y.serial (oldest (queue g h)))) x (left d h) i);
+      sound = λ d x i. answered-sound p h g s n a l c d x (has-filter (λ y. not (is_answer_to RemovingIn y.serial (oldest (queue g h)))) x
+          (left d h) i);
     }

@@ -9,11 +9,14 @@ use Rattle.hist_controller.proofs.KeptState.{rising, eq-own, made-no}
 use Rattle.hist_controller.proofs.Lists.{has-left}
 use Rattle.hist_controller.proofs.Serials.{has-more, upto}
 
-or-cause : (c w : Bool) (recent old : List ControllerAct) (d : Way) (a : ControllerAct) → is_cause d a (recent ++ old) ≡ c → (w ≡ true → CauseAmong d recent old) → (c || w) ≡ true → CauseAmong d (a ∷ recent) old
+or-cause : (c w : Bool) (recent old : List ControllerAct) (d : Way) (a : ControllerAct) → is_cause d a (recent ++ old) ≡ c
+    → (w ≡ true → CauseAmong d recent old) → (c || w) ≡ true → CauseAmong d (a ∷ recent) old
 or-cause true w recent old d a e f t = inl e
 or-cause false w recent old d a e f t = inr (f t)
 
-told-cause : (b s r w : Bool) (recent old : List ControllerAct) (d : Way) (c : PlacedCommand) → is_made_by c (length (directions (recent ++ old))) d ≡ b → is_start c ≡ s → is_renewal d c ≡ r → (w ≡ true → CauseAmong d recent old) → (if b then s else (r || w)) ≡ true → CauseAmong d (Accepted c ∷ recent) old
+told-cause : (b s r w : Bool) (recent old : List ControllerAct) (d : Way) (c : PlacedCommand)
+    → is_made_by c (length (directions (recent ++ old))) d ≡ b → is_start c ≡ s → is_renewal d c ≡ r → (w ≡ true → CauseAmong d recent old)
+    → (if b then s else (r || w)) ≡ true → CauseAmong d (Accepted c ∷ recent) old
 told-cause true s r w recent old d c e p q f t = inl (rw e (p ∙ t))
 told-cause false s true w recent old d c e p q f t = inl (rw e q)
 told-cause false s false w recent old d c e p q f t = inr (f t)
@@ -23,13 +26,15 @@ drop-not true b e = cc
 drop-not false b e = e
 
 -- what is wanted since an act with which the direction began anew, has a cause since then
-wanted-among : (d : Way) (recent old : List ControllerAct) → (is_wanted d old ≡ true → ⊥) → is_wanted d (recent ++ old) ≡ true → CauseAmong d recent old
+wanted-among : (d : Way) (recent old : List ControllerAct) → (is_wanted d old ≡ true → ⊥) → is_wanted d (recent ++ old) ≡ true
+    → CauseAmong d recent old
 wanted-among d [] old u e = absurd (u e)
 wanted-among d (Opened g s ∷ recent) old u e = inr (wanted-among d recent old u e)
 wanted-among d (Cut g s ∷ recent) old u e = or-cause _ _ recent old d (Cut g s) refl (wanted-among d recent old u) e
 wanted-among d (Answered g s n a ∷ recent) old u e = or-cause _ _ recent old d (Answered g s n a) refl (wanted-among d recent old u) e
 wanted-among d (Heard g s t ∷ recent) old u e = or-cause _ _ recent old d (Heard g s t) refl (wanted-among d recent old u) e
-wanted-among d (Ordered g s n o ∷ recent) old u e = inr (wanted-among d recent old u (drop-not (is_inbound_put_of d o) (is_wanted d (recent ++ old)) e))
+wanted-among d (Ordered g s n o ∷ recent) old u e =
+    inr (wanted-among d recent old u (drop-not (is_inbound_put_of d o) (is_wanted d (recent ++ old)) e))
 wanted-among d (Accepted c ∷ recent) old u e = told-cause _ _ _ _ recent old d c refl refl refl (wanted-among d recent old u) e
 wanted-among d (Refused w ∷ recent) old u e = inr (wanted-among d recent old u e)
 
@@ -38,24 +43,34 @@ owed-wanted true false a b e = (refl, refl)
 owed-wanted true true a b e = cc
 owed-wanted false o a b e = cc
 
-put-wanted : (h : List ControllerAct) (g : ℕ) (y : Association) → MayOrderInPut h g y → (is_wanted y.way h ≡ true) × (is_over y.way h ≡ false)
+put-wanted : (h : List ControllerAct) (g : ℕ) (y : Association) → MayOrderInPut h g y → (is_wanted y.way h ≡ true)
+    × (is_over y.way h ≡ false)
 put-wanted h g y m = owed-wanted (is_wanted y.way h) (is_over y.way h) (is_read y.way.sender h) (is_read y.way.receiver h) m.may
 
 put-not : (d : Way) (x : Association) (w : Bool) → d ≡ x.way → (not (d.id == x.way.id) && w) ≡ true → ⊥
-put-not d x w e t = let q : (d.id == x.way.id) ≡ true = ap (λ (z : Way). z.id == x.way.id) e ∙ eq-own x.way.id in let u : (not true && w) ≡ true = rw q at t in cc
+put-not d x w e t = let q : (d.id == x.way.id) ≡ true = ap (λ (z : Way). z.id == x.way.id) e ∙ eq-own x.way.id in
+    let u : (not true && w) ≡ true = rw q at t in cc
 
 -- between two inbound puts of a direction a cause of it stands
-pub between-puts : (p : ℕ) (f r m g s n : ℕ) (x y : Association) (recent old : List ControllerAct) → IsControllerPast p (Ordered g s n (PutIn y) ∷ recent ++ Ordered f r m (PutIn x) ∷ old) → y.way ≡ x.way → CauseAmong y.way recent (Ordered f r m (PutIn x) ∷ old)
+pub between-puts : (p : ℕ) (f r m g s n : ℕ) (x y : Association) (recent old : List ControllerAct)
+    → IsControllerPast p (Ordered g s n (PutIn y) ∷ recent ++ Ordered f r m (PutIn x) ∷ old) → y.way ≡ x.way
+    → CauseAmong y.way recent (Ordered f r m (PutIn x) ∷ old)
 between-puts p f r m g s n x y recent old l e =
-    wanted-among y.way recent (Ordered f r m (PutIn x) ∷ old) (put-not y.way x (is_wanted y.way old) e) (put-wanted (recent ++ Ordered f r m (PutIn x) ∷ old) g y l.0.3).0
+    wanted-among y.way recent (Ordered f r m (PutIn x) ∷ old) (put-not y.way x (is_wanted y.way old) e)
+        (put-wanted (recent ++ Ordered f r m (PutIn x) ∷ old) g y l.0.3).0
 
 -- between the command of a direction and its first inbound put too, or the command itself is one
-pub before-first-put : (p : ℕ) (g s n : ℕ) (y : Association) (c : PlacedCommand) (recent old : List ControllerAct) → IsControllerPast p (Ordered g s n (PutIn y) ∷ recent ++ Accepted c ∷ old) → is_made_by c (length (directions old)) y.way ≡ true → (is_start c ≡ true) ⊎ CauseAmong y.way recent (Accepted c ∷ old)
+pub before-first-put : (p : ℕ) (g s n : ℕ) (y : Association) (c : PlacedCommand) (recent old : List ControllerAct)
+    → IsControllerPast p (Ordered g s n (PutIn y) ∷ recent ++ Accepted c ∷ old) → is_made_by c (length (directions old)) y.way ≡ true
+    → (is_start c ≡ true) ⊎ CauseAmong y.way recent (Accepted c ∷ old)
 before-first-put p g s n y c recent old l e = by-start (is_start c) refl
   where
     by-start : (b : Bool) → is_start c ≡ b → (is_start c ≡ true) ⊎ CauseAmong y.way recent (Accepted c ∷ old)
     by-start true q = inl q
-    by-start false q = inr (wanted-among y.way recent (Accepted c ∷ old) (λ t. let u : (if true then is_start c else (is_renewal y.way c || is_wanted y.way old)) ≡ true = rw e at t in let v : true ≡ false = sym u ∙ q in cc) (put-wanted (recent ++ Accepted c ∷ old) g y l.0.3).0)
+    by-start false q = inr
+        (wanted-among y.way recent (Accepted c ∷ old)
+        (λ t. let u : (if true then is_start c else (is_renewal y.way c || is_wanted y.way old)) ≡ true = rw e at t in
+        let v : true ≡ false = sym u ∙ q in cc) (put-wanted (recent ++ Accepted c ∷ old) g y l.0.3).0)
 
 -- ## owed, exactly where a cause stands
 
@@ -72,16 +87,20 @@ one-more d a h e k = record {
 this-one : (d : Way) (a : ControllerAct) (h : List ControllerAct) → is_cause d a h ≡ true → CauseStands d (a ∷ h)
 this-one d a h e = record { recent = []; cause = a; old = h; all = refl; is = e; since = tt }
 
-or-stands : (c w : Bool) (d : Way) (a : ControllerAct) (h : List ControllerAct) → is_cause d a h ≡ c → is_anew d a h ≡ false → (w ≡ true → CauseStands d h) → (c || w) ≡ true → CauseStands d (a ∷ h)
+or-stands : (c w : Bool) (d : Way) (a : ControllerAct) (h : List ControllerAct) → is_cause d a h ≡ c → is_anew d a h ≡ false
+    → (w ≡ true → CauseStands d h) → (c || w) ≡ true → CauseStands d (a ∷ h)
 or-stands true w d a h e n f t = this-one d a h e
 or-stands false w d a h e n f t = one-more d a h n (f t)
 
-told-stands : (b s r w : Bool) (d : Way) (c : PlacedCommand) (h : List ControllerAct) → is_made_by c (length (directions h)) d ≡ b → is_start c ≡ s → is_renewal d c ≡ r → (w ≡ true → CauseStands d h) → (if b then s else (r || w)) ≡ true → CauseStands d (Accepted c ∷ h)
+told-stands : (b s r w : Bool) (d : Way) (c : PlacedCommand) (h : List ControllerAct) → is_made_by c (length (directions h)) d ≡ b
+    → is_start c ≡ s → is_renewal d c ≡ r → (w ≡ true → CauseStands d h) → (if b then s else (r || w)) ≡ true
+    → CauseStands d (Accepted c ∷ h)
 told-stands true s r w d c h e p q f t = this-one d (Accepted c) h (rw e (p ∙ t))
 told-stands false s true w d c h e p q f t = this-one d (Accepted c) h (rw e q)
 told-stands false s false w d c h e p q f t = one-more d (Accepted c) h e (f t)
 
-ordered-stands : (b w : Bool) (d : Way) (g s n : ℕ) (o : ControllerOrder) (h : List ControllerAct) → is_inbound_put_of d o ≡ b → (w ≡ true → CauseStands d h) → (not b && w) ≡ true → CauseStands d (Ordered g s n o ∷ h)
+ordered-stands : (b w : Bool) (d : Way) (g s n : ℕ) (o : ControllerOrder) (h : List ControllerAct) → is_inbound_put_of d o ≡ b
+    → (w ≡ true → CauseStands d h) → (not b && w) ≡ true → CauseStands d (Ordered g s n o ∷ h)
 ordered-stands true w d g s n o h e f t = cc
 ordered-stands false w d g s n o h e f t = one-more d (Ordered g s n o) h e (f t)
 
@@ -96,7 +115,8 @@ wanted-stands d (Accepted c ∷ h) e = told-stands _ _ _ _ d c h refl refl refl 
 wanted-stands d (Refused w ∷ h) e = one-more d (Refused w) h refl (wanted-stands d h e)
 
 -- with acts that don't begin it anew what is wanted stays wanted
-stays-wanted : (d : Way) (recent old : List ControllerAct) → NoneAnew d recent old → is_wanted d old ≡ true → is_wanted d (recent ++ old) ≡ true
+stays-wanted : (d : Way) (recent old : List ControllerAct) → NoneAnew d recent old → is_wanted d old ≡ true
+    → is_wanted d (recent ++ old) ≡ true
 stays-wanted d [] old n e = e
 stays-wanted d (Opened g s ∷ recent) old n e = stays-wanted d recent old n.1 e
 stays-wanted d (Cut g s ∷ recent) old n e = or_right _ _ (stays-wanted d recent old n.1 e)
@@ -128,7 +148,8 @@ stands-wanted d h k = ap (is_wanted d) k.all ∙ stays-wanted d k.recent (k.caus
 later-ended : (d : Way) (a : ControllerAct) (h : List ControllerAct) → WasEnded d h → WasEnded d (a ∷ h)
 later-ended d a h k = record { recent = a ∷ k.recent; old = k.old; all = ap (λ z. a ∷ z) k.all; made = k.made }
 
-end-is : (d : Way) (c : PlacedCommand) (h : List ControllerAct) → is_end_of d.tunnel.reqid c ≡ true → Has d (directions h) → WasEnded d (Accepted c ∷ h)
+end-is : (d : Way) (c : PlacedCommand) (h : List ControllerAct) → is_end_of d.tunnel.reqid c ≡ true → Has d (directions h)
+    → WasEnded d (Accepted c ∷ h)
 end-is d (SetPolicy g l) h e i = cc
 end-is d (Tunnel t) h e i = cc
 end-is d (End r) h e i = let q : d.tunnel.reqid ≡ r = grind arith in record { recent = []; old = h; all = rw q refl; made = i }
@@ -151,7 +172,9 @@ above (End r) n d i = absurd i
 above (Rekey r) n d i = absurd i
 above (Keys k) n d i = absurd i
 
-told-ended : (d : Way) (c : PlacedCommand) (h : List ControllerAct) (b e o : Bool) → is_made_by c (length (directions h)) d ≡ b → is_end_of d.tunnel.reqid c ≡ e → (Has d (directions h) → o ≡ true → WasEnded d h) → Has d (directions h) ⊎ Has d (new_ways (length (directions h)) c) → (not b && (e || o)) ≡ true → WasEnded d (Accepted c ∷ h)
+told-ended : (d : Way) (c : PlacedCommand) (h : List ControllerAct) (b e o : Bool) → is_made_by c (length (directions h)) d ≡ b
+    → is_end_of d.tunnel.reqid c ≡ e → (Has d (directions h) → o ≡ true → WasEnded d h) → Has d (directions h)
+    ⊎ Has d (new_ways (length (directions h)) c) → (not b && (e || o)) ≡ true → WasEnded d (Accepted c ∷ h)
 told-ended d c h true e o q r f i t = cc
 told-ended d c h false true o q r f (inl i) t = end-is d c h r i
 told-ended d c h false false o q r f (inl i) t = later-ended d (Accepted c) h (f i t)
@@ -164,7 +187,8 @@ over-ended d (Cut g s ∷ h) i e = later-ended d (Cut g s) h (over-ended d h i e
 over-ended d (Answered g s n a ∷ h) i e = later-ended d (Answered g s n a) h (over-ended d h i e)
 over-ended d (Heard g s t ∷ h) i e = later-ended d (Heard g s t) h (over-ended d h i e)
 over-ended d (Ordered g s n o ∷ h) i e = later-ended d (Ordered g s n o) h (over-ended d h i e)
-over-ended d (Accepted c ∷ h) i e = told-ended d c h _ _ _ refl refl (over-ended d h) (has-more d (directions h) (new_ways (length (directions h)) c) i) e
+over-ended d (Accepted c ∷ h) i e =
+    told-ended d c h _ _ _ refl refl (over-ended d h) (has-more d (directions h) (new_ways (length (directions h)) c) i) e
 over-ended d (Refused w ∷ h) i e = later-ended d (Refused w) h (over-ended d h i e)
 
 still-made : (d : Way) (a : ControllerAct) (h : List ControllerAct) → Has d (directions h) → Has d (directions (a ∷ h))
@@ -176,10 +200,12 @@ still-made d (Ordered g s n o) h i = i
 still-made d (Accepted c) h i = has-left d (directions h) (new_ways (length (directions h)) c) i
 still-made d (Refused w) h i = i
 
-known-not-made : (c : PlacedCommand) (h : List ControllerAct) (d : Way) → Has d (directions h) → is_made_by c (length (directions h)) d ≡ false
+known-not-made : (c : PlacedCommand) (h : List ControllerAct) (d : Way) → Has d (directions h)
+    → is_made_by c (length (directions h)) d ≡ false
 known-not-made c h d i = let u = upto 0 (directions h) d (rising h) i in made-no c (length (directions h)) d (omega arith)
 
-stays-over : (d : Way) (recent old : List ControllerAct) → Has d (directions old) → is_over d old ≡ true → Has d (directions (recent ++ old)) × (is_over d (recent ++ old) ≡ true)
+stays-over : (d : Way) (recent old : List ControllerAct) → Has d (directions old) → is_over d old ≡ true
+    → Has d (directions (recent ++ old)) × (is_over d (recent ++ old) ≡ true)
 stays-over d [] old i e = (i, e)
 stays-over d (Opened g s ∷ recent) old i e = stays-over d recent old i e
 stays-over d (Cut g s ∷ recent) old i e = stays-over d recent old i e
@@ -197,4 +223,5 @@ pub ended-over : (d : Way) (h : List ControllerAct) → WasEnded d h → is_over
 ended-over d h k =
     let r = eq-own d.tunnel.reqid in
     let o : is_over d (Accepted (End d.tunnel.reqid) ∷ k.old) ≡ true = rw r refl in
-    ap (is_over d) k.all ∙ (stays-over d k.recent (Accepted (End d.tunnel.reqid) ∷ k.old) (still-made d (Accepted (End d.tunnel.reqid)) k.old k.made) o).1
+    ap (is_over d) k.all ∙ (stays-over d k.recent (Accepted (End d.tunnel.reqid) ∷ k.old)
+        (still-made d (Accepted (End d.tunnel.reqid)) k.old k.made) o).1

@@ -19,11 +19,13 @@ pub found : {A : Type 0} (p : A → Bool) (xs : List A) → list_any p xs ≡ tr
 found p [] e = cc
 found {A = A} p (y ∷ ys) e = at (p y) refl e (found p ys)
   where
-    at : (b : Bool) → p y ≡ b → (b || list_any p ys) ≡ true → (list_any p ys ≡ true → (x : A) × Has x ys × (p x ≡ true)) → (x : A) × Has x (y ∷ ys) × (p x ≡ true)
+    at : (b : Bool) → p y ≡ b → (b || list_any p ys) ≡ true → (list_any p ys ≡ true → (x : A) × Has x ys × (p x ≡ true)) → (x : A)
+        × Has x (y ∷ ys) × (p x ≡ true)
     at true t e f = (y, inl refl, t)
     at false t e f = let r = f e in (r.0, inr r.1, r.2)
 
-pub own-of-removal : (h : List ControllerAct) (d : Way) (n : ℕ) (x : Association) → Has x (left d h) → n ≡ x.serial → list_any (λ (y : Association). y.serial == n) (left d h) ≡ true
+pub own-of-removal : (h : List ControllerAct) (d : Way) (n : ℕ) (x : Association) → Has x (left d h) → n ≡ x.serial
+    → list_any (λ (y : Association). y.serial == n) (left d h) ≡ true
 own-of-removal h d n x i e = any-has (λ (y : Association). y.serial == n) x (left d h) i (grind arith)
 
 pub own-of : (h : List ControllerAct) (d : Way) (g : ℕ) (o : ControllerOrder) → OwnWaits d h g o → is_own d (left d h) o ≡ true
@@ -42,13 +44,15 @@ own-half d xs (PutOut x) e = refl
 own-half d xs (RemoveIn n) e = refl
 own-half d xs (RemoveOut n) e = refl
 
-pub same-put-way : (h : List ControllerAct) (d e : Way) (x y : Association) → Has d (directions h) → Has e (directions h) → (d.id == y.way.id) ≡ true → y ≡ x → Has x (left e h) → d ≡ e
+pub same-put-way : (h : List ControllerAct) (d e : Way) (x y : Association) → Has d (directions h) → Has e (directions h)
+    → (d.id == y.way.id) ≡ true → y ≡ x → Has x (left e h) → d ≡ e
 same-put-way h d e x y i j t q k =
     let t' : (d.id == x.way.id) ≡ true = ap (λ (z : Association). d.id == z.way.id) (sym q) ∙ t in
     let u = of-way h e x k in
     one-way h d e i j (grind arith)
 
-same-removal-way : (p : ℕ) (h : List ControllerAct) → IsControllerPast p h → (d e : Way) (n : ℕ) (x : Association) → Has d (directions h) → Has e (directions h) → list_any (λ (y : Association). y.serial == n) (left d h) ≡ true → n ≡ x.serial → Has x (left e h) → d ≡ e
+same-removal-way : (p : ℕ) (h : List ControllerAct) → IsControllerPast p h → (d e : Way) (n : ℕ) (x : Association) → Has d (directions h)
+    → Has e (directions h) → list_any (λ (y : Association). y.serial == n) (left d h) ≡ true → n ≡ x.serial → Has x (left e h) → d ≡ e
 same-removal-way p h l d e n x i j t q k =
     let f = found (λ (y : Association). y.serial == n) (left d h) t in
     let y : Association = f.0 in
@@ -61,7 +65,8 @@ same-removal-way p h l d e n x i j t q k =
     let b = of-way h e x k in
     one-way h d e i j (grind arith)
 
-pub same-owner : (p : ℕ) (h : List ControllerAct) → IsControllerPast p h → (d e : Way) (g : ℕ) (o : ControllerOrder) → Has d (directions h) → Has e (directions h) → is_own d (left d h) o ≡ true → OwnWaits e h g o → d ≡ e
+pub same-owner : (p : ℕ) (h : List ControllerAct) → IsControllerPast p h → (d e : Way) (g : ℕ) (o : ControllerOrder) → Has d (directions h)
+    → Has e (directions h) → is_own d (left d h) o ≡ true → OwnWaits e h g o → d ≡ e
 same-owner p h l d e g Read i j t w = absurd w.of
 same-owner p h l d e g (Policy q) i j t w = absurd w.of
 same-owner p h l d e g (PutIn y) i j t w = same-put-way h d e w.association y i j t w.of w.left
@@ -85,7 +90,8 @@ pub record Orderly (h : List ControllerAct) : Type 0 where
   pub few : (d : Way) → Has d (directions h) → own-count d h ≤ 1
   pub sound : (d : Way) (x : Association) → Has x (left d h) → is_in_order (association_of h x) ≡ true
 
-pub move : (h k : List ControllerAct) (d : Way) (g : ℕ) (o : ControllerOrder) (w : OwnWaits d h g o) → Has w.association (left d k) → is_awaited o (association_of k w.association) ≡ true → newest_serial d k ≡ newest_serial d h → OwnWaits d k g o
+pub move : (h k : List ControllerAct) (d : Way) (g : ℕ) (o : ControllerOrder) (w : OwnWaits d h g o) → Has w.association (left d k)
+    → is_awaited o (association_of k w.association) ≡ true → newest_serial d k ≡ newest_serial d h → OwnWaits d k g o
 move h k d g o w i t e = record { association = w.association; left = i; of = w.of; at = w.at; state = t; newest = λ b. w.newest b ∙ sym e }
 
 pub kind-half : (k : Kind) (n : ℕ) (o : ControllerOrder) → is_kind k n o ≡ true → is_half_order o ≡ true
@@ -130,7 +136,8 @@ equal m n e = grind arith
 
 -- ## ended at last
 
-pub later-state : (o : ControllerOrder) (x : Association) (i s d r e a : Bool) → is_awaited o (kept x i s d r e) ≡ true → is_awaited o (kept x i s d r (a || e)) ≡ true
+pub later-state : (o : ControllerOrder) (x : Association) (i s d r e a : Bool) → is_awaited o (kept x i s d r e) ≡ true
+    → is_awaited o (kept x i s d r (a || e)) ≡ true
 later-state Read x i s d r e a t = cc
 later-state (Policy l) x i s d r e a t = cc
 later-state (PutIn y) x i s d r e a t = t
@@ -148,7 +155,8 @@ later-state (RemoveOut n) x i s d r e true t = no-longer e s (not r) t
     no-longer false b c e = cc
 later-state (RemoveOut n) x i s d r e false t = t
 
-pub later-order : (x : Association) (i s d r e a : Bool) → is_in_order (kept x i s d r e) ≡ true → is_in_order (kept x i s d r (a || e)) ≡ true
+pub later-order : (x : Association) (i s d r e a : Bool) → is_in_order (kept x i s d r e) ≡ true
+    → is_in_order (kept x i s d r (a || e)) ≡ true
 later-order x i s d true e true t = ended-order (not s || i) (not d || s) e s t
   where
     ended-order : (p q e s : Bool) → (p && q && (e && s)) ≡ true → (p && q && (true && s)) ≡ true

@@ -19,7 +19,8 @@ place-last (y ∷ xs) x i e = let n : (i == 0) ≡ false = grind arith in rw n (
 last-new : {A : Type 0} (xs : List A) (x : A) → IsLast (xs ++ x ∷ []) x
 last-new xs x = let e = length-more xs x in (omega arith, place-last xs x (length (xs ++ x ∷ []) - 1) (omega arith))
 
-accepted : (g f : ℕ) (l w : List SpdEntry) (xs : List (List SpdEntry)) (o : Option (List SpdEntry)) (b : Bool) → (o ≡ Some w → IsLast xs w) → (if b then Some l else o) ≡ Some w → IsLast (xs ++ (if b then l ∷ [] else [])) w
+accepted : (g f : ℕ) (l w : List SpdEntry) (xs : List (List SpdEntry)) (o : Option (List SpdEntry)) (b : Bool) → (o ≡ Some w → IsLast xs w)
+    → (if b then Some l else o) ≡ Some w → IsLast (xs ++ (if b then l ∷ [] else [])) w
 accepted g f l w xs o true k e = let q : l ≡ w = cc in subst (IsLast (xs ++ l ∷ [])) q (last-new xs l)
 accepted g f l w xs o false k e = subst (λ t. IsLast t w) (sym (append-nil xs)) (k e)
 

@@ -33,15 +33,18 @@ no o e = cc
 queued-opened : (g : ℕ) (h : List ControllerAct) (f s : ℕ) (b : Bool) → (g == f) ≡ b → Queued g h → Queued g (Opened f s ∷ h)
 queued-opened g h f s true e k = record { find = λ j o w. absurd (no o (rw e at w)); count = λ w. rw e refl }
 queued-opened g h f s false e k = record {
-  find = λ j o w. subst (λ b. numbered g (if b then openings g h + 1 else openings g h) ((if b then 0 else answered g h) + 1 + j) h ≡ Some o) (sym e) (k.find j o (rw e at w));
+  find = λ j o w. subst (λ b. numbered g (if b then openings g h + 1 else openings g h) ((if b then 0 else answered g h) + 1 + j) h ≡ Some
+      o) (sym e) (k.find j o (rw e at w));
   count = λ w. rw e (k.count (rw e at w));
 }
 
 queued-cut : (g : ℕ) (h : List ControllerAct) (f s : ℕ) (b : Bool) → (g == f) ≡ b → Queued g h → Queued g (Cut f s ∷ h)
-queued-cut g h f s true e k = record { find = λ j o w. absurd (no o (rw e at w)); count = λ w. absurd (let w' : false ≡ true = rw e at w in cc) }
+queued-cut g h f s true e k = record { find = λ j o w. absurd (no o (rw e at w)); count = λ w. absurd (let w' : false ≡ true = rw e at w in
+    cc) }
 queued-cut g h f s false e k = record { find = λ j o w. k.find j o (rw e at w); count = λ w. rw e (k.count (rw e at w)) }
 
-queued-answered : (g : ℕ) (h : List ControllerAct) (f s i : ℕ) (a : Answer) (z : ControllerOrder) → oldest (queue f h) ≡ Some z → (b : Bool) → (g == f) ≡ b → Queued g h → Queued g (Answered f s i a ∷ h)
+queued-answered : (g : ℕ) (h : List ControllerAct) (f s i : ℕ) (a : Answer) (z : ControllerOrder) → oldest (queue f h) ≡ Some z → (b : Bool)
+    → (g == f) ≡ b → Queued g h → Queued g (Answered f s i a ∷ h)
 queued-answered g h f s i a z m true e k =
     let q : g ≡ f = grind arith in
     let m' : oldest (queue g h) ≡ Some z = rw q m in
@@ -53,11 +56,13 @@ queued-answered g h f s i a z m true e k =
       count = λ w. let c = k.count w in let r = length-rest (queue g h) z m' in rw e (omega arith);
     }
 queued-answered g h f s i a z m false e k = record {
-  find = λ j o w. subst (λ b. numbered g (openings g h) ((if b then answered g h + 1 else answered g h) + 1 + j) h ≡ Some o) (sym e) (k.find j o (rw e at w));
+  find = λ j o w. subst (λ b. numbered g (openings g h) ((if b then answered g h + 1 else answered g h) + 1 + j) h ≡ Some o) (sym e)
+      (k.find j o (rw e at w));
   count = λ w. rw e (k.count w);
 }
 
-queued-ordered : (g : ℕ) (h : List ControllerAct) (f s i : ℕ) (z : ControllerOrder) → s ≡ openings f h → i ≡ orders f h + 1 → is_open f h ≡ true → (b : Bool) → (g == f) ≡ b → Queued g h → Queued g (Ordered f s i z ∷ h)
+queued-ordered : (g : ℕ) (h : List ControllerAct) (f s i : ℕ) (z : ControllerOrder) → s ≡ openings f h → i ≡ orders f h + 1
+    → is_open f h ≡ true → (b : Bool) → (g == f) ≡ b → Queued g h → Queued g (Ordered f s i z ∷ h)
 queued-ordered g h f s i z es ei v true e k =
     let q : g ≡ f = grind arith in
     let es' : s ≡ openings g h = rw q es in
@@ -65,7 +70,8 @@ queued-ordered g h f s i z es ei v true e k =
     let v' : is_open g h ≡ true = rw q v in
     let c = k.count v' in
     record {
-      find = λ j o w. elim (place-old j (queue g h) z o (rw e at w)) as (λ t. numbered g (openings g h) (answered g h + 1 + j) (Ordered f s i z ∷ h) ≡ Some o) [
+      find = λ j o w. elim (place-old j (queue g h) z o (rw e at w)) as (λ t. numbered g (openings g h) (answered g h + 1 + j)
+          (Ordered f s i z ∷ h) ≡ Some o) [
         | inl p ↦
             let a : j < length (queue g h) = p.0 in
             let n : (answered g h + 1 + j == i) ≡ false = grind arith in
@@ -93,7 +99,8 @@ queued p g (Accepted c ∷ h) l = let k = queued p g h l.1 in record { find = k.
 queued p g (Refused w ∷ h) l = let k = queued p g h l.1 in record { find = k.find; count = k.count }
 
 -- an answer is to the order of its session and number, and that is the oldest waiting
-pub answers-number : (p g s n : ℕ) (a : Answer) (h : List ControllerAct) → IsControllerPast p (Answered g s n a ∷ h) → numbered g s n h ≡ oldest (queue g h)
+pub answers-number : (p g s n : ℕ) (a : Answer) (h : List ControllerAct) → IsControllerPast p (Answered g s n a ∷ h)
+    → numbered g s n h ≡ oldest (queue g h)
 answers-number p g s n a h l =
     let k = queued p g h l.1 in
     let o = l.0.1 in

@@ -32,7 +32,8 @@ none-given h d _ (in_was_put k ks f s m n1 n2 n3) = refl
 
 none-pass : (h : List ControllerAct) (ds : List Way) → refusals_in (pass h ds) ≡ []
 none-pass h [] = refl
-none-pass h (d ∷ ds) = none-more (give h d) (pass (after h (give h d)) ds) (none-given h d (give h d) (given h d)) (none-pass (after h (give h d)) ds)
+none-pass h (d ∷ ds) = none-more (give h d) (pass (after h (give h d)) ds) (none-given h d (give h d) (given h d))
+    (none-pass (after h (give h d)) ds)
 
 none-list : (h : List ControllerAct) (g : ℕ) (o : Option (List SpdEntry)) → refusals_in (with_list h g o) ≡ []
 none-list h g None = refl
@@ -66,9 +67,14 @@ by-answers : (h : List ControllerAct) (g : ℕ) (a : Answer) (os : List Controll
 by-answers h g a [] = refl
 by-answers h g a (o ∷ os) = none-then (Answered g (openings g h) (answered g h + 1) a ∷ h) [] refl
 
-pub refuses : (ps : List Peer) (h : List ControllerAct) (e : ControllerEvent) → refusals_in (block ps h e) ≡ one_or_none (event_refusal ps h e)
+pub refuses : (ps : List Peer) (h : List ControllerAct) (e : ControllerEvent)
+    → refusals_in (block ps h e) ≡ one_or_none (event_refusal ps h e)
 refuses ps h (Told c) = by-reason h (placed_command ps c) (refusal (length ps) h (placed_command ps c))
-refuses ps h (Opens g) = none-if (is_open g h) [] (going h (Opened g (openings g h + 1))) refl (none-then (Opened g (openings g h + 1) ∷ h) (asked (Opened g (openings g h + 1) ∷ h) (Opened g (openings g h + 1))) (none-list (order (Opened g (openings g h + 1) ∷ h) g Read ∷ Opened g (openings g h + 1) ∷ h) g (newest_list g h)))
+refuses ps h (Opens g) = none-if (is_open g h) [] (going h (Opened g (openings g h + 1))) refl
+    (none-then (Opened g (openings g h + 1) ∷ h) (asked (Opened g (openings g h + 1) ∷ h) (Opened g (openings g h + 1)))
+    (none-list (order (Opened g (openings g h + 1) ∷ h) g Read ∷ Opened g (openings g h + 1) ∷ h) g (newest_list g h)))
 refuses ps h (Cuts g) = none-if (is_open g h) (going h (Cut g (openings g h))) [] (none-then (Cut g (openings g h) ∷ h) [] refl) refl
 refuses ps h (Answers g a) = by-answers h g a (queue g h)
-refuses ps h (Notices g t) = none-if (is_open g h) (going h (Heard g (openings g h) t)) [] (none-then (Heard g (openings g h) t ∷ h) (by_notice (Heard g (openings g h) t ∷ h) g t) (none-notice (Heard g (openings g h) t ∷ h) g t)) refl
+refuses ps h (Notices g t) = none-if (is_open g h) (going h (Heard g (openings g h) t)) []
+    (none-then (Heard g (openings g h) t ∷ h) (by_notice (Heard g (openings g h) t ∷ h) g t)
+    (none-notice (Heard g (openings g h) t ∷ h) g t)) refl

@@ -43,13 +43,16 @@ pub of-way : (h : List ControllerAct) (d : Way) (x : Association) → Has x (lef
 of-way [] d x i = absurd i
 of-way (Opened g s ∷ h) d x i = of-way h d x i
 of-way (Cut g s ∷ h) d x i = of-way h d x i
-of-way (Answered g s n a ∷ h) d x i = of-way h d x (has-filter (λ y. not (is_answer_to RemovingIn y.serial (oldest (queue g h)))) x (left d h) i)
+of-way (Answered g s n a ∷ h) d x i =
+    of-way h d x (has-filter (λ y. not (is_answer_to RemovingIn y.serial (oldest (queue g h)))) x (left d h) i)
 of-way (Heard g s t ∷ h) d x i = of-way h d x i
-of-way (Ordered g s n o ∷ h) d x i = elim (has-more x (left d h) (inbound_put d o) i) as (λ q. (d.id == x.way.id) ≡ true) [ inl j ↦ of-way h d x j | inr j ↦ (put-one d x o j).1 ]
+of-way (Ordered g s n o ∷ h) d x i = elim (has-more x (left d h) (inbound_put d o) i) as (λ q. (d.id == x.way.id) ≡ true)
+    [ inl j ↦ of-way h d x j | inr j ↦ (put-one d x o j).1 ]
 of-way (Accepted c ∷ h) d x i = of-way h d x (has-if x _ (left d h) i).1
 of-way (Refused w ∷ h) d x i = of-way h d x i
 
-pub put-serial : (h : List ControllerAct) (g : ℕ) (o : ControllerOrder) (x : Association) → MayOrder h g o → o ≡ PutIn x → x.serial ≡ serials h + 1
+pub put-serial : (h : List ControllerAct) (g : ℕ) (o : ControllerOrder) (x : Association) → MayOrder h g o → o ≡ PutIn x
+    → x.serial ≡ serials h + 1
 put-serial h g o x m e = let m' : MayOrderInPut h g x = subst (MayOrder h g) e m in m'.serial
 
 pub more-if : (b : Bool) (n m : ℕ) → n ≤ m → n ≤ (if b then m + 1 else m)
@@ -61,7 +64,8 @@ pub low : (p : ℕ) (h : List ControllerAct) → IsControllerPast p h → (d : W
 low p [] l d x i = absurd i
 low p (Opened g s ∷ h) l d x i = low p h l.1 d x i
 low p (Cut g s ∷ h) l d x i = low p h l.1 d x i
-low p (Answered g s n a ∷ h) l d x i = low p h l.1 d x (has-filter (λ y. not (is_answer_to RemovingIn y.serial (oldest (queue g h)))) x (left d h) i)
+low p (Answered g s n a ∷ h) l d x i =
+    low p h l.1 d x (has-filter (λ y. not (is_answer_to RemovingIn y.serial (oldest (queue g h)))) x (left d h) i)
 low p (Heard g s t ∷ h) l d x i = low p h l.1 d x i
 low p (Ordered g s n o ∷ h) l d x i = elim (has-more x (left d h) (inbound_put d o) i) as (λ q. x.serial ≤ serials (Ordered g s n o ∷ h)) [
   | inl j ↦ more-if (is_inbound_put o) x.serial (serials h) (low p h l.1 d x j)
@@ -74,11 +78,14 @@ low p (Accepted c ∷ h) l d x i = low p h l.1 d x (has-if x _ (left d h) i).1
 low p (Refused w ∷ h) l d x i = low p h l.1 d x i
 
 -- one association has a serial
-pub one : (p : ℕ) (h : List ControllerAct) → IsControllerPast p h → (d e : Way) (x y : Association) → Has x (left d h) → Has y (left e h) → x.serial ≡ y.serial → x ≡ y
+pub one : (p : ℕ) (h : List ControllerAct) → IsControllerPast p h → (d e : Way) (x y : Association) → Has x (left d h) → Has y (left e h)
+    → x.serial ≡ y.serial → x ≡ y
 one p [] l d e x y i j q = absurd i
 one p (Opened g s ∷ h) l d e x y i j q = one p h l.1 d e x y i j q
 one p (Cut g s ∷ h) l d e x y i j q = one p h l.1 d e x y i j q
-one p (Answered g s n a ∷ h) l d e x y i j q = one p h l.1 d e x y (has-filter (λ z. not (is_answer_to RemovingIn z.serial (oldest (queue g h)))) x (left d h) i) (has-filter (λ z. not (is_answer_to RemovingIn z.serial (oldest (queue g h)))) y (left e h) j) q
+one p (Answered g s n a ∷ h) l d e x y i j q =
+    one p h l.1 d e x y (has-filter (λ z. not (is_answer_to RemovingIn z.serial (oldest (queue g h)))) x (left d h) i)
+    (has-filter (λ z. not (is_answer_to RemovingIn z.serial (oldest (queue g h)))) y (left e h) j) q
 one p (Heard g s t ∷ h) l d e x y i j q = one p h l.1 d e x y i j q
 one p (Ordered g s n o ∷ h) l d e x y i j q = elim (has-more x (left d h) (inbound_put d o) i) as (λ z. x ≡ y) [
   | inl i' ↦ elim (has-more y (left e h) (inbound_put e o) j) as (λ z. x ≡ y) [
@@ -111,8 +118,10 @@ from m (x ∷ xs) d r (inr i) = let ih = from (m + 1) xs d r.1 i in omega arith
 one-of-ways : (m : ℕ) (xs : List Way) (d e : Way) → Rising m xs → Has d xs → Has e xs → d.id ≡ e.id → d ≡ e
 one-of-ways m [] d e r i j q = absurd i
 one-of-ways m (x ∷ xs) d e r (inl i) (inl j) q = i ∙ sym j
-one-of-ways m (x ∷ xs) d e r (inl i) (inr j) q = let a = from (m + 1) xs e r.1 j in let b : x.id ≡ m = r.0 in let w = ap (λ (z : Way). z.id) i in absurd (omega arith)
-one-of-ways m (x ∷ xs) d e r (inr i) (inl j) q = let a = from (m + 1) xs d r.1 i in let b : x.id ≡ m = r.0 in let w = ap (λ (z : Way). z.id) j in absurd (omega arith)
+one-of-ways m (x ∷ xs) d e r (inl i) (inr j) q = let a = from (m + 1) xs e r.1 j in let b : x.id ≡ m = r.0 in
+    let w = ap (λ (z : Way). z.id) i in absurd (omega arith)
+one-of-ways m (x ∷ xs) d e r (inr i) (inl j) q = let a = from (m + 1) xs d r.1 i in let b : x.id ≡ m = r.0 in
+    let w = ap (λ (z : Way). z.id) j in absurd (omega arith)
 one-of-ways m (x ∷ xs) d e r (inr i) (inr j) q = one-of-ways (m + 1) xs d e r.1 i j q
 
 pub one-way : (h : List ControllerAct) (d e : Way) → Has d (directions h) → Has e (directions h) → d.id ≡ e.id → d ≡ e

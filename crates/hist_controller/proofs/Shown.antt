@@ -29,13 +29,16 @@ use Rattle.hist_controller.specs.Told.{between, all_told}
 
 -- 2001:db8:1::/48 behind a, 2001:db8:2::/48 behind b
 pub behind_a : Prefix
-behind_a = record { addr = V6 (32 ∷ 1 ∷ 13 ∷ 184 ∷ 0 ∷ 1 ∷ 0 ∷ 0 ∷ 0 ∷ 0 ∷ 0 ∷ 0 ∷ 0 ∷ 0 ∷ 0 ∷ 0 ∷ []); len = 48; in_range = lit≤ tt; cleared = refl }
+behind_a = record { addr = V6 (32 ∷ 1 ∷ 13 ∷ 184 ∷ 0 ∷ 1 ∷ 0 ∷ 0 ∷ 0 ∷ 0 ∷ 0 ∷ 0 ∷ 0 ∷ 0 ∷ 0 ∷ 0 ∷ []); len = 48; in_range = lit≤ tt;
+    cleared = refl }
 
 pub behind_b : Prefix
-behind_b = record { addr = V6 (32 ∷ 1 ∷ 13 ∷ 184 ∷ 0 ∷ 2 ∷ 0 ∷ 0 ∷ 0 ∷ 0 ∷ 0 ∷ 0 ∷ 0 ∷ 0 ∷ 0 ∷ 0 ∷ []); len = 48; in_range = lit≤ tt; cleared = refl }
+behind_b = record { addr = V6 (32 ∷ 1 ∷ 13 ∷ 184 ∷ 0 ∷ 2 ∷ 0 ∷ 0 ∷ 0 ∷ 0 ∷ 0 ∷ 0 ∷ 0 ∷ 0 ∷ 0 ∷ 0 ∷ []); len = 48; in_range = lit≤ tt;
+    cleared = refl }
 
 abbrev peers : List Peer
-peers = record { name = codes "a"; address = V4 (192 ∷ 0 ∷ 2 ∷ 1 ∷ []) } ∷ record { name = codes "b"; address = V4 (198 ∷ 51 ∷ 100 ∷ 1 ∷ []) } ∷ []
+peers = record { name = codes "a"; address = V4 (192 ∷ 0 ∷ 2 ∷ 1 ∷ []) }
+    ∷ record { name = codes "b"; address = V4 (198 ∷ 51 ∷ 100 ∷ 1 ∷ []) } ∷ []
 
 abbrev entry : Selector → SpdEntry
 entry s = record { name = codes "o1"; direction = directions.Out; reqid = 10; window = 64; selector = s; action = actions.Protect }
@@ -54,7 +57,8 @@ spent = record { time = 3600; bytes = 88; packets = 1; idle = 3600 }
 
 -- a tunnel between two gateways, of a lifetime of 3600 seconds
 abbrev pub spec : Bool → List ℕ → List ℕ → TunnelSpec
-spec now first second = record { reqid = 10; now = now; first = first; second = second; first_prefix = behind_a; second_prefix = behind_b; window = 64; hard = limits 0; soft = limits 3600 }
+spec now first second = record { reqid = 10; now = now; first = first; second = second; first_prefix = behind_a; second_prefix = behind_b;
+    window = 64; hard = limits 0; soft = limits 3600 }
 
 abbrev pub t : TunnelSpec
 t = spec true (codes "a") (codes "b")
@@ -103,7 +107,8 @@ start = policy_a ∷ policy_b ∷ Told (commands.Keys k1) ∷ Told (commands.Key
 -- and the answers to the readings, the lists and the inbound puts
 setup : List ControllerEvent
 unfolding start
-setup = start ++ Answers 0 (reading []) ∷ Answers 0 (plain 204) ∷ Answers 1 (reading []) ∷ Answers 1 (plain 204) ∷ Answers 1 (plain 201) ∷ Answers 0 (plain 201) ∷ []
+setup = start ++ Answers 0 (reading []) ∷ Answers 0 (plain 204) ∷ Answers 1 (reading []) ∷ Answers 1 (plain 204) ∷ Answers 1 (plain 201)
+    ∷ Answers 0 (plain 201) ∷ []
 
 abbrev pub ab : Way
 ab = record { id = 0; tunnel = t; sender = 0; receiver = 1; near = behind_a; far = behind_b }
@@ -131,7 +136,8 @@ unfolding start setup begun in_name out_name k1 k2 k3 k4 digits
 shown-setup = refl
 
 rekeyed : List ControllerEvent
-rekeyed = Answers 0 (plain 201) ∷ Answers 1 (plain 201) ∷ Told (commands.Keys k3) ∷ Notices 1 (notices.Expire (codes "in/1") true spent) ∷ Answers 1 (plain 201) ∷ Answers 0 (plain 201) ∷ Answers 0 (plain 204) ∷ Answers 1 (plain 204) ∷ []
+rekeyed = Answers 0 (plain 201) ∷ Answers 1 (plain 201) ∷ Told (commands.Keys k3) ∷ Notices 1 (notices.Expire (codes "in/1") true spent)
+    ∷ Answers 1 (plain 201) ∷ Answers 0 (plain 201) ∷ Answers 0 (plain 204) ∷ Answers 1 (plain 204) ∷ []
 
 shown-rekey : history peers (after [] begun) rekeyed ≡
     Answered 0 1 4 (plain 201) ∷ Answered 1 1 4 (plain 201) ∷ Accepted (Keys k3)
@@ -167,7 +173,8 @@ up = begun ++ Answered 0 1 4 (plain 201) ∷ Answered 1 1 4 (plain 201) ∷ []
 
 -- a gateway that lost its halves: the reading is a cause of both directions, and the earlier one gets the key
 rebooted : List ControllerEvent
-rebooted = Told (commands.Keys k3) ∷ Cuts 1 ∷ Opens 1 ∷ Answers 1 (reading []) ∷ Notices 1 (notices.BadSpi 257) ∷ Notices 1 (notices.BadSpi 257) ∷ Answers 1 (plain 204) ∷ Answers 1 (plain 201) ∷ Told (commands.Keys k4) ∷ []
+rebooted = Told (commands.Keys k3) ∷ Cuts 1 ∷ Opens 1 ∷ Answers 1 (reading []) ∷ Notices 1 (notices.BadSpi 257)
+    ∷ Notices 1 (notices.BadSpi 257) ∷ Answers 1 (plain 204) ∷ Answers 1 (plain 201) ∷ Told (commands.Keys k4) ∷ []
 
 shown-reboot : history peers (after [] up) rebooted ≡
     Accepted (Keys k3) ∷ Cut 1 1
@@ -184,7 +191,8 @@ shown-reboot = refl
 
 -- the put of out/1 is lost before it was handled, and the reading shows in/2 alone: the removal is ordered all the same
 lost : List ControllerEvent
-lost = Told (commands.Keys k3) ∷ Cuts 0 ∷ Opens 0 ∷ Answers 0 (reading (codes "in/2" ∷ [])) ∷ Answers 0 (plain 204) ∷ Answers 0 (absent) ∷ []
+lost = Told (commands.Keys k3) ∷ Cuts 0 ∷ Opens 0 ∷ Answers 0 (reading (codes "in/2" ∷ [])) ∷ Answers 0 (plain 204) ∷ Answers 0 (absent)
+    ∷ []
 
 shown-lost : history peers (after [] begun) lost ≡
     Accepted (Keys k3) ∷ Cut 0 1
@@ -210,13 +218,17 @@ acquired : List ControllerEvent
 unfolding asked_for
 acquired =
     policy_a ∷ Told (commands.Keys k1) ∷ Opens 0 ∷ Opens 1 ∷ Answers 0 (reading []) ∷ Answers 0 (plain 204) ∷ Answers 1 (reading [])
-    ∷ Notices 0 (notices.Acquire (codes "o1") flow) ∷ Told (commands.Tunnel asked_for) ∷ Notices 1 (notices.Acquire (codes "o1") flow) ∷ Notices 0 (notices.Acquire (codes "o2") flow) ∷ Notices 0 (notices.Acquire (codes "o1") flow) ∷ Notices 0 (notices.Acquire (codes "o1") flow) ∷ Told (commands.Keys k2) ∷ Told (commands.End 10) ∷ Answers 1 (plain 201) ∷ Answers 1 (plain 204) ∷ []
+    ∷ Notices 0 (notices.Acquire (codes "o1") flow) ∷ Told (commands.Tunnel asked_for) ∷ Notices 1 (notices.Acquire (codes "o1") flow)
+        ∷ Notices 0 (notices.Acquire (codes "o2") flow) ∷ Notices 0 (notices.Acquire (codes "o1") flow)
+        ∷ Notices 0 (notices.Acquire (codes "o1") flow) ∷ Told (commands.Keys k2) ∷ Told (commands.End 10) ∷ Answers 1 (plain 201)
+        ∷ Answers 1 (plain 204) ∷ []
 
 shown-acquire : history peers [] acquired ≡
     Accepted (SetPolicy 0 list_a) ∷ Accepted (Keys k1)
     ∷ Opened 0 1 ∷ Ordered 0 1 1 Read ∷ Ordered 0 1 2 (Policy list_a) ∷ Opened 1 1 ∷ Ordered 1 1 1 Read
     ∷ Answered 0 1 1 (reading []) ∷ Answered 0 1 2 (plain 204) ∷ Answered 1 1 1 (reading [])
-    ∷ Heard 0 1 (notices.Acquire (codes "o1") flow) ∷ Accepted (Tunnel (at asked_for)) ∷ Heard 1 1 (notices.Acquire (codes "o1") flow) ∷ Heard 0 1 (notices.Acquire (codes "o2") flow)
+    ∷ Heard 0 1 (notices.Acquire (codes "o1") flow) ∷ Accepted (Tunnel (at asked_for)) ∷ Heard 1 1 (notices.Acquire (codes "o1") flow)
+        ∷ Heard 0 1 (notices.Acquire (codes "o2") flow)
     ∷ Heard 0 1 (notices.Acquire (codes "o1") flow) ∷ Ordered 1 1 2 (PutIn (half 1 k1 asked_ab))
     ∷ Heard 0 1 (notices.Acquire (codes "o1") flow) ∷ Accepted (Keys k2)
     ∷ Accepted (End 10) ∷ Answered 1 1 2 (plain 201) ∷ Ordered 1 1 3 (RemoveIn 1)
@@ -227,13 +239,17 @@ shown-acquire = refl
 -- refusals, in their order
 refused : List ControllerEvent
 refused =
-    Told (commands.Keys k1) ∷ Told (commands.Keys k1) ∷ Told (commands.Keys (k1 ++ k1 ++ take 16 k1)) ∷ Told (commands.Rekey 9) ∷ Told (commands.Tunnel (spec true (codes "a") (codes "a")))
-    ∷ Told (commands.Tunnel (spec true (codes "a") (codes "c"))) ∷ Told (commands.Tunnel t) ∷ Told (commands.Tunnel t) ∷ Told (commands.Policy (codes "c") []) ∷ Told (commands.End 10) ∷ Told (commands.Rekey 10) ∷ Told (commands.Tunnel t)
+    Told (commands.Keys k1) ∷ Told (commands.Keys k1) ∷ Told (commands.Keys (k1 ++ k1 ++ take 16 k1)) ∷ Told (commands.Rekey 9)
+        ∷ Told (commands.Tunnel (spec true (codes "a") (codes "a")))
+    ∷ Told (commands.Tunnel (spec true (codes "a") (codes "c"))) ∷ Told (commands.Tunnel t) ∷ Told (commands.Tunnel t)
+        ∷ Told (commands.Policy (codes "c") []) ∷ Told (commands.End 10) ∷ Told (commands.Rekey 10) ∷ Told (commands.Tunnel t)
     ∷ Told (commands.Keys (take 16 k1 ++ 0 ∷ 0 ∷ 0 ∷ 0 ∷ [])) ∷ []
 
 shown-refused : history peers [] refused ≡
-    Accepted (Keys k1) ∷ Refused refusals.KeySeen ∷ Refused refusals.KeyLength ∷ Refused refusals.NoTunnel ∷ Refused refusals.SameGateway ∷ Refused refusals.UnknownGateway
-    ∷ Accepted (Tunnel (at t)) ∷ Refused refusals.TunnelExists ∷ Refused refusals.UnknownGateway ∷ Accepted (End 10) ∷ Refused refusals.NoTunnel ∷ Accepted (Tunnel (at t))
+    Accepted (Keys k1) ∷ Refused refusals.KeySeen ∷ Refused refusals.KeyLength ∷ Refused refusals.NoTunnel ∷ Refused refusals.SameGateway
+        ∷ Refused refusals.UnknownGateway
+    ∷ Accepted (Tunnel (at t)) ∷ Refused refusals.TunnelExists ∷ Refused refusals.UnknownGateway ∷ Accepted (End 10)
+        ∷ Refused refusals.NoTunnel ∷ Accepted (Tunnel (at t))
     ∷ Refused refusals.KeySeen ∷ []
 unfolding refused in_name out_name k1 k2 k3 k4 digits
 shown-refused = refl
@@ -242,8 +258,10 @@ shown-refused = refl
 renewed : List ControllerEvent
 unfolding asked_for
 renewed =
-    policy_a ∷ Told (commands.Keys k1) ∷ Told (commands.Keys k2) ∷ Told (commands.Keys k3) ∷ Told (commands.Tunnel asked_for) ∷ Opens 0 ∷ Opens 1 ∷ Answers 0 (reading []) ∷ Answers 0 (plain 204) ∷ Answers 1 (reading [])
-    ∷ Notices 0 (notices.Acquire (codes "o1") flow) ∷ Notices 0 (notices.Acquire (codes "o1") flow) ∷ Answers 1 (plain 201) ∷ Answers 0 (plain 201) ∷ Told (commands.Rekey 10) ∷ []
+    policy_a ∷ Told (commands.Keys k1) ∷ Told (commands.Keys k2) ∷ Told (commands.Keys k3) ∷ Told (commands.Tunnel asked_for) ∷ Opens 0
+        ∷ Opens 1 ∷ Answers 0 (reading []) ∷ Answers 0 (plain 204) ∷ Answers 1 (reading [])
+    ∷ Notices 0 (notices.Acquire (codes "o1") flow) ∷ Notices 0 (notices.Acquire (codes "o1") flow) ∷ Answers 1 (plain 201)
+        ∷ Answers 0 (plain 201) ∷ Told (commands.Rekey 10) ∷ []
 
 shown-renew : history peers [] renewed ≡
     Accepted (SetPolicy 0 list_a) ∷ Accepted (Keys k1) ∷ Accepted (Keys k2) ∷ Accepted (Keys k3) ∷ Accepted (Tunnel (at asked_for))
@@ -262,8 +280,11 @@ shown-renew = refl
 abandoned : List ControllerEvent
 unfolding asked_for
 abandoned =
-    policy_a ∷ Told (commands.Keys k1) ∷ Told (commands.Keys k2) ∷ Told (commands.Tunnel asked_for) ∷ Opens 0 ∷ Opens 1 ∷ Answers 0 (reading []) ∷ Answers 0 (plain 204) ∷ Answers 1 (reading [])
-    ∷ Notices 0 (notices.Acquire (codes "o1") flow) ∷ Cuts 0 ∷ Notices 1 (notices.BadSpi 257) ∷ Answers 1 (plain 201) ∷ Answers 1 (reading []) ∷ Answers 1 (plain 204) ∷ Opens 0 ∷ Answers 0 (reading []) ∷ Answers 1 (denied) ∷ Answers 1 (plain 204) ∷ []
+    policy_a ∷ Told (commands.Keys k1) ∷ Told (commands.Keys k2) ∷ Told (commands.Tunnel asked_for) ∷ Opens 0 ∷ Opens 1
+        ∷ Answers 0 (reading []) ∷ Answers 0 (plain 204) ∷ Answers 1 (reading [])
+    ∷ Notices 0 (notices.Acquire (codes "o1") flow) ∷ Cuts 0 ∷ Notices 1 (notices.BadSpi 257) ∷ Answers 1 (plain 201)
+        ∷ Answers 1 (reading []) ∷ Answers 1 (plain 204) ∷ Opens 0 ∷ Answers 0 (reading []) ∷ Answers 1 (denied) ∷ Answers 1 (plain 204)
+        ∷ []
 
 shown-abandon : history peers [] abandoned ≡
     Accepted (SetPolicy 0 list_a) ∷ Accepted (Keys k1) ∷ Accepted (Keys k2) ∷ Accepted (Tunnel (at asked_for))
@@ -286,8 +307,10 @@ shown-abandon = refl
 -- a reading that doesn't show an association that was replaced is no cause
 replaced : List ControllerEvent
 replaced =
-    Told (commands.Keys k3) ∷ Told (commands.Keys k4) ∷ Notices 1 (notices.Expire (codes "in/1") true spent) ∷ Answers 1 (plain 201) ∷ Answers 0 (plain 201)
-    ∷ Notices 1 (notices.BadSpi 257) ∷ Answers 1 (reading (codes "out/2" ∷ codes "in/3" ∷ [])) ∷ Answers 0 (plain 204) ∷ Answers 1 (plain 204) ∷ []
+    Told (commands.Keys k3) ∷ Told (commands.Keys k4) ∷ Notices 1 (notices.Expire (codes "in/1") true spent) ∷ Answers 1 (plain 201)
+        ∷ Answers 0 (plain 201)
+    ∷ Notices 1 (notices.BadSpi 257) ∷ Answers 1 (reading (codes "out/2" ∷ codes "in/3" ∷ [])) ∷ Answers 0 (plain 204)
+        ∷ Answers 1 (plain 204) ∷ []
 
 shown-replaced : history peers (after [] up) replaced ≡
     Accepted (Keys k3) ∷ Accepted (Keys k4)
@@ -303,7 +326,8 @@ shown-replaced = refl
 
 -- a second expiry, of the other direction, finds no key left; the next key is put there
 without_key : List ControllerEvent
-without_key = Answers 0 (plain 201) ∷ Answers 1 (plain 201) ∷ Told (commands.Keys k3) ∷ Notices 1 (notices.Expire (codes "in/1") true spent) ∷ Notices 1 (notices.Expire (codes "out/2") true spent) ∷ Told (commands.Keys k4) ∷ []
+without_key = Answers 0 (plain 201) ∷ Answers 1 (plain 201) ∷ Told (commands.Keys k3) ∷ Notices 1 (notices.Expire (codes "in/1") true spent)
+    ∷ Notices 1 (notices.Expire (codes "out/2") true spent) ∷ Told (commands.Keys k4) ∷ []
 
 shown-without-key : history peers (after [] begun) without_key ≡
     Answered 0 1 4 (plain 201) ∷ Answered 1 1 4 (plain 201) ∷ Accepted (Keys k3)
@@ -340,8 +364,10 @@ shown-never-ordered = refl
 -- the one put last is none
 outrun : List ControllerEvent
 outrun =
-    Told (commands.Keys k3) ∷ Told (commands.Keys k4) ∷ Notices 0 (notices.Expire (codes "in/1") true spent) ∷ Notices 0 (notices.SeqOverflow (codes "out/1"))
-    ∷ Notices 1 (notices.Expire (codes "in/1") false spent) ∷ Answers 1 (plain 201) ∷ Answers 0 (plain 201) ∷ Answers 0 (plain 204) ∷ Answers 1 (plain 204) ∷ []
+    Told (commands.Keys k3) ∷ Told (commands.Keys k4) ∷ Notices 0 (notices.Expire (codes "in/1") true spent)
+        ∷ Notices 0 (notices.SeqOverflow (codes "out/1"))
+    ∷ Notices 1 (notices.Expire (codes "in/1") false spent) ∷ Answers 1 (plain 201) ∷ Answers 0 (plain 201) ∷ Answers 0 (plain 204)
+        ∷ Answers 1 (plain 204) ∷ []
 
 shown-outrun : history peers (after [] up) outrun ≡
     Accepted (Keys k3) ∷ Accepted (Keys k4) ∷ Heard 0 1 (notices.Expire (codes "in/1") true spent)
@@ -355,16 +381,19 @@ unfolding begun up outrun in_name out_name k1 k2 k3 k4 digits
 shown-outrun = refl
 
 abbrev other_list : List SpdEntry
-other_list = record { name = codes "o1"; direction = directions.Out; reqid = 11; window = 64; selector = flow; action = actions.Protect } ∷ []
+other_list = record { name = codes "o1"; direction = directions.Out; reqid = 11; window = 64; selector = flow; action = actions.Protect }
+    ∷ []
 
 -- an acquire of an entry with another reqid is no cause, an expiry of an ended association is none, and an acquire while an
 -- ended one waits for its removal is one
 renewed_late : List ControllerEvent
 unfolding asked_for
 renewed_late =
-    Told (commands.Policy (codes "a") other_list) ∷ Told (commands.Keys k1) ∷ Told (commands.Keys k2) ∷ Told (commands.Keys k3) ∷ Told (commands.Tunnel asked_for) ∷ Opens 0 ∷ Opens 1 ∷ Answers 0 (reading []) ∷ Answers 0 (plain 204) ∷ Answers 1 (reading [])
+    Told (commands.Policy (codes "a") other_list) ∷ Told (commands.Keys k1) ∷ Told (commands.Keys k2) ∷ Told (commands.Keys k3)
+        ∷ Told (commands.Tunnel asked_for) ∷ Opens 0 ∷ Opens 1 ∷ Answers 0 (reading []) ∷ Answers 0 (plain 204) ∷ Answers 1 (reading [])
     ∷ Notices 0 (notices.Acquire (codes "o1") flow) ∷ policy_a ∷ Notices 0 (notices.Acquire (codes "o1") flow) ∷ Answers 1 denied
-    ∷ Notices 1 (notices.Expire (codes "in/1") true spent) ∷ Answers 1 absent ∷ Notices 0 (notices.Acquire (codes "o1") flow) ∷ Answers 1 denied
+    ∷ Notices 1 (notices.Expire (codes "in/1") true spent) ∷ Answers 1 absent ∷ Notices 0 (notices.Acquire (codes "o1") flow)
+        ∷ Answers 1 denied
     ∷ Notices 0 (notices.Acquire (codes "o1") flow) ∷ Answers 1 absent ∷ []
 
 shown-renew-late : history peers [] renewed_late ≡
@@ -389,8 +418,10 @@ shown-renew-late = refl
 waited : List ControllerEvent
 unfolding asked_for
 waited =
-    policy_a ∷ Told (commands.Keys k1) ∷ Told (commands.Tunnel asked_for) ∷ Opens 0 ∷ Opens 1 ∷ Answers 0 (reading []) ∷ Answers 0 (plain 204) ∷ Answers 1 (reading [])
-    ∷ Notices 0 (notices.Acquire (codes "o1") flow) ∷ Cuts 0 ∷ Answers 1 (plain 201) ∷ Cuts 1 ∷ Opens 0 ∷ Answers 0 (reading []) ∷ Opens 1 ∷ Answers 1 (reading (codes "in/1" ∷ [])) ∷ []
+    policy_a ∷ Told (commands.Keys k1) ∷ Told (commands.Tunnel asked_for) ∷ Opens 0 ∷ Opens 1 ∷ Answers 0 (reading [])
+        ∷ Answers 0 (plain 204) ∷ Answers 1 (reading [])
+    ∷ Notices 0 (notices.Acquire (codes "o1") flow) ∷ Cuts 0 ∷ Answers 1 (plain 201) ∷ Cuts 1 ∷ Opens 0 ∷ Answers 0 (reading []) ∷ Opens 1
+        ∷ Answers 1 (reading (codes "in/1" ∷ [])) ∷ []
 
 shown-wait : history peers [] waited ≡
     Accepted (SetPolicy 0 list_a) ∷ Accepted (Keys k1) ∷ Accepted (Tunnel (at asked_for))
@@ -431,7 +462,8 @@ ended_early =
     ∷ Told (commands.Keys k1) ∷ Told (commands.Tunnel t) ∷ Told (commands.Keys k2) ∷ Told (commands.Keys k3) ∷ []
 
 shown-ended-early : history peers [] ended_early ≡
-    Accepted (Tunnel (at t)) ∷ Opened 0 1 ∷ Ordered 0 1 1 Read ∷ Opened 1 1 ∷ Ordered 1 1 1 Read ∷ Answered 0 1 1 (reading []) ∷ Answered 1 1 1 (reading [])
+    Accepted (Tunnel (at t)) ∷ Opened 0 1 ∷ Ordered 0 1 1 Read ∷ Opened 1 1 ∷ Ordered 1 1 1 Read ∷ Answered 0 1 1 (reading [])
+        ∷ Answered 1 1 1 (reading [])
     ∷ Accepted (End 10) ∷ Accepted (Keys k1)
     ∷ Accepted (Tunnel (at t)) ∷ Ordered 1 1 2 (PutIn (half 1 k1 again_ab))
     ∷ Accepted (Keys k2) ∷ Ordered 0 1 2 (PutIn (half 2 k2 again_ba)) ∷ Accepted (Keys k3)
@@ -445,7 +477,8 @@ unfolding k1 k2
 k5 = take 16 k1 ++ k2
 
 abbrev second : TunnelSpec
-second = record { reqid = 20; now = false; first = codes "a"; second = codes "b"; first_prefix = behind_a; second_prefix = behind_b; window = 64; hard = limits 0; soft = limits 0 }
+second = record { reqid = 20; now = false; first = codes "a"; second = codes "b"; first_prefix = behind_a; second_prefix = behind_b;
+    window = 64; hard = limits 0; soft = limits 0 }
 
 abbrev second_ab : Way
 second_ab = record { id = 2; tunnel = second; sender = 0; receiver = 1; near = behind_a; far = behind_b }
@@ -558,11 +591,13 @@ shown-emptied = refl
 -- a key of 36 octets is put like one of 20, and one whose first 16 octets it shares is another AES key
 long_keys : List ControllerEvent
 long_keys =
-    Told (commands.Keys k5) ∷ Told (commands.Keys (take 32 k5 ++ 9 ∷ 9 ∷ 9 ∷ 9 ∷ [])) ∷ Told (commands.Keys k1) ∷ Told (commands.Tunnel t) ∷ Opens 0 ∷ Opens 1 ∷ Answers 0 (reading [])
+    Told (commands.Keys k5) ∷ Told (commands.Keys (take 32 k5 ++ 9 ∷ 9 ∷ 9 ∷ 9 ∷ [])) ∷ Told (commands.Keys k1) ∷ Told (commands.Tunnel t)
+        ∷ Opens 0 ∷ Opens 1 ∷ Answers 0 (reading [])
     ∷ Answers 1 (reading []) ∷ Answers 1 (plain 201) ∷ []
 
 shown-long-keys : history peers [] long_keys ≡
-    Accepted (Keys k5) ∷ Refused refusals.KeySeen ∷ Accepted (Keys k1) ∷ Accepted (Tunnel (at t)) ∷ Opened 0 1 ∷ Ordered 0 1 1 Read ∷ Opened 1 1
+    Accepted (Keys k5) ∷ Refused refusals.KeySeen ∷ Accepted (Keys k1) ∷ Accepted (Tunnel (at t)) ∷ Opened 0 1 ∷ Ordered 0 1 1 Read
+        ∷ Opened 1 1
     ∷ Ordered 1 1 1 Read ∷ Answered 0 1 1 (reading []) ∷ Answered 1 1 1 (reading []) ∷ Ordered 1 1 2 (PutIn (half 1 k5 ab))
     ∷ Ordered 0 1 2 (PutIn (half 2 k1 ba)) ∷ Answered 1 1 2 (plain 201) ∷ Ordered 0 1 3 (PutOut (half 1 k5 ab)) ∷ []
 unfolding long_keys in_name out_name k1 k2 k3 k4 k5 digits
@@ -570,7 +605,8 @@ shown-long-keys = refl
 
 -- a tunnel counts while it is not ended or has an association left
 counted_tunnels : List ControllerEvent
-counted_tunnels = Told (commands.Keys k1) ∷ Told (commands.Tunnel t) ∷ Opens 0 ∷ Opens 1 ∷ Answers 0 (reading []) ∷ Answers 1 (reading []) ∷ Told (commands.Tunnel second) ∷ Told (commands.End 10) ∷ []
+counted_tunnels = Told (commands.Keys k1) ∷ Told (commands.Tunnel t) ∷ Opens 0 ∷ Opens 1 ∷ Answers 0 (reading []) ∷ Answers 1 (reading [])
+    ∷ Told (commands.Tunnel second) ∷ Told (commands.End 10) ∷ []
 
 abbrev tunnels_after : List ControllerEvent → ℕ
 tunnels_after es = tunnels (after [] (history peers [] es)) (directions (after [] (history peers [] es)))
@@ -586,7 +622,8 @@ shown-uncounted = refl
 -- the first reason that applies: no such gateway, one gateway at both ends, a tunnel that there is
 refused_first : List ControllerEvent
 refused_first =
-    Told (commands.Tunnel t) ∷ Told (commands.Tunnel (spec true (codes "c") (codes "c"))) ∷ Told (commands.Tunnel (spec true (codes "b") (codes "b")))
+    Told (commands.Tunnel t) ∷ Told (commands.Tunnel (spec true (codes "c") (codes "c")))
+        ∷ Told (commands.Tunnel (spec true (codes "b") (codes "b")))
     ∷ Told (commands.Tunnel (spec true (codes "b") (codes "a"))) ∷ []
 
 shown-refused-first : history peers [] refused_first ≡
@@ -596,32 +633,38 @@ shown-refused-first = refl
 
 -- The two limits, with a past that has so many in place of one computed: 1,024 tunnels, and 1,048,576 keys. A tunnel that there
 -- is, and a key that was seen, come first.
-shown-tunnel-limit : (h : List ControllerAct) → has_tunnel 10 h ≡ false → tunnels h (directions h) ≡ 1024 → refusal 2 h (Tunnel (at t)) ≡ Some refusals.TunnelLimit
+shown-tunnel-limit : (h : List ControllerAct) → has_tunnel 10 h ≡ false → tunnels h (directions h) ≡ 1024
+    → refusal 2 h (Tunnel (at t)) ≡ Some refusals.TunnelLimit
 shown-tunnel-limit h e n = rw (e, n) refl
 
-shown-last-tunnel : (h : List ControllerAct) → has_tunnel 10 h ≡ false → tunnels h (directions h) ≡ 1023 → refusal 2 h (Tunnel (at t)) ≡ None
+shown-last-tunnel : (h : List ControllerAct) → has_tunnel 10 h ≡ false → tunnels h (directions h) ≡ 1023
+    → refusal 2 h (Tunnel (at t)) ≡ None
 shown-last-tunnel h e n = rw (e, n) refl
 
-shown-tunnel-first : (h : List ControllerAct) → has_tunnel 10 h ≡ true → tunnels h (directions h) ≡ 1024 → refusal 2 h (Tunnel (at t)) ≡ Some refusals.TunnelExists
+shown-tunnel-first : (h : List ControllerAct) → has_tunnel 10 h ≡ true → tunnels h (directions h) ≡ 1024
+    → refusal 2 h (Tunnel (at t)) ≡ Some refusals.TunnelExists
 shown-tunnel-first h e n = rw e refl
 
 k1-long : is_key_length (length k1) ≡ true
 unfolding k1
 k1-long = refl
 
-shown-key-limit : (h : List ControllerAct) → is_seen k1 (keys h) ≡ false → length (keys h) ≡ 1048576 → refusal 2 h (Keys k1) ≡ Some refusals.KeyLimit
+shown-key-limit : (h : List ControllerAct) → is_seen k1 (keys h) ≡ false → length (keys h) ≡ 1048576
+    → refusal 2 h (Keys k1) ≡ Some refusals.KeyLimit
 shown-key-limit h e n = let l : is_key_length (length k1) ≡ true = k1-long in rw (l, e, n) refl
 
 shown-last-key : (h : List ControllerAct) → is_seen k1 (keys h) ≡ false → length (keys h) ≡ 1048575 → refusal 2 h (Keys k1) ≡ None
 shown-last-key h e n = let l : is_key_length (length k1) ≡ true = k1-long in rw (l, e, n) refl
 
-shown-key-first : (h : List ControllerAct) → is_seen k1 (keys h) ≡ true → length (keys h) ≡ 1048576 → refusal 2 h (Keys k1) ≡ Some refusals.KeySeen
+shown-key-first : (h : List ControllerAct) → is_seen k1 (keys h) ≡ true → length (keys h) ≡ 1048576
+    → refusal 2 h (Keys k1) ≡ Some refusals.KeySeen
 shown-key-first h e n = let l : is_key_length (length k1) ≡ true = k1-long in rw (l, e) refl
 
 -- ## as a transcript has them
 
 entry_of : List ℕ → ℕ → Prefix → Prefix → List ℕ → List ℕ → List ℕ → SadEntry
-entry_of name spi own other key local remote = record { name = name; reqid = 10; spi = spi; window = 64; selector = between own other; key = key; local = V4 local; remote = V4 remote; df = df.Copy; hard = limits 0; soft = limits 3600 }
+entry_of name spi own other key local remote = record { name = name; reqid = 10; spi = spi; window = 64; selector = between own other; key =
+    key; local = V4 local; remote = V4 remote; df = df.Copy; hard = limits 0; soft = limits 3600 }
 
 at_a : List ℕ
 at_a = 192 ∷ 0 ∷ 2 ∷ 1 ∷ []
@@ -637,8 +680,10 @@ shown-told : all_told peers begun ≡
     ∷ acts.Order (codes "b") 1 3 (orders.Put (entry_of (codes "in/1") 257 behind_b behind_a k1 at_b at_a))
     ∷ acts.Order (codes "a") 1 3 (orders.Put (entry_of (codes "in/2") 258 behind_a behind_b k2 at_a at_b))
     ∷ acts.Answered (codes "b") 1 2 (plain 204)
-    ∷ acts.Answered (codes "b") 1 3 (plain 201) ∷ acts.Order (codes "a") 1 4 (orders.Put (entry_of (codes "out/1") 257 behind_a behind_b k1 at_a at_b))
-    ∷ acts.Answered (codes "a") 1 3 (plain 201) ∷ acts.Order (codes "b") 1 4 (orders.Put (entry_of (codes "out/2") 258 behind_b behind_a k2 at_b at_a))
+    ∷ acts.Answered (codes "b") 1 3 (plain 201)
+        ∷ acts.Order (codes "a") 1 4 (orders.Put (entry_of (codes "out/1") 257 behind_a behind_b k1 at_a at_b))
+    ∷ acts.Answered (codes "a") 1 3 (plain 201)
+        ∷ acts.Order (codes "b") 1 4 (orders.Put (entry_of (codes "out/2") 258 behind_b behind_a k2 at_b at_a))
     ∷ []
 unfolding begun entry_of at_a at_b in_name out_name k1 k2 k3 k4 digits
 shown-told = refl

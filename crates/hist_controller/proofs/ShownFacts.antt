@@ -52,7 +52,8 @@ put-next : next_order (after (after [] begun) renewed) ab ≡ PutsOut (half 3 k3
 unfolding begun renewed k1 k2 k3 digits in_name out_name
 put-next = refl
 
-remove-next : next_order (Answered 0 1 5 (plain 201) ∷ Ordered 0 1 5 (PutOut (half 3 k3 ab)) ∷ after (after [] begun) renewed) ab ≡ RemovesOut (half 1 k1 ab)
+remove-next : next_order (Answered 0 1 5 (plain 201) ∷ Ordered 0 1 5 (PutOut (half 3 k3 ab)) ∷ after (after [] begun) renewed) ab ≡
+    RemovesOut (half 1 k1 ab)
 unfolding begun renewed k1 k2 k3 digits in_name out_name
 remove-next = refl
 

@@ -5,13 +5,15 @@ use Rattle.hist_controller.specs.State.{KeptGateway, gateway_opened, gateway_cut
 use Rattle.hist_controller.specs.Table.{Table, gateway_at, change, listed, told_gates, seen, did_table, fits_placed, Fits}
 use Rattle.hist_controller.proofs.KeptState.{same-at, same-state}
 
-at-change : (f g : ℕ) (k : KeptGateway → KeptGateway) (xs : List KeptGateway) → f < length xs → gateway_at g (change f k xs) ≡ (if g == f then k (gateway_at g xs) else gateway_at g xs)
+at-change : (f g : ℕ) (k : KeptGateway → KeptGateway) (xs : List KeptGateway) → f < length xs
+    → gateway_at g (change f k xs) ≡ (if g == f then k (gateway_at g xs) else gateway_at g xs)
 at-change f g k [] e = absurd (omega arith)
 at-change f g k (x ∷ xs) e =
     let ih = at-change (f - 1) (g - 1) k xs in
     grind (arith, ih)
 
-at-told : (c : PlacedCommand) (g : ℕ) (xs : List KeptGateway) → fits_placed (length xs) c → gateway_at g (told_gates c xs) ≡ gateway_told c g (gateway_at g xs)
+at-told : (c : PlacedCommand) (g : ℕ) (xs : List KeptGateway) → fits_placed (length xs) c
+    → gateway_at g (told_gates c xs) ≡ gateway_told c g (gateway_at g xs)
 at-told (SetPolicy f l) g xs e = at-change f g (listed l) xs e ∙ by-if (g == f) (gateway_at g xs)
   where
     by-if : (b : Bool) (x : KeptGateway) → (if b then listed l x else x) ≡ record x { list = if b then Some l else x.list }

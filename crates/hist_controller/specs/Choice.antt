@@ -29,7 +29,8 @@ ComesNext h o = (d : Way) → Has d (directions h) → is_own d (left d h) o ≡
 -- orders, each of which may be given and comes next after what is before it, until none is due and none is allowed
 abbrev pub AreOrdersNext : ℕ → List ControllerAct → List ControllerAct → Type 0
 AreOrdersNext p h [] = NoneDue h × NotIdle h
-AreOrdersNext p h (Ordered g s n o ∷ more) = ControllerMayAct p h (Ordered g s n o) × ComesNext h o × AreOrdersNext p (Ordered g s n o ∷ h) more
+AreOrdersNext p h (Ordered g s n o ∷ more) = ControllerMayAct p h (Ordered g s n o) × ComesNext h o
+    × AreOrdersNext p (Ordered g s n o ∷ h) more
 AreOrdersNext p h (_ ∷ more) = ⊥
 
 -- the act is the event's own

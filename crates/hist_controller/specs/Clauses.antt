@@ -115,7 +115,8 @@ MayOrder h g (RemoveOut n) = MayOrderOutRemove h g n
 abbrev pub ControllerMayAct : ℕ → List ControllerAct → ControllerAct → Type 0
 ControllerMayAct p h (Opened g s) = (is_open g h ≡ false) × (s ≡ openings g h + 1)
 ControllerMayAct p h (Cut g s) = (is_open g h ≡ true) × (s ≡ openings g h)
-ControllerMayAct p h (Answered g s n a) = (o : ControllerOrder) × (oldest (queue g h) ≡ Some o) × (s ≡ openings g h) × (n ≡ answered g h + 1)
+ControllerMayAct p h (Answered g s n a) = (o : ControllerOrder) × (oldest (queue g h) ≡ Some o) × (s ≡ openings g h)
+    × (n ≡ answered g h + 1)
 ControllerMayAct p h (Heard g s t) = (is_open g h ≡ true) × (s ≡ openings g h)
 ControllerMayAct p h (Ordered g s n o) = (s ≡ openings g h) × (n ≡ orders g h + 1) × (is_open g h ≡ true) × MayOrder h g o
 ControllerMayAct p h (Accepted c) = refusal p h c ≡ None

@@ -36,7 +36,8 @@ may_in_remove h d x = is_ended x h && (not (is_out_ordered x.serial h) || has_an
 
 -- out/N of an association in progress: the put of in/N is answered, and both gateways are read
 abbrev pub may_out_put : List ControllerAct → Way → Association → Bool
-may_out_put h d x = is_in_progress h x && not (is_out_ordered x.serial h) && has_answer PuttingIn x.serial h && is_read d.sender h && is_read d.receiver h
+may_out_put h d x = is_in_progress h x && not (is_out_ordered x.serial h) && has_answer PuttingIn x.serial h && is_read d.sender h
+    && is_read d.receiver h
 
 -- in/N of a new association: the direction is owed one, and both gateways are read
 abbrev pub may_in_put : List ControllerAct → Way → Bool

@@ -31,7 +31,8 @@ is_own_of d ks (_) = false
 
 -- a put or a removal of the direction waits for its answer
 abbrev pub is_busy_of : ControllerState → KeptWay → Bool
-is_busy_of s w = list_any (is_own_of w.way w.associations) (s.gateway w.way.sender).queue || list_any (is_own_of w.way w.associations) (s.gateway w.way.receiver).queue
+is_busy_of s w = list_any (is_own_of w.way w.associations) (s.gateway w.way.sender).queue
+    || list_any (is_own_of w.way w.associations) (s.gateway w.way.receiver).queue
 
 -- out/N of an ended association: it was ordered put, no removal of it is answered, and its gateway is read
 abbrev pub may_out_remove_of : ControllerState → KeptWay → KeptAssociation → Bool
@@ -43,7 +44,8 @@ may_in_remove_of s w k = k.ended && (not k.out_sent || k.out_gone) && is_read_of
 
 -- out/N of an association in progress: the put of in/N is answered, and both gateways are read
 abbrev pub may_out_put_of : ControllerState → KeptWay → KeptAssociation → Bool
-may_out_put_of s w k = is_kept_in_progress k && not k.out_sent && k.in_done && is_read_of (s.gateway w.way.sender) && is_read_of (s.gateway w.way.receiver)
+may_out_put_of s w k = is_kept_in_progress k && not k.out_sent && k.in_done && is_read_of (s.gateway w.way.sender)
+    && is_read_of (s.gateway w.way.receiver)
 
 -- in/N of a new association: the direction is owed one, and both gateways are read
 abbrev pub may_in_put_of : ControllerState → KeptWay → Bool
@@ -57,7 +59,8 @@ first_of p (k ∷ ks) = if p k then Some k else first_of p ks
 -- where in/N may be put: a new association with the oldest of these keys and the next serial; without a key there is none
 abbrev pub key_put_of : ControllerState → KeptWay → List (List ℕ) → List ControllerAct
 key_put_of s w [] = []
-key_put_of s w (k ∷ ks) = if may_in_put_of s w then order_act s w.way.receiver (PutIn (record { serial = s.serials + 1; key = k; way = w.way })) ∷ [] else []
+key_put_of s w (k ∷ ks) = if may_in_put_of s w then order_act s w.way.receiver
+    (PutIn (record { serial = s.serials + 1; key = k; way = w.way })) ∷ [] else []
 
 -- the put of out/N of this association, or else a new association where none is to be put
 abbrev pub out_put_of : ControllerState → KeptWay → Option KeptAssociation → List ControllerAct

@@ -34,7 +34,8 @@ abbrev pub Before : List ControllerAct → ControllerOrder → Type 0
 Before h Read = Unit {0}
 Before h (Policy l) = Unit {0}
 Before h (PutIn x) = was_ordered PuttingIn x.serial h ≡ false
-Before h (PutOut x) = (has_answer PuttingIn x.serial h ≡ true) × (was_ordered PuttingOut x.serial h ≡ false) × (was_ordered RemovingIn x.serial h ≡ false) × (was_missed x h ≡ false)
+Before h (PutOut x) = (has_answer PuttingIn x.serial h ≡ true) × (was_ordered PuttingOut x.serial h ≡ false)
+    × (was_ordered RemovingIn x.serial h ≡ false) × (was_missed x h ≡ false)
 Before h (RemoveOut n) = (was_ordered PuttingOut n h ≡ true) × ((g : ℕ) → list_any (is_kind PuttingOut n) (queue g h) ≡ false)
 Before h (RemoveIn n) = (was_ordered PuttingOut n h ≡ false) ⊎ (has_answer RemovingOut n h ≡ true)
 

@@ -123,7 +123,8 @@ spare (_ ∷ h) = spare h
 abbrev pub both_ways : ℕ → PlacedTunnel → List Way
 both_ways n t =
     record { id = n; tunnel = t.spec; sender = t.first; receiver = t.second; near = t.spec.first_prefix; far = t.spec.second_prefix }
-    ∷ record { id = n + 1; tunnel = t.spec; sender = t.second; receiver = t.first; near = t.spec.second_prefix; far = t.spec.first_prefix } ∷ []
+    ∷ record { id = n + 1; tunnel = t.spec; sender = t.second; receiver = t.first; near = t.spec.second_prefix; far = t.spec.first_prefix }
+        ∷ []
 
 -- the directions that a command makes: those of its tunnel
 abbrev pub new_ways : ℕ → PlacedCommand → List Way
@@ -209,7 +210,8 @@ abbrev pub is_ended : Association → List ControllerAct → Bool
 is_ended x [] = false
 is_ended x (Accepted c ∷ h) = is_end_of x.way.tunnel.reqid c || is_ended x h
 is_ended x (Cut g s ∷ h) = list_any (λ o. is_kind PuttingIn x.serial o || is_kind PuttingOut x.serial o) (queue g h) || is_ended x h
-is_ended x (Answered g s n a ∷ h) = is_spoiled x g (oldest (queue g h)) a (has_answer PuttingIn x.serial h) (is_out_ordered x.serial h) || is_ended x h
+is_ended x (Answered g s n a ∷ h) = is_spoiled x g (oldest (queue g h)) a (has_answer PuttingIn x.serial h) (is_out_ordered x.serial h)
+    || is_ended x h
 is_ended x (Ordered g s n o ∷ h) = not (is_kind PuttingIn x.serial o) && is_ended x h
 is_ended x (_ ∷ h) = is_ended x h
 
@@ -280,11 +282,13 @@ is_half_at d g name n = ((d.receiver == g) && bytes_eq (in_name n) name) || ((d.
 
 -- the half is one of the association put last, which is not ended
 abbrev pub is_of_newest : List ControllerAct → Way → ℕ → List ℕ → Bool
-is_of_newest h d g name = is_half_at d g name (newest_serial d h) && list_any (λ x. (x.serial == newest_serial d h) && not (is_ended x h)) (left d h)
+is_of_newest h d g name = is_half_at d g name (newest_serial d h) && list_any (λ x. (x.serial == newest_serial d h) && not (is_ended x h))
+    (left d h)
 
 -- a notice is a cause
 abbrev pub is_cause_notice : List ControllerAct → Way → ℕ → Notice → Bool
-is_cause_notice h d g (notices.Acquire name s) = (d.sender == g) && has_entry name d.tunnel.reqid (newest_list g h) && not (list_any (is_in_progress h) (left d h))
+is_cause_notice h d g (notices.Acquire name s) = (d.sender == g) && has_entry name d.tunnel.reqid (newest_list g h)
+    && not (list_any (is_in_progress h) (left d h))
 is_cause_notice h d g (notices.Expire name soft c) = is_of_newest h d g name
 is_cause_notice h d g (notices.SeqOverflow name) = is_of_newest h d g name
 is_cause_notice h d g (notices.BadSpi s) = false

@@ -33,7 +33,8 @@ use Rattle.hist_gateway.specs.State.{with_put, with_session, with_notice, wanted
 
 -- ---- lists
 
-pub map-step : (p q : SadEntry → Half) (f : Half → Half) → ((e : SadEntry) → q e ≡ f (p e)) → (es : List SadEntry) → map q es ≡ map f (map p es)
+pub map-step : (p q : SadEntry → Half) (f : Half → Half) → ((e : SadEntry) → q e ≡ f (p e)) → (es : List SadEntry)
+    → map q es ≡ map f (map p es)
 map-step p q f same [] = refl
 map-step p q f same (e ∷ es) = let ih = map-step p q f same es in let s = same e in cc
 
@@ -95,29 +96,36 @@ half-with e n w l o = record { entry = e; sent = n; window = w; life = l; overfl
 
 -- the lifetime of a half after one more use
 used-life : (g : List ℕ) (h : List Act) (e : SadEntry) (size : ℕ) →
-    life-with e.hard e.soft (installed_at g e.name h) (clock h) (octets_used g e.name h + size) (times_used g e.name h + 1) (was_soft_given g e.name h)
+    life-with e.hard e.soft (installed_at g e.name h) (clock h) (octets_used g e.name h + size) (times_used g e.name h + 1)
+        (was_soft_given g e.name h)
     ≡ counted size (clock h) (life_of g h e)
 used-life g h e size =
-    counted-life e.hard e.soft (installed_at g e.name h) (last_used g e.name h) (clock h) (octets_used g e.name h) (times_used g e.name h) size (was_soft_given g e.name h)
+    counted-life e.hard e.soft (installed_at g e.name h) (last_used g e.name h) (clock h) (octets_used g e.name h) (times_used g e.name h)
+        size (was_soft_given g e.name h)
 
 -- a half after one more number was taken
 used-half : (g : List ℕ) (h : List Act) (e : SadEntry) (n size : ℕ) →
     half-with e (sent g e.name h) (window_of e.window (numbers_taken g e.name h ++ n ∷ []))
-    (life-with e.hard e.soft (installed_at g e.name h) (clock h) (octets_used g e.name h + size) (times_used g e.name h + 1) (was_soft_given g e.name h))
+    (life-with e.hard e.soft (installed_at g e.name h) (clock h) (octets_used g e.name h + size) (times_used g e.name h + 1)
+        (was_soft_given g e.name h))
     (was_overflow_given g e.name h)
     ≡ take_number (clock h) size n (half_of g h e)
 used-half g h e n size =
-    ap (λ w. half-with e (sent g e.name h) w (life-with e.hard e.soft (installed_at g e.name h) (clock h) (octets_used g e.name h + size) (times_used g e.name h + 1) (was_soft_given g e.name h)) (was_overflow_given g e.name h))
+    ap (λ w. half-with e (sent g e.name h) w (life-with e.hard e.soft (installed_at g e.name h) (clock h) (octets_used g e.name h + size)
+        (times_used g e.name h + 1) (was_soft_given g e.name h)) (was_overflow_given g e.name h))
     (window-end e.window n (numbers_taken g e.name h))
-    ∙ ap (λ l. half-with e (sent g e.name h) (marked (window_of e.window (numbers_taken g e.name h)) n) l (was_overflow_given g e.name h)) (used-life g h e size)
+    ∙ ap (λ l. half-with e (sent g e.name h) (marked (window_of e.window (numbers_taken g e.name h)) n) l (was_overflow_given g e.name h))
+        (used-life g h e size)
 
 pub sent-split : (g f y o : List ℕ) (n : ℕ) (h : List Act) (e : SadEntry) (b : Bool) → bytes_eq f g ≡ true → bytes_eq y e.name ≡ b →
     half_of g (acts.Sent f y n o ∷ h) e ≡ sent_under y (clock h) (octets_in (Some o)) (half_of g h e)
 sent-split g f y o n h e true at own =
-    rw (at, own) (ap (λ l. half-with e (sent g e.name h + 1) (window_of e.window (numbers_taken g e.name h)) l (was_overflow_given g e.name h)) (used-life g h e (length (esp_of o))))
+    rw (at, own) (ap (λ l. half-with e (sent g e.name h + 1) (window_of e.window (numbers_taken g e.name h)) l
+        (was_overflow_given g e.name h)) (used-life g h e (length (esp_of o))))
 sent-split g f y o n h e false at own = rw (at, own) refl
 
-sent-away : (g f y o : List ℕ) (n : ℕ) (h : List Act) (e : SadEntry) → bytes_eq f g ≡ false → half_of g (acts.Sent f y n o ∷ h) e ≡ half_of g h e
+sent-away : (g f y o : List ℕ) (n : ℕ) (h : List Act) (e : SadEntry) → bytes_eq f g ≡ false
+    → half_of g (acts.Sent f y n o ∷ h) e ≡ half_of g h e
 sent-away g f y o n h e at = rw at refl
 
 pub gave-split : (g f y o : List ℕ) (n : ℕ) (h : List Act) (e : SadEntry) (b : Bool) → bytes_eq f g ≡ true → bytes_eq y e.name ≡ b →
@@ -125,7 +133,8 @@ pub gave-split : (g f y o : List ℕ) (n : ℕ) (h : List Act) (e : SadEntry) (b
 gave-split g f y o n h e true at own = rw (at, own) (used-half g h e n (octets_in (arrival g h)))
 gave-split g f y o n h e false at own = rw (at, own) refl
 
-gave-away : (g f y o : List ℕ) (n : ℕ) (h : List Act) (e : SadEntry) → bytes_eq f g ≡ false → half_of g (acts.Gave f y n o ∷ h) e ≡ half_of g h e
+gave-away : (g f y o : List ℕ) (n : ℕ) (h : List Act) (e : SadEntry) → bytes_eq f g ≡ false
+    → half_of g (acts.Gave f y n o ∷ h) e ≡ half_of g h e
 gave-away g f y o n h e at = rw at refl
 
 -- the datagram is for the half, and has a number for it, or neither
@@ -172,15 +181,19 @@ opened-split g f w h e at op = by-arrival (arrival g h) refl
     taken = greatest (numbers_taken g e.name h)
 
     by-number : (o : List ℕ) → arrival g h ≡ Some o → NumberFor e.name taken (live g h) o →
-        half_of g (acts.Drop f w ∷ h) e ≡ take_if (clock h) (octets_in (Some o)) (number_for e.name taken (live g h) (esp_of o)) (half_of g h e)
+        half_of g (acts.Drop f w ∷ h) e ≡ take_if (clock h) (octets_in (Some o)) (number_for e.name taken (live g h) (esp_of o))
+            (half_of g h e)
     by-number o q (inl p) = rw (number-is g e.name (numbers_taken g e.name h) h, at, op, q, p.0, p.1) refl
-    by-number o q (inr (n, p, r)) = rw (number-is g e.name (numbers_taken g e.name h) h, at, op, q, p, r) (used-half g h e n (octets_in (Some o)))
+    by-number o q (inr (n, p, r)) = rw (number-is g e.name (numbers_taken g e.name h) h, at, op, q, p, r)
+        (used-half g h e n (octets_in (Some o)))
 
-    by-arrival : (a : Option (List ℕ)) → arrival g h ≡ a → half_of g (acts.Drop f w ∷ h) e ≡ opened_under (live g h) a (clock h) (half_of g h e)
+    by-arrival : (a : Option (List ℕ)) → arrival g h ≡ a → half_of g (acts.Drop f w ∷ h) e ≡ opened_under (live g h) a (clock h)
+        (half_of g h e)
     by-arrival None q = rw (number-is g e.name (numbers_taken g e.name h) h, at, op, q) refl
     by-arrival (Some o) q =
         by-number o q (number-either e.name taken (live g h) o)
-        ∙ ap (λ top. take_if (clock h) (octets_in (Some o)) (number_for e.name top (live g h) (esp_of o)) (half_of g h e)) (sym (window-top e.window (numbers_taken g e.name h)))
+        ∙ ap (λ top. take_if (clock h) (octets_in (Some o)) (number_for e.name top (live g h) (esp_of o)) (half_of g h e))
+            (sym (window-top e.window (numbers_taken g e.name h)))
 
 dropped-half : (g f : List ℕ) (w : DropWhy) (h : List Act) (e : SadEntry) → (bytes_eq f g && is_opened w) ≡ false →
     half_of g (acts.Drop f w ∷ h) e ≡ half_of g h e
@@ -226,7 +239,8 @@ put-halves g f x h (e ∷ es) at away =
     let ih = put-halves g f x h es at parts.1 in
     cc
 
-gone-step : (g f : List ℕ) (w : GoneWhy) (h : List Act) (x : List ℕ) (e : SadEntry) (es : List SadEntry) (b : Bool) → bytes_eq e.name x ≡ b →
+gone-step : (g f : List ℕ) (w : GoneWhy) (h : List Act) (x : List ℕ) (e : SadEntry) (es : List SadEntry) (b : Bool) → bytes_eq e.name x ≡ b
+    →
     map (half_of g (acts.Gone f x w ∷ h)) (without x es) ≡ halves_without x (map (half_of g h) es) →
     map (half_of g (acts.Gone f x w ∷ h)) (without x (e ∷ es)) ≡ halves_without x (map (half_of g h) (e ∷ es))
 gone-step g f w h x e es true own ih = rw own ih
@@ -258,13 +272,15 @@ keeps-policy : (g f : List ℕ) (list : List SpdEntry) (h : List Act) (b : Bool)
 keeps-policy g f list h true at = rw at refl
 keeps-policy g f list h false at = rw at refl
 
-keeps-put : (g f : List ℕ) (x : SadEntry) (h : List Act) (b : Bool) → bytes_eq f g ≡ b → (bytes_eq f g ≡ true → has_half x.name (live g h) ≡ false) →
+keeps-put : (g f : List ℕ) (x : SadEntry) (h : List Act) (b : Bool) → bytes_eq f g ≡ b
+    → (bytes_eq f g ≡ true → has_half x.name (live g h) ≡ false) →
     state_of g (acts.Put f x ∷ h) ≡ did g (state_of g h) (acts.Put f x)
 keeps-put g f x h true at new =
     let m = put-halves g f x h (live g h) at (new at) in
     rw at (ap (λ hs. with_put hs (wanted_after x (state_of g h)) (state_of g h)) m)
 keeps-put g f x h false at new =
-    let m = map-same (half_of g h) (half_of g (acts.Put f x ∷ h)) (λ e. put-half g f x h e (and_left (bytes_eq f g) (bytes_eq x.name e.name) at)) (live g h) in
+    let m = map-same (half_of g h) (half_of g (acts.Put f x ∷ h))
+        (λ e. put-half g f x h e (and_left (bytes_eq f g) (bytes_eq x.name e.name) at)) (live g h) in
     rw at (ap (λ hs. with_halves hs (state_of g h)) m)
 
 keeps-gone : (g f x : List ℕ) (w : GoneWhy) (h : List Act) (b : Bool) → bytes_eq f g ≡ b →
@@ -275,7 +291,8 @@ keeps-gone g f x w h false at = rw at refl
 keeps-sent : (g f y o : List ℕ) (n : ℕ) (h : List Act) (b : Bool) → bytes_eq f g ≡ b →
     state_of g (acts.Sent f y n o ∷ h) ≡ did g (state_of g h) (acts.Sent f y n o)
 keeps-sent g f y o n h true at =
-    let m = map-step (half_of g h) (half_of g (acts.Sent f y n o ∷ h)) (sent_under y (clock h) (octets_in (Some o))) (λ e. sent-split g f y o n h e (bytes_eq y e.name) at refl) (live g h) in
+    let m = map-step (half_of g h) (half_of g (acts.Sent f y n o ∷ h)) (sent_under y (clock h) (octets_in (Some o)))
+        (λ e. sent-split g f y o n h e (bytes_eq y e.name) at refl) (live g h) in
     rw at (ap (λ hs. with_halves hs (state_of g h)) m)
 keeps-sent g f y o n h false at =
     let m = map-same (half_of g h) (half_of g (acts.Sent f y n o ∷ h)) (λ e. sent-away g f y o n h e at) (live g h) in
@@ -284,7 +301,8 @@ keeps-sent g f y o n h false at =
 keeps-gave : (g f y o : List ℕ) (n : ℕ) (h : List Act) (b : Bool) → bytes_eq f g ≡ b →
     state_of g (acts.Gave f y n o ∷ h) ≡ did g (state_of g h) (acts.Gave f y n o)
 keeps-gave g f y o n h true at =
-    let m = map-step (half_of g h) (half_of g (acts.Gave f y n o ∷ h)) (given_under y (clock h) (octets_in (arrival g h)) n) (λ e. gave-split g f y o n h e (bytes_eq y e.name) at refl) (live g h) in
+    let m = map-step (half_of g h) (half_of g (acts.Gave f y n o ∷ h)) (given_under y (clock h) (octets_in (arrival g h)) n)
+        (λ e. gave-split g f y o n h e (bytes_eq y e.name) at refl) (live g h) in
     rw at (ap (λ hs. with_halves hs (state_of g h)) m)
 keeps-gave g f y o n h false at =
     let m = map-same (half_of g h) (half_of g (acts.Gave f y n o ∷ h)) (λ e. gave-away g f y o n h e at) (live g h) in
@@ -293,11 +311,13 @@ keeps-gave g f y o n h false at =
 keeps-opened : (g f : List ℕ) (w : DropWhy) (h : List Act) → bytes_eq f g ≡ true → is_opened w ≡ true →
     state_of g (acts.Drop f w ∷ h) ≡ did g (state_of g h) (acts.Drop f w)
 keeps-opened g f w h at op =
-    let m = map-step (half_of g h) (half_of g (acts.Drop f w ∷ h)) (opened_under (live g h) (arrival g h) (clock h)) (λ e. opened-split g f w h e at op) (live g h) in
+    let m = map-step (half_of g h) (half_of g (acts.Drop f w ∷ h)) (opened_under (live g h) (arrival g h) (clock h))
+        (λ e. opened-split g f w h e at op) (live g h) in
     let k = entries-kept g h (live g h) in
     rw (at, op, k) (ap (λ hs. with_halves hs (state_of g h)) m)
 
-keeps-dropped : (g f : List ℕ) (w : DropWhy) (h : List Act) → (bytes_eq f g && is_opened w) ≡ false → state_of g (acts.Drop f w ∷ h) ≡ quiet (state_of g h)
+keeps-dropped : (g f : List ℕ) (w : DropWhy) (h : List Act) → (bytes_eq f g && is_opened w) ≡ false
+    → state_of g (acts.Drop f w ∷ h) ≡ quiet (state_of g h)
 keeps-dropped g f w h away =
     let m = map-same (half_of g h) (half_of g (acts.Drop f w ∷ h)) (λ e. dropped-half g f w h e away) (live g h) in
     ap (λ hs. with_halves hs (state_of g h)) m
@@ -308,11 +328,13 @@ keeps-drop g f w h true true at op = keeps-opened g f w h at op
 keeps-drop g f w h true false at op = rw (at, op) (keeps-dropped g f w h (and_right (bytes_eq f g) (is_opened w) op))
 keeps-drop g f w h false c at op = rw at (keeps-dropped g f w h (and_left (bytes_eq f g) (is_opened w) at))
 
-keeps-arrived : (g f o : List ℕ) (h : List Act) (b : Bool) → bytes_eq f g ≡ b → state_of g (acts.Arrived f o ∷ h) ≡ did g (state_of g h) (acts.Arrived f o)
+keeps-arrived : (g f o : List ℕ) (h : List Act) (b : Bool) → bytes_eq f g ≡ b → state_of g (acts.Arrived f o ∷ h) ≡ did g (state_of g h)
+    (acts.Arrived f o)
 keeps-arrived g f o h true at = rw at refl
 keeps-arrived g f o h false at = rw at refl
 
-keeps-opening : (g f : List ℕ) (s : ℕ) (h : List Act) (b : Bool) → bytes_eq f g ≡ b → state_of g (acts.Opened f s ∷ h) ≡ did g (state_of g h) (acts.Opened f s)
+keeps-opening : (g f : List ℕ) (s : ℕ) (h : List Act) (b : Bool) → bytes_eq f g ≡ b
+    → state_of g (acts.Opened f s ∷ h) ≡ did g (state_of g h) (acts.Opened f s)
 keeps-opening g f s h true at =
     let m = map-step (half_of g h) (half_of g (acts.Opened f s ∷ h)) hushed (λ e. opened-half g f s h e at) (live g h) in
     rw at (ap (λ hs. with_session s hs (state_of g h)) m)

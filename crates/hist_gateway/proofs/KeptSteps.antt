@@ -14,7 +14,8 @@ pub keeps-all : (g : List ℕ) (h block : List Act) → AreNewHalves g h block �
 keeps-all g h [] new = refl
 keeps-all g h (a ∷ more) new = rw (sym (keeps g h a new.0)) (keeps-all g (a ∷ h) more new.1)
 
-pub next-is : Judges → AllFit → (c : Gateway) (h : List Act) (e : GatewayEvent) → state_of c.name (after h (gw_block c h e)) ≡ next c (state_of c.name h) e
+pub next-is : Judges → AllFit → (c : Gateway) (h : List Act) (e : GatewayEvent) → state_of c.name (after h (gw_block c h e)) ≡ next c
+    (state_of c.name h) e
 next-is judges fits c h e =
     rw (acts-are judges c h e) (keeps-all c.name h (gw_block c h e) (new-halves c c.name h (gw_block c h e) (may-block fits c h e)))
 

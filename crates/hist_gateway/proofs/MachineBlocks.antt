@@ -53,11 +53,14 @@ goings-is : (g : List ℕ) (h : List Act) (es : List SadEntry) → goings_of g (
 goings-is g h [] = refl
 goings-is g h (e ∷ es) = ap (λ t. if is_reached e.hard (counts g e.name h) then acts.Gone g e.name gone.Hard ∷ t else t) (goings-is g h es)
 
-expiries-is : (g : List ℕ) (h : List Act) (es : List SadEntry) → expiries_of g (sessions.session_taken g h) (clock h) (map (half_of g h) es) ≡ expiries g h es
+expiries-is : (g : List ℕ) (h : List Act) (es : List SadEntry) → expiries_of g (sessions.session_taken g h) (clock h) (map (half_of g h) es)
+    ≡ expiries g h es
 expiries-is g h [] = refl
-expiries-is g h (e ∷ es) = ap (λ t. given_by g (sessions.session_taken g h) (expiry e.name (counts g e.name h) (event_of g h e)) ++ t) (expiries-is g h es)
+expiries-is g h (e ∷ es) = ap (λ t. given_by g (sessions.session_taken g h) (expiry e.name (counts g e.name h) (event_of g h e)) ++ t)
+    (expiries-is g h es)
 
-pub look-is : (g : List ℕ) (h : List Act) (es : List SadEntry) → look_of g (sessions.session_taken g h) (clock h) (map (half_of g h) es) ≡ look g h es
+pub look-is : (g : List ℕ) (h : List Act) (es : List SadEntry) → look_of g (sessions.session_taken g h) (clock h) (map (half_of g h) es) ≡
+    look g h es
 look-is g h es = rw (goings-is g h es, expiries-is g h es) refl
 
 -- ---- a packet from inside
@@ -77,11 +80,13 @@ newest-is : (g : List ℕ) (h : List Act) (r : ℕ) (v : Packet) (es : List SadE
 newest-is g h r v [] = refl
 newest-is g h r v (e ∷ es) = rw (newest-is g h r v es) (newest-step g h r v e (newest r v es))
 
-sends-is : (g : List ℕ) (h : List Act) (e : SadEntry) (n : ℕ) (d : List ℕ) → sends_of g (state_of g h) (half_of g h e) n d ≡ send_acts g h e n d
+sends-is : (g : List ℕ) (h : List Act) (e : SadEntry) (n : ℕ) (d : List ℕ) → sends_of g (state_of g h) (half_of g h e) n d ≡ send_acts g h e
+    n d
 sends-is g h e n d =
     let a : Act = acts.Sent g e.name n d in
     let own = sent-split g g e.name d n h e true (same-refl g) (same-refl e.name) in
-    let under : sent_under e.name (clock h) (octets_in (Some d)) (half_of g h e) ≡ send (clock h) (octets_in (Some d)) (half_of g h e) = rw (same-refl e.name) refl in
+    let under : sent_under e.name (clock h) (octets_in (Some d)) (half_of g h e) ≡ send (clock h) (octets_in (Some d)) (half_of g h e) =
+        rw (same-refl e.name) refl in
     let l = look-is g (a ∷ h) (e ∷ []) in
     let p = ap (λ x. a ∷ look_of g (sessions.session_taken g h) (clock h) (x ∷ [])) (own ∙ under) in
     sym p ∙ ap (λ t. a ∷ t) l
@@ -91,15 +96,18 @@ out-half : (g o : List ℕ) (q : ℕ) (h : List Act) (v : Packet) (p : SpdEntry)
 out-half g o q h v p None =
     ap (λ b. acts.Drop g why.NoSa ∷ unless b (tells g h (notices.Acquire p.name (flow_of v)))) (acquires-is g p.name h)
 out-half g o q h v p (Some e) =
-    ap (λ t. if nat_le q (sent g e.name h) then acts.Drop g why.SeqLimit ∷ unless (was_overflow_given g e.name h) (tells g h (notices.SeqOverflow e.name)) else t)
+    ap (λ t. if nat_le q (sent g e.name h) then acts.Drop g why.SeqLimit
+        ∷ unless (was_overflow_given g e.name h) (tells g h (notices.SeqOverflow e.name)) else t)
     (sends-is g h e (sent g e.name h + 1) (datagram e (sent g e.name h + 1) v o))
 
-out-action : (g o : List ℕ) (q : ℕ) (h : List Act) (v : Packet) (p : SpdEntry) (a : Action) → out_by_action g q (state_of g h) o v p a ≡ let_by_action g q h o v p a
+out-action : (g o : List ℕ) (q : ℕ) (h : List Act) (v : Packet) (p : SpdEntry) (a : Action)
+    → out_by_action g q (state_of g h) o v p a ≡ let_by_action g q h o v p a
 out-action g o q h v p actions.Protect = rw (newest-is g h p.reqid v (live g h)) (out-half g o q h v p (newest p.reqid v (live g h)))
 out-action g o q h v p actions.Bypass = refl
 out-action g o q h v p actions.Discard = refl
 
-out-entry : (g o : List ℕ) (q : ℕ) (h : List Act) (v : Packet) (p : Option SpdEntry) → out_by_entry g q (state_of g h) o v p ≡ let_by_entry g q h o v p
+out-entry : (g o : List ℕ) (q : ℕ) (h : List Act) (v : Packet) (p : Option SpdEntry) → out_by_entry g q (state_of g h) o v p ≡ let_by_entry
+    g q h o v p
 out-entry g o q h v None = refl
 out-entry g o q h v (Some p) = out-action g o q h v p p.action
 
@@ -118,43 +126,55 @@ let-is g o q h = out-view g o q (acts.Let g o ∷ h) (view_of o)
 abbrev pub UseAct : List ℕ → SadEntry → ℕ → Act → Type 0
 UseAct g e n a = ((p : List ℕ) × (a ≡ acts.Gave g e.name n p)) ⊎ ((w : DropWhy) × (a ≡ acts.Drop g w) × (is_opened w ≡ true))
 
-look-after : (g o : List ℕ) (h : List Act) (e : SadEntry) (n : ℕ) (a : Act) → sessions.session_taken g (a ∷ h) ≡ sessions.session_taken g h → clock (a ∷ h) ≡ clock h →
-    look_of g (sessions.session_taken g h) (clock h) (half_of g (a ∷ h) e ∷ []) ≡ look_of g (sessions.session_taken g h) (clock h) (take_number (clock h) (octets_in (Some o)) n (half_of g h e) ∷ []) →
+look-after : (g o : List ℕ) (h : List Act) (e : SadEntry) (n : ℕ) (a : Act) → sessions.session_taken g (a ∷ h) ≡ sessions.session_taken g h
+    → clock (a ∷ h) ≡ clock h →
+    look_of g (sessions.session_taken g h) (clock h) (half_of g (a ∷ h) e ∷ []) ≡ look_of g (sessions.session_taken g h) (clock h)
+        (take_number (clock h) (octets_in (Some o)) n (half_of g h e) ∷ []) →
     uses_of g (state_of g h) o (half_of g h e) n a ≡ arrive.use_acts g h e a
 look-after g o h e n a session now same =
     let l = look-is g (a ∷ h) (e ∷ []) in
-    let m : look_of g (sessions.session_taken g h) (clock h) (half_of g (a ∷ h) e ∷ []) ≡ look g (a ∷ h) (e ∷ []) = ap (λ t. look_of g t (clock h) (half_of g (a ∷ h) e ∷ [])) (sym session) ∙ (ap (λ t. look_of g (sessions.session_taken g (a ∷ h)) t (half_of g (a ∷ h) e ∷ [])) (sym now) ∙ l) in
+    let m : look_of g (sessions.session_taken g h) (clock h) (half_of g (a ∷ h) e ∷ []) ≡ look g (a ∷ h) (e ∷ []) =
+        ap (λ t. look_of g t (clock h) (half_of g (a ∷ h) e ∷ [])) (sym session)
+        ∙ (ap (λ t. look_of g (sessions.session_taken g (a ∷ h)) t (half_of g (a ∷ h) e ∷ [])) (sym now) ∙ l) in
     ap (λ t. a ∷ t) (sym same ∙ m)
 
 gave-look : (g o p : List ℕ) (h : List Act) (e : SadEntry) (n : ℕ) → arrival g h ≡ Some o →
     uses_of g (state_of g h) o (half_of g h e) n (acts.Gave g e.name n p) ≡ arrive.use_acts g h e (acts.Gave g e.name n p)
 gave-look g o p h e n came =
     let own = gave-split g g e.name p n h e true (same-refl g) (same-refl e.name) in
-    let under : given_under e.name (clock h) (octets_in (arrival g h)) n (half_of g h e) ≡ take_number (clock h) (octets_in (Some o)) n (half_of g h e) = rw (same-refl e.name, came) refl in
-    look-after g o h e n (acts.Gave g e.name n p) refl refl (ap (λ x. look_of g (sessions.session_taken g h) (clock h) (x ∷ [])) (own ∙ under))
+    let under : given_under e.name (clock h) (octets_in (arrival g h)) n (half_of g h e) ≡ take_number (clock h) (octets_in (Some o)) n
+        (half_of g h e) = rw (same-refl e.name, came) refl in
+    look-after g o h e n (acts.Gave g e.name n p) refl refl (ap (λ x. look_of g (sessions.session_taken g h) (clock h) (x ∷ [])) (own
+        ∙ under))
 
-drop-look : (g o : List ℕ) (h : List Act) (e : SadEntry) (n : ℕ) (w : DropWhy) → arrival g h ≡ Some o → is_for e.name (live g h) (Some o) ≡ true → is_opened w ≡ true →
+drop-look : (g o : List ℕ) (h : List Act) (e : SadEntry) (n : ℕ) (w : DropWhy) → arrival g h ≡ Some o
+    → is_for e.name (live g h) (Some o) ≡ true → is_opened w ≡ true →
     uses_of g (state_of g h) o (half_of g h e) n (acts.Drop g w) ≡ arrive.use_acts g h e (acts.Drop g w)
 drop-look g o h e n w came mine op = by-number (number-either e.name (half_of g h e).window.top (live g h) o)
   where
-    by-number : NumberFor e.name (half_of g h e).window.top (live g h) o → uses_of g (state_of g h) o (half_of g h e) n (acts.Drop g w) ≡ arrive.use_acts g h e (acts.Drop g w)
+    by-number : NumberFor e.name (half_of g h e).window.top (live g h) o → uses_of g (state_of g h) o (half_of g h e) n (acts.Drop g w) ≡
+        arrive.use_acts g h e (acts.Drop g w)
     by-number (inl p) = let no : true ≡ false = sym mine ∙ p.0 in cc
     by-number (inr (m, p, r)) =
         let own = opened-split g g w h e (same-refl g) op in
-        let under : opened_under (live g h) (arrival g h) (clock h) (half_of g h e) ≡ take_number (clock h) (octets_in (Some o)) m (half_of g h e) = rw (came, r) refl in
+        let under : opened_under (live g h) (arrival g h) (clock h) (half_of g h e) ≡ take_number (clock h) (octets_in (Some o)) m
+            (half_of g h e) = rw (came, r) refl in
         look-after g o h e n (acts.Drop g w) refl refl (ap (λ x. look_of g (sessions.session_taken g h) (clock h) (x ∷ [])) (own ∙ under))
 
-use-look : (g o : List ℕ) (h : List Act) (e : SadEntry) (n : ℕ) (a : Act) → arrival g h ≡ Some o → is_for e.name (live g h) (Some o) ≡ true → UseAct g e n a →
+use-look : (g o : List ℕ) (h : List Act) (e : SadEntry) (n : ℕ) (a : Act) → arrival g h ≡ Some o → is_for e.name (live g h) (Some o) ≡ true
+    → UseAct g e n a →
     uses_of g (state_of g h) o (half_of g h e) n a ≡ arrive.use_acts g h e a
 use-look g o h e n a came mine (inl (p, is)) = rw is (gave-look g o p h e n came)
 use-look g o h e n a came mine (inr (w, is, op)) = rw is (drop-look g o h e n w came mine op)
 
-use-selector : (g p : List ℕ) (e : SadEntry) (n : ℕ) (b : Bool) → UseAct g e n (if b then acts.Gave g e.name n p else acts.Drop g why.Selector)
+use-selector : (g p : List ℕ) (e : SadEntry) (n : ℕ) (b : Bool)
+    → UseAct g e n (if b then acts.Gave g e.name n p else acts.Drop g why.Selector)
 use-selector g p e n true = inl (p, refl)
 use-selector g p e n false = inr (why.Selector, refl, refl)
 
 use-version : (g p : List ℕ) (e : SadEntry) (n : ℕ) (v : Packet) (b : Bool) →
-    UseAct g e n (if b then acts.Drop g why.Inner else if holds_packet e.selector In v then acts.Gave g e.name n p else acts.Drop g why.Selector)
+    UseAct g e n (if b then acts.Drop g why.Inner else if holds_packet e.selector In v then acts.Gave g e.name n p
+        else acts.Drop g why.Selector)
 use-version g p e n v true = inr (why.Inner, refl, refl)
 use-version g p e n v false = use-selector g p e n (holds_packet e.selector In v)
 
@@ -171,12 +191,15 @@ pub use-packet : (g : List ℕ) (e : SadEntry) (n : ℕ) (p : Option esp.InnerPa
 use-packet g e n None = inr (why.Padding, refl, refl)
 use-packet g e n (Some p) = use-dummy g e n p (p.next == 59)
 
-in-text : (g o : List ℕ) (h : List Act) (e : SadEntry) (n : ℕ) (text : Option (List ℕ)) → arrival g h ≡ Some o → is_for e.name (live g h) (Some o) ≡ true →
+in-text : (g o : List ℕ) (h : List Act) (e : SadEntry) (n : ℕ) (text : Option (List ℕ)) → arrival g h ≡ Some o
+    → is_for e.name (live g h) (Some o) ≡ true →
     in_by_text g (state_of g h) o (half_of g h e) n text ≡ arrive.by_text g h e n text
 in-text g o h e n None came mine = refl
-in-text g o h e n (Some x) came mine = use-look g o h e n (arrive.by_packet g e n (esp.inner_packet x)) came mine (use-packet g e n (esp.inner_packet x))
+in-text g o h e n (Some x) came mine = use-look g o h e n (arrive.by_packet g e n (esp.inner_packet x)) came mine
+    (use-packet g e n (esp.inner_packet x))
 
-in-verdict : (g o b : List ℕ) (h : List Act) (e : SadEntry) (n : ℕ) (w : Verdict) → arrival g h ≡ Some o → is_for e.name (live g h) (Some o) ≡ true →
+in-verdict : (g o b : List ℕ) (h : List Act) (e : SadEntry) (n : ℕ) (w : Verdict) → arrival g h ≡ Some o
+    → is_for e.name (live g h) (Some o) ≡ true →
     in_by_verdict g (state_of g h) o b (half_of g h e) n w ≡ arrive.by_verdict g h b e n w
 in-verdict g o b h e n verdicts.Zero came mine = refl
 in-verdict g o b h e n verdicts.Old came mine = refl
@@ -185,10 +208,12 @@ in-verdict g o b h e n verdicts.Fresh came mine = in-text g o h e n (esp.opened 
 
 -- a window's verdict is that over all numbers taken
 abbrev pub Judges : Type 0
-Judges = (size : ℕ) (numbers_taken : List ℕ) (s : ℕ) → judged (fold marked (no_marks size) numbers_taken) s ≡ verdict_over size numbers_taken s
+Judges = (size : ℕ) (numbers_taken : List ℕ) (s : ℕ) → judged (fold marked (no_marks size) numbers_taken) s ≡ verdict_over size
+    numbers_taken s
 
 -- the found half is the one that the datagram is for
-in-found : (g o b : List ℕ) (h : List Act) (found : Option SadEntry) → Judges → arrival g h ≡ Some o → esp_of o ≡ b → by_spi (spi_of b) (live g h) ≡ found →
+in-found : (g o b : List ℕ) (h : List Act) (found : Option SadEntry) → Judges → arrival g h ≡ Some o → esp_of o ≡ b
+    → by_spi (spi_of b) (live g h) ≡ found →
     in_by_half g (state_of g h) o b (option_map (half_of g h) found) ≡ arrive.arrive_by_half g h b found
 in-found g o b h None judges came same found = refl
 in-found g o b h (Some e) judges came same found =
@@ -198,28 +223,34 @@ in-found g o b h (Some e) judges came same found =
     ∙ (ap (λ w. in_by_verdict g (state_of g h) o b (half_of g h e) n w) (judges e.window (numbers_taken g e.name h) n)
     ∙ in-verdict g o b h e n (verdict_over e.window (numbers_taken g e.name h) n) came mine)
 
-spi-step : (g : List ℕ) (h : List Act) (e : SadEntry) (found : Option SadEntry) (rest : Option Half) (b : Bool) → rest ≡ option_map (half_of g h) found →
+spi-step : (g : List ℕ) (h : List Act) (e : SadEntry) (found : Option SadEntry) (rest : Option Half) (b : Bool)
+    → rest ≡ option_map (half_of g h) found →
     (if b then Some (half_of g h e) else rest) ≡ option_map (half_of g h) (if b then Some e else found)
 spi-step g h e found rest true same = refl
 spi-step g h e found rest false same = same
 
-spi-is : (g : List ℕ) (h : List Act) (spi : ℕ) (es : List SadEntry) → half_by_spi spi (map (half_of g h) es) ≡ option_map (half_of g h) (by_spi spi es)
+spi-is : (g : List ℕ) (h : List Act) (spi : ℕ) (es : List SadEntry) → half_by_spi spi (map (half_of g h) es) ≡ option_map (half_of g h)
+    (by_spi spi es)
 spi-is g h spi [] = refl
 spi-is g h spi (e ∷ es) =
     spi-step g h e (by_spi spi es) (half_by_spi spi (map (half_of g h) es)) (is_inbound e.name && (e.spi == spi)) (spi-is g h spi es)
 
-in-esp : (g o b : List ℕ) (h : List Act) → Judges → arrival g h ≡ Some o → esp_of o ≡ b → in_esp g (state_of g h) o b ≡ arrive.esp_acts g h b
+in-esp : (g o b : List ℕ) (h : List Act) → Judges → arrival g h ≡ Some o → esp_of o ≡ b → in_esp g (state_of g h) o b ≡ arrive.esp_acts g h
+    b
 in-esp g o b h judges came same =
     ap (λ t. if nat_lt (length b) 34 then arrive.drops g why.Short else t)
-    (ap (λ x. in_by_half g (state_of g h) o b x) (spi-is g h (spi_of b) (live g h)) ∙ in-found g o b h (by_spi (spi_of b) (live g h)) judges came same refl)
+    (ap (λ x. in_by_half g (state_of g h) o b x) (spi-is g h (spi_of b) (live g h)) ∙ in-found g o b h (by_spi (spi_of b) (live g h)) judges
+        came same refl)
 
 in-view : (g o : List ℕ) (own : Addr) (h : List Act) (r : Result Packet NotPacket) → Judges → arrival g h ≡ Some o → view_of o ≡ r →
     in_by_view g own (state_of g h) o r ≡ arrive.arrive_by_view g own h o r
 in-view g o own h (Err fault) judges came seen = refl
 in-view g o own h (Ok v) judges came seen =
-    ap (λ t. if arrive.is_sealed_for own v then t else arrive.arrive_by_entry g o (first_entry (force g h) In v) ∷ []) (in-esp g o v.payload h judges came (ap payload_of seen))
+    ap (λ t. if arrive.is_sealed_for own v then t else arrive.arrive_by_entry g o (first_entry (force g h) In v) ∷ [])
+        (in-esp g o v.payload h judges came (ap payload_of seen))
 
-arrive-is : (g o : List ℕ) (own : Addr) (h : List Act) → Judges → in_by_view g own (state_of g h) o (view_of o) ≡ arrive.arrive_acts g own (acts.Arrived g o ∷ h) o
+arrive-is : (g o : List ℕ) (own : Addr) (h : List Act) → Judges → in_by_view g own (state_of g h) o (view_of o) ≡ arrive.arrive_acts g own
+    (acts.Arrived g o ∷ h) o
 unfolding arrive.arrive_acts
 arrive-is g o own h judges = in-view g o own (acts.Arrived g o ∷ h) (view_of o) judges (rw (same-refl g) refl) refl
 
@@ -229,12 +260,14 @@ clock-now : (t now : ℕ) → max (max t now) now ≡ max t now
 clock-now t now = omega arith
 
 clock-look : (g : List ℕ) (t : ℕ) (h : List Act) →
-    look_of g (sessions.session_taken g h) (max t (clock h)) (map (half_of g h) (live g h)) ≡ look g (acts.Now (max t (clock h)) ∷ h) (live g h)
+    look_of g (sessions.session_taken g h) (max t (clock h)) (map (half_of g h) (live g h)) ≡ look g (acts.Now (max t (clock h)) ∷ h)
+        (live g h)
 clock-look g t h =
     let l = look-is g (acts.Now (max t (clock h)) ∷ h) (live g h) in
     ap (λ now. look_of g (sessions.session_taken g h) now (map (half_of g h) (live g h))) (sym (clock-now t (clock h))) ∙ l
 
-clock-is : (g : List ℕ) (t : ℕ) (h : List Act) → ticks g (state_of g h) t ≡ clock_acts g (acts.Now (max t (clock h)) ∷ h) (nat_lt (clock h) t)
+clock-is : (g : List ℕ) (t : ℕ) (h : List Act) → ticks g (state_of g h) t ≡ clock_acts g (acts.Now (max t (clock h)) ∷ h)
+    (nat_lt (clock h) t)
 clock-is g t h = ap (λ x. if nat_lt (clock h) t then x else []) (clock-look g t h)
 
 -- ---- a request
@@ -244,7 +277,8 @@ row-with e c top = record { entry = e; state = record { current = c; top = top }
 
 pub row-is : (g : List ℕ) (h : List Act) (e : SadEntry) → row_from (clock h) (half_of g h e) ≡ row_of g h e
 row-is g h e =
-    ap (λ top. row-with e (counts g e.name h) (if is_inbound e.name then top else sent g e.name h)) (window-top e.window (numbers_taken g e.name h))
+    ap (λ top. row-with e (counts g e.name h) (if is_inbound e.name then top else sent g e.name h))
+        (window-top e.window (numbers_taken g e.name h))
 
 rows-are : (g : List ℕ) (h : List Act) (es : List SadEntry) → map (row_from (clock h)) (map (half_of g h) es) ≡ map (row_of g h) es
 rows-are g h [] = refl
@@ -253,7 +287,8 @@ rows-are g h (e ∷ es) = let r = row-is g h e in let ih = rows-are g h es in cc
 tree-is : (g : List ℕ) (h : List Act) → tree_from (state_of g h) ≡ tree_of g h
 tree-is g h = let r = rows-are g h (live g h) in cc
 
-handle-is : (g : List ℕ) (h : List Act) (request : Result Ask Fault) → handles g (state_of g h) request ≡ handle_acts g (sessions.session_taken g h) (requests g h + 1) h request
+handle-is : (g : List ℕ) (h : List Act) (request : Result Ask Fault) → handles g (state_of g h) request ≡ handle_acts g
+    (sessions.session_taken g h) (requests g h + 1) h request
 handle-is g h (Ok ask) = ap (λ t. reply_acts g (sessions.session_taken g h) (requests g h + 1) (reply t ask)) (tree-is g h)
 handle-is g h (Err fault) = refl
 

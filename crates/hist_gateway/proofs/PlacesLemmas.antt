@@ -33,7 +33,8 @@ apart-parts true b p = let c : false ≡ true = p in (cc, cc)
 apart-parts false true p = (refl, refl)
 apart-parts false false p = let c : false ≡ true = p in (cc, cc)
 
-pub away : (name : List ℕ) (f : Half → Half) (ys : List Half) → list_any (λ z. bytes_eq z name) (names_of ys) ≡ false → map (under name f) ys ≡ ys
+pub away : (name : List ℕ) (f : Half → Half) (ys : List Half) → list_any (λ z. bytes_eq z name) (names_of ys) ≡ false
+    → map (under name f) ys ≡ ys
 away name f [] p = refl
 away name f (y ∷ ys) p =
     let r = or_parts (bytes_eq y.entry.name name) (list_any (λ z. bytes_eq z name) (names_of ys)) p in
@@ -41,7 +42,8 @@ away name f (y ∷ ys) p =
     let ih = away name f ys r.1 in
     rw (s, ih) refl
 
-other : (name : List ℕ) (ys : List Half) (i : ℕ) (x : Half) → list_any (λ z. bytes_eq z name) (names_of ys) ≡ false → slice_get ys i ≡ Some x → bytes_eq x.entry.name name ≡ false
+other : (name : List ℕ) (ys : List Half) (i : ℕ) (x : Half) → list_any (λ z. bytes_eq z name) (names_of ys) ≡ false
+    → slice_get ys i ≡ Some x → bytes_eq x.entry.name name ≡ false
 other name [] i x p q = let c : None ≡ Some x = q in cc
 other name (y ∷ ys) zero x p q =
     let r = or_parts (bytes_eq y.entry.name name) (list_any (λ z. bytes_eq z name) (names_of ys)) p in
@@ -52,7 +54,8 @@ other name (y ∷ ys) (suc i) x p q =
     let r = or_parts (bytes_eq y.entry.name name) (list_any (λ z. bytes_eq z name) (names_of ys)) p in
     other name ys i x r.1 q
 
-pub placed : (f : Half → Half) (xs : List Half) (i : ℕ) (x : Half) → are_names_apart (names_of xs) ≡ true → slice_get xs i ≡ Some x → map (under x.entry.name f) xs ≡ changed f i xs
+pub placed : (f : Half → Half) (xs : List Half) (i : ℕ) (x : Half) → are_names_apart (names_of xs) ≡ true → slice_get xs i ≡ Some x
+    → map (under x.entry.name f) xs ≡ changed f i xs
 placed f [] i x a q = refl
 placed f (y ∷ ys) zero x a q =
     let r = apart-parts (list_any (λ z. bytes_eq z y.entry.name) (names_of ys)) (are_names_apart (names_of ys)) a in
@@ -75,7 +78,8 @@ pub given-at : (now size n i : ℕ) (x : Half) (xs : List Half) → are_names_ap
     map (given_under x.entry.name now size n) xs ≡ changed (take_number now size n) i xs
 given-at now size n i x xs a q = placed (take_number now size n) xs i x a q
 
-pub changed-as : (f k : Half → Half) (xs : List Half) (i : ℕ) (x : Half) → slice_get xs i ≡ Some x → f x ≡ k x → changed f i xs ≡ changed k i xs
+pub changed-as : (f k : Half → Half) (xs : List Half) (i : ℕ) (x : Half) → slice_get xs i ≡ Some x → f x ≡ k x
+    → changed f i xs ≡ changed k i xs
 changed-as f k [] i x q e = refl
 changed-as f k (y ∷ ys) zero x q e =
     let s : Some y ≡ Some x = q in
@@ -98,32 +102,38 @@ opened-as o now e found x p = rw p (opened-by-name o now e x (bytes_eq e.name x.
 
 pub opened-at : (o : List ℕ) (now i : ℕ) (x : Half) (xs : List Half) → are_names_apart (names_of xs) ≡ true → slice_get xs i ≡ Some x →
     by_spi (spi_of (esp_of o)) (entries_of xs) ≡ Some x.entry →
-    map (opened_under (entries_of xs) (Some o) now) xs ≡ changed (take_number now (octets_in (Some o)) (number_from x.entry x.window.top (esp_of o))) i xs
+    map (opened_under (entries_of xs) (Some o) now) xs ≡ changed
+        (take_number now (octets_in (Some o)) (number_from x.entry x.window.top (esp_of o))) i xs
 opened-at o now i x xs a q found =
-    map-as (opened_under (entries_of xs) (Some o) now) (under x.entry.name (took o now x.entry)) (λ z. opened-as o now x.entry (by_spi (spi_of (esp_of o)) (entries_of xs)) z found) xs
+    map-as (opened_under (entries_of xs) (Some o) now) (under x.entry.name (took o now x.entry))
+        (λ z. opened-as o now x.entry (by_spi (spi_of (esp_of o)) (entries_of xs)) z found) xs
     ∙ (placed (took o now x.entry) xs i x a q
     ∙ changed-as (took o now x.entry) (take_number now (octets_in (Some o)) (number_from x.entry x.window.top (esp_of o))) xs i x q refl)
 
 -- ---- notices
 
-overflow-as : (x : Half) (b : Bool) → with_overflow (b || x.overflow) (with_life (with_told x.life.is_told x.life) x) ≡ (if b then with_overflow true x else x)
+overflow-as : (x : Half) (b : Bool) → with_overflow (b || x.overflow) (with_life (with_told x.life.is_told x.life) x) ≡
+    (if b then with_overflow true x else x)
 overflow-as x true = refl
 overflow-as x false = refl
 
 pub overflow-at : (i : ℕ) (x : Half) (xs : List Half) → are_names_apart (names_of xs) ≡ true → slice_get xs i ≡ Some x →
     map (note (notices.SeqOverflow x.entry.name)) xs ≡ changed (with_overflow true) i xs
 overflow-at i x xs a q =
-    map-as (note (notices.SeqOverflow x.entry.name)) (under x.entry.name (with_overflow true)) (λ z. overflow-as z (bytes_eq x.entry.name z.entry.name)) xs
+    map-as (note (notices.SeqOverflow x.entry.name)) (under x.entry.name (with_overflow true))
+        (λ z. overflow-as z (bytes_eq x.entry.name z.entry.name)) xs
     ∙ placed (with_overflow true) xs i x a q
 
-pub soft-as : (x : Half) (b : Bool) → with_overflow x.overflow (with_life (with_told (b || x.life.is_told) x.life) x) ≡ (if b then softly_told x else x)
+pub soft-as : (x : Half) (b : Bool) → with_overflow x.overflow (with_life (with_told (b || x.life.is_told) x.life) x) ≡
+    (if b then softly_told x else x)
 soft-as x true = refl
 soft-as x false = refl
 
 pub soft-at : (counts : Limits) (i : ℕ) (x : Half) (xs : List Half) → are_names_apart (names_of xs) ≡ true → slice_get xs i ≡ Some x →
     map (note (notices.Expire x.entry.name true counts)) xs ≡ changed softly_told i xs
 soft-at counts i x xs a q =
-    map-as (note (notices.Expire x.entry.name true counts)) (under x.entry.name softly_told) (λ z. soft-as z (bytes_eq x.entry.name z.entry.name)) xs
+    map-as (note (notices.Expire x.entry.name true counts)) (under x.entry.name softly_told)
+        (λ z. soft-as z (bytes_eq x.entry.name z.entry.name)) xs
     ∙ placed softly_told xs i x a q
 
 pub hard-at : (name : List ℕ) (counts : Limits) (xs : List Half) → map (note (notices.Expire name false counts)) xs ≡ xs

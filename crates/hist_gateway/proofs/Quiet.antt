@@ -29,28 +29,34 @@ use Rattle.hist_gateway.specs.Block.{Gateway, GatewayEvent, Let, Arrive, Clock, 
 use Rattle.hist_gateway.specs.State.{GatewayState, did_all, quiet}
 use Rattle.hist_gateway.specs.Machine.{acts_of, in_by_half, in_by_text, in_by_verdict, in_by_view, in_esp, next, out_by_action, out_by_entry, out_by_half, out_by_view, tree_from}
 
-out-half : (g o : List ℕ) (q : ℕ) (s : GatewayState) (v : Packet) (p : SpdEntry) (found : Option Half) → out_by_half g q (quiet s) o v p found ≡ out_by_half g q s o v p found
+out-half : (g o : List ℕ) (q : ℕ) (s : GatewayState) (v : Packet) (p : SpdEntry) (found : Option Half)
+    → out_by_half g q (quiet s) o v p found ≡ out_by_half g q s o v p found
 out-half g o q s v p None = refl
 out-half g o q s v p (Some x) = refl
 
-out-action : (g o : List ℕ) (q : ℕ) (s : GatewayState) (v : Packet) (p : SpdEntry) (a : Action) → out_by_action g q (quiet s) o v p a ≡ out_by_action g q s o v p a
+out-action : (g o : List ℕ) (q : ℕ) (s : GatewayState) (v : Packet) (p : SpdEntry) (a : Action)
+    → out_by_action g q (quiet s) o v p a ≡ out_by_action g q s o v p a
 out-action g o q s v p actions.Protect = out-half g o q s v p (newest_half p.reqid v s.halves)
 out-action g o q s v p actions.Bypass = refl
 out-action g o q s v p actions.Discard = refl
 
-out-entry : (g o : List ℕ) (q : ℕ) (s : GatewayState) (v : Packet) (p : Option SpdEntry) → out_by_entry g q (quiet s) o v p ≡ out_by_entry g q s o v p
+out-entry : (g o : List ℕ) (q : ℕ) (s : GatewayState) (v : Packet) (p : Option SpdEntry) → out_by_entry g q (quiet s) o v p ≡ out_by_entry g
+    q s o v p
 out-entry g o q s v None = refl
 out-entry g o q s v (Some p) = out-action g o q s v p p.action
 
 out-view : (g o : List ℕ) (q : ℕ) (s : GatewayState) (r : Result Packet NotPacket) → out_by_view g q (quiet s) o r ≡ out_by_view g q s o r
 out-view g o q s (Err fault) = refl
-out-view g o q s (Ok v) = ap (λ t. if nat_lt 65000 (length o) then acts.Drop g why.TooLong ∷ [] else t) (out-entry g o q s v (first_entry s.spd Out v))
+out-view g o q s (Ok v) = ap (λ t. if nat_lt 65000 (length o) then acts.Drop g why.TooLong ∷ [] else t)
+    (out-entry g o q s v (first_entry s.spd Out v))
 
-in-text : (g o : List ℕ) (s : GatewayState) (x : Half) (n : ℕ) (text : Option (List ℕ)) → in_by_text g (quiet s) o x n text ≡ in_by_text g s o x n text
+in-text : (g o : List ℕ) (s : GatewayState) (x : Half) (n : ℕ) (text : Option (List ℕ)) → in_by_text g (quiet s) o x n text ≡ in_by_text g s
+    o x n text
 in-text g o s x n None = refl
 in-text g o s x n (Some text) = refl
 
-in-verdict : (g o b : List ℕ) (s : GatewayState) (x : Half) (n : ℕ) (v : Verdict) → in_by_verdict g (quiet s) o b x n v ≡ in_by_verdict g s o b x n v
+in-verdict : (g o b : List ℕ) (s : GatewayState) (x : Half) (n : ℕ) (v : Verdict) → in_by_verdict g (quiet s) o b x n v ≡ in_by_verdict g s
+    o b x n v
 in-verdict g o b s x n verdicts.Zero = refl
 in-verdict g o b s x n verdicts.Old = refl
 in-verdict g o b s x n verdicts.Seen = refl
@@ -61,11 +67,14 @@ in-half g o b s None = refl
 in-half g o b s (Some x) = let n : ℕ = number_from x.entry x.window.top b in in-verdict g o b s x n (judged x.window n)
 
 in-octets : (g o b : List ℕ) (s : GatewayState) → in_esp g (quiet s) o b ≡ in_esp g s o b
-in-octets g o b s = ap (λ t. if nat_lt (length b) 34 then arrive.drops g why.Short else t) (in-half g o b s (half_by_spi (spi_of b) s.halves))
+in-octets g o b s = ap (λ t. if nat_lt (length b) 34 then arrive.drops g why.Short else t)
+    (in-half g o b s (half_by_spi (spi_of b) s.halves))
 
-in-view : (g o : List ℕ) (own : Addr) (s : GatewayState) (r : Result Packet NotPacket) → in_by_view g own (quiet s) o r ≡ in_by_view g own s o r
+in-view : (g o : List ℕ) (own : Addr) (s : GatewayState) (r : Result Packet NotPacket) → in_by_view g own (quiet s) o r ≡ in_by_view g own s
+    o r
 in-view g o own s (Err fault) = refl
-in-view g o own s (Ok v) = ap (λ t. if arrive.is_sealed_for own v then t else arrive.arrive_by_entry g o (first_entry s.spd In v) ∷ []) (in-octets g o v.payload s)
+in-view g o own s (Ok v) = ap (λ t. if arrive.is_sealed_for own v then t else arrive.arrive_by_entry g o (first_entry s.spd In v) ∷ [])
+    (in-octets g o v.payload s)
 
 pub acts-quiet : (c : Gateway) (s : GatewayState) (e : GatewayEvent) → acts_of c (quiet s) e ≡ acts_of c s e
 acts-quiet c s (Let o) = ap (λ t. acts.Let c.name o ∷ t) (out-view c.name o c.seq_last s (view_of o))
@@ -76,17 +85,20 @@ acts-quiet c s (Handle (Err fault)) = refl
 acts-quiet c s Session_taken = refl
 
 done-change : (g : List ℕ) (s : GatewayState) (t k : ℕ) (r : Outcome) (change : Change) →
-    did_all g (quiet s) (change_acts g r change ++ acts.Handled g t k (answer_of r) ∷ []) ≡ did_all g s (change_acts g r change ++ acts.Handled g t k (answer_of r) ∷ [])
+    did_all g (quiet s) (change_acts g r change ++ acts.Handled g t k (answer_of r) ∷ []) ≡ did_all g s (change_acts g r change
+        ++ acts.Handled g t k (answer_of r) ∷ [])
 done-change g s t k r changes.Nothing = refl
 done-change g s t k r changes.Spd = refl
 done-change g s t k r (changes.Put e) = refl
 done-change g s t k r (changes.Gone name) = refl
 
-done-quiet : (c : Gateway) (s : GatewayState) (e : GatewayEvent) → did_all c.name (quiet s) (acts_of c s e) ≡ did_all c.name s (acts_of c s e)
+done-quiet : (c : Gateway) (s : GatewayState) (e : GatewayEvent) → did_all c.name (quiet s) (acts_of c s e) ≡ did_all c.name s
+    (acts_of c s e)
 done-quiet c s (Let o) = refl
 done-quiet c s (Arrive o) = refl
 done-quiet c s (Clock t) = refl
-done-quiet c s (Handle (Ok ask)) = done-change c.name s s.session (s.requests + 1) (reply (tree_from s) ask) (reply (tree_from s) ask).change
+done-quiet c s (Handle (Ok ask)) = done-change c.name s s.session (s.requests + 1) (reply (tree_from s) ask)
+    (reply (tree_from s) ask).change
 done-quiet c s (Handle (Err fault)) = refl
 done-quiet c s Session_taken = refl
 

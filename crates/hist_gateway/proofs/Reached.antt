@@ -60,7 +60,8 @@ abbrev InList : SadEntry → List SadEntry → Type 0
 InList e [] = ⊥
 InList e (x ∷ xs) = (x ≡ e) ⊎ InList e xs
 
-newer-in : (r : ℕ) (v : Packet) (x e : SadEntry) (found : Option SadEntry) (es : List SadEntry) → (found ≡ Some e → InList e es) → newer r v x found ≡ Some e → InList e (x ∷ es)
+newer-in : (r : ℕ) (v : Packet) (x e : SadEntry) (found : Option SadEntry) (es : List SadEntry) → (found ≡ Some e → InList e es)
+    → newer r v x found ≡ Some e → InList e (x ∷ es)
 newer-in r v x e (Some y) es ih t = inr (ih t)
 newer-in r v x e None es ih t = by-seal (may_seal r v x) t
   where
@@ -72,7 +73,8 @@ newest-in : (r : ℕ) (v : Packet) (e : SadEntry) (es : List SadEntry) → newes
 newest-in r v e [] t = cc
 newest-in r v e (x ∷ es) t = newer-in r v x e (newest r v es) es (λ s. newest-in r v e es s) t
 
-spi-step : (x e : SadEntry) (found : Option SadEntry) (es : List SadEntry) (b : Bool) → (found ≡ Some e → InList e es) → (if b then Some x else found) ≡ Some e → InList e (x ∷ es)
+spi-step : (x e : SadEntry) (found : Option SadEntry) (es : List SadEntry) (b : Bool) → (found ≡ Some e → InList e es)
+    → (if b then Some x else found) ≡ Some e → InList e (x ∷ es)
 spi-step x e found es true ih t = let same : x ≡ e = cc in inl same
 spi-step x e found es false ih t = inr (ih t)
 
@@ -93,15 +95,18 @@ other-name y x z a e = subst (λ w. bytes_eq z w ≡ false) e a
 
 away-name : (e y : SadEntry) (es : List SadEntry) → InList e es → has_half y.name es ≡ false → bytes_eq e.name y.name ≡ false
 away-name e y [] i a = absurd i
-away-name e y (z ∷ es) (inl same) a = subst (λ w. bytes_eq w.name y.name ≡ false) same (or_parts (bytes_eq z.name y.name) (has_half y.name es) a).0
+away-name e y (z ∷ es) (inl same) a =
+    subst (λ w. bytes_eq w.name y.name ≡ false) same (or_parts (bytes_eq z.name y.name) (has_half y.name es) a).0
 away-name e y (z ∷ es) (inr i) a = away-name e y es i (or_parts (bytes_eq z.name y.name) (has_half y.name es) a).1
 
-only-one : (x : List ℕ) (p : SadEntry → Bool) → OfName x p → (e : SadEntry) (es : List SadEntry) → are_apart es ≡ true → InList e es → bytes_eq e.name x ≡ true → list_any p es ≡ p e
+only-one : (x : List ℕ) (p : SadEntry → Bool) → OfName x p → (e : SadEntry) (es : List SadEntry) → are_apart es ≡ true → InList e es
+    → bytes_eq e.name x ≡ true → list_any p es ≡ p e
 only-one x p own e [] a i n = absurd i
 only-one x p own e (y ∷ es) a (inl same) n =
     let r = and_parts (not (has_half y.name es)) (are_apart es) a in
     let name : y.name ≡ x = ap (λ z. z.name) same ∙ same-is e.name x n in
-    let rest : list_any p es ≡ false = others-not x p own es (subst (λ z. has_half z es ≡ false) name (not-true (has_half y.name es) r.0)) in
+    let rest : list_any p es ≡ false = others-not x p own es (subst (λ z. has_half z es ≡ false) name (not-true (has_half y.name es) r.0))
+        in
     ap (λ z. p y || z) rest ∙ (or-false (p y) ∙ ap p same)
 only-one x p own e (y ∷ es) a (inr i) n =
     let r = and_parts (not (has_half y.name es)) (are_apart es) a in
@@ -109,7 +114,8 @@ only-one x p own e (y ∷ es) a (inr i) n =
     let other : bytes_eq y.name x ≡ false = other-name e.name x y.name (same-sym y.name e.name ∙ away) (same-is e.name x n) in
     ap (λ z. z || list_any p es) (own y other) ∙ only-one x p own e es r.1 i n
 
-one-of-name : (x : List ℕ) (p : SadEntry → Bool) → OfName x p → (e : SadEntry) (es : List SadEntry) → are_apart es ≡ true → InList e es → (b : Bool) → bytes_eq e.name x ≡ b → p e ≡ (b && list_any p es)
+one-of-name : (x : List ℕ) (p : SadEntry → Bool) → OfName x p → (e : SadEntry) (es : List SadEntry) → are_apart es ≡ true → InList e es
+    → (b : Bool) → bytes_eq e.name x ≡ b → p e ≡ (b && list_any p es)
 one-of-name x p own e es a i true n = sym (only-one x p own e es a i n)
 one-of-name x p own e es a i false n = own e n
 
@@ -137,31 +143,39 @@ Agrees p reaches g x h xs = list_any p xs ≡ is_reached_in reaches g x h xs
 
 -- ---- the acts of a look are none after which a half is looked at
 
-idle-step : (reaches : List Act → SadEntry → Bool) (g x : List ℕ) (k : List Act) (e : SadEntry) (going rest : List Act) (b : Bool) → ((k : List Act) → is_reached_in reaches g x k (going ++ rest) ≡ false) →
+idle-step : (reaches : List Act → SadEntry → Bool) (g x : List ℕ) (k : List Act) (e : SadEntry) (going rest : List Act) (b : Bool)
+    → ((k : List Act) → is_reached_in reaches g x k (going ++ rest) ≡ false) →
     is_reached_in reaches g x k ((if b then acts.Gone g e.name gone.Hard ∷ going else going) ++ rest) ≡ false
 idle-step reaches g x k e going rest true ih = ih (acts.Gone g e.name gone.Hard ∷ k)
 idle-step reaches g x k e going rest false ih = ih k
 
-given-idle : (reaches : List Act → SadEntry → Bool) (g x : List ℕ) (k : List Act) (s : ℕ) (ns : List Notice) (rest : List Act) → ((k : List Act) → is_reached_in reaches g x k rest ≡ false) → is_reached_in reaches g x k (given_by g s ns ++ rest) ≡ false
+given-idle : (reaches : List Act → SadEntry → Bool) (g x : List ℕ) (k : List Act) (s : ℕ) (ns : List Notice) (rest : List Act)
+    → ((k : List Act) → is_reached_in reaches g x k rest ≡ false) → is_reached_in reaches g x k (given_by g s ns ++ rest) ≡ false
 given-idle reaches g x k s [] rest ih = ih k
 given-idle reaches g x k s (n ∷ ns) rest ih = given-idle reaches g x (acts.Notice g s n ∷ k) s ns rest ih
 
-expiries-idle : (reaches : List Act → SadEntry → Bool) (g x : List ℕ) (k h : List Act) (es : List SadEntry) → is_reached_in reaches g x k (expiries g h es) ≡ false
+expiries-idle : (reaches : List Act → SadEntry → Bool) (g x : List ℕ) (k h : List Act) (es : List SadEntry)
+    → is_reached_in reaches g x k (expiries g h es) ≡ false
 expiries-idle reaches g x k h [] = refl
 expiries-idle reaches g x k h (e ∷ es) =
-    given-idle reaches g x k (sessions.session_taken g h) (expiry e.name (counts g e.name h) (event_of g h e)) (expiries g h es) (λ k. expiries-idle reaches g x k h es)
+    given-idle reaches g x k (sessions.session_taken g h) (expiry e.name (counts g e.name h) (event_of g h e)) (expiries g h es)
+        (λ k. expiries-idle reaches g x k h es)
 
-goings-idle : (reaches : List Act → SadEntry → Bool) (g x : List ℕ) (k h : List Act) (es : List SadEntry) (rest : List Act) → ((k : List Act) → is_reached_in reaches g x k rest ≡ false) → is_reached_in reaches g x k (goings g h es ++ rest) ≡ false
+goings-idle : (reaches : List Act → SadEntry → Bool) (g x : List ℕ) (k h : List Act) (es : List SadEntry) (rest : List Act)
+    → ((k : List Act) → is_reached_in reaches g x k rest ≡ false) → is_reached_in reaches g x k (goings g h es ++ rest) ≡ false
 goings-idle reaches g x k h [] rest ih = ih k
-goings-idle reaches g x k h (e ∷ es) rest ih = idle-step reaches g x k e (goings g h es) rest (is_reached e.hard (counts g e.name h)) (λ k. goings-idle reaches g x k h es rest ih)
+goings-idle reaches g x k h (e ∷ es) rest ih = idle-step reaches g x k e (goings g h es) rest (is_reached e.hard (counts g e.name h))
+    (λ k. goings-idle reaches g x k h es rest ih)
 
-look-idle : (reaches : List Act → SadEntry → Bool) (g x : List ℕ) (k h : List Act) (es : List SadEntry) → is_reached_in reaches g x k (look g h es) ≡ false
+look-idle : (reaches : List Act → SadEntry → Bool) (g x : List ℕ) (k h : List Act) (es : List SadEntry)
+    → is_reached_in reaches g x k (look g h es) ≡ false
 look-idle reaches g x k h es = goings-idle reaches g x k h es (expiries g h es) (λ k. expiries-idle reaches g x k h es)
 
 -- ---- a use, and what isn't one
 
 -- a use of a half of this list is looked at
-use-agrees : (g x : List ℕ) (p : Act → Bool) (reaches : List Act → SadEntry → Bool) → IsTold g x p reaches → (a : Act) (h : List Act) (e : SadEntry) → p a ≡ false → is_looked_at g x a h ≡ bytes_eq e.name x →
+use-agrees : (g x : List ℕ) (p : Act → Bool) (reaches : List Act → SadEntry → Bool) → IsTold g x p reaches
+    → (a : Act) (h : List Act) (e : SadEntry) → p a ≡ false → is_looked_at g x a h ≡ bytes_eq e.name x →
     are_apart (live g h) ≡ true → InList e (live g h) → Agrees p reaches g x h (a ∷ look g (a ∷ h) (e ∷ []))
 use-agrees g x p reaches is a h e quiet used apart i =
     let k : List Act = a ∷ h in
@@ -174,7 +188,8 @@ use-agrees g x p reaches is a h e quiet used apart i =
     ∙ ap (λ z. (is_looked_at g x a h && list_any (reaches k) (live g h)) || z) (sym (look-idle reaches g x k k (e ∷ []))))))))
 
 -- one act that isn't looked after, before others
-idle-agrees : (g x : List ℕ) (p : Act → Bool) (reaches : List Act → SadEntry → Bool) (a : Act) (h more : List Act) → p a ≡ false → is_looked_at g x a h ≡ false → Agrees p reaches g x (a ∷ h) more → Agrees p reaches g x h (a ∷ more)
+idle-agrees : (g x : List ℕ) (p : Act → Bool) (reaches : List Act → SadEntry → Bool) (a : Act) (h more : List Act) → p a ≡ false
+    → is_looked_at g x a h ≡ false → Agrees p reaches g x (a ∷ h) more → Agrees p reaches g x h (a ∷ more)
 idle-agrees g x p reaches a h more quiet idle rest =
     ap (λ z. z || list_any p more) quiet
     ∙ (rest ∙ ap (λ z. (z && list_any (reaches (a ∷ h)) (live g h)) || is_reached_in reaches g x (a ∷ h) more) (sym idle))
@@ -184,17 +199,21 @@ let-idle : (g x f o : List ℕ) (w : DropWhy) (h : List Act) → is_looked_at g 
 let-idle g x f o w h = and-false (bytes_eq g g && is_opened w)
 
 closed-idle : (g x : List ℕ) (w : DropWhy) (h : List Act) → is_opened w ≡ false → is_looked_at g x (acts.Drop g w) h ≡ false
-closed-idle g x w h e = ap (λ z. (bytes_eq g g && z) && is_for x (live g h) (arrival g h)) e ∙ ap (λ z. z && is_for x (live g h) (arrival g h)) (and-false (bytes_eq g g))
+closed-idle g x w h e = ap (λ z. (bytes_eq g g && z) && is_for x (live g h) (arrival g h)) e
+    ∙ ap (λ z. z && is_for x (live g h) (arrival g h)) (and-false (bytes_eq g g))
 
-unless-agrees : (g x : List ℕ) (p : Act → Bool) (reaches : List Act → SadEntry → Bool) (b : Bool) (h k : List Act) (n : Notice) → p (acts.Notice g (sessions.session_taken g k) n) ≡ false → Agrees p reaches g x h (unless b (tells g k n))
+unless-agrees : (g x : List ℕ) (p : Act → Bool) (reaches : List Act → SadEntry → Bool) (b : Bool) (h k : List Act) (n : Notice)
+    → p (acts.Notice g (sessions.session_taken g k) n) ≡ false → Agrees p reaches g x h (unless b (tells g k n))
 unless-agrees g x p reaches true h k n e = refl
 unless-agrees g x p reaches false h k n e = ap (λ z. z || false) e
 
 -- ---- a packet from inside
 
-let-agrees : (c : Gateway) (x : List ℕ) (p : Act → Bool) (reaches : List Act → SadEntry → Bool) (h : List Act) (o : List ℕ) → IsTold c.name x p reaches → are_apart (live c.name h) ≡ true → Agrees p reaches c.name x h (gw_block c h (Let o))
+let-agrees : (c : Gateway) (x : List ℕ) (p : Act → Bool) (reaches : List Act → SadEntry → Bool) (h : List Act) (o : List ℕ)
+    → IsTold c.name x p reaches → are_apart (live c.name h) ≡ true → Agrees p reaches c.name x h (gw_block c h (Let o))
 unfolding let_acts
-let-agrees c x p reaches h o is apart = idle-agrees c.name x p reaches (acts.Let c.name o) h (let_by_view c.name c.seq_last past o (view_of o)) (is.plain (acts.Let c.name o) refl) refl (by-view (view_of o))
+let-agrees c x p reaches h o is apart = idle-agrees c.name x p reaches (acts.Let c.name o) h
+    (let_by_view c.name c.seq_last past o (view_of o)) (is.plain (acts.Let c.name o) refl) refl (by-view (view_of o))
   where
     g : List ℕ
     g = c.name
@@ -202,22 +221,29 @@ let-agrees c x p reaches h o is apart = idle-agrees c.name x p reaches (acts.Let
     past : List Act
     past = acts.Let c.name o ∷ h
 
-    dropped : (w : DropWhy) (more : List Act) → Agrees p reaches g x (acts.Drop g w ∷ past) more → Agrees p reaches g x past (acts.Drop g w ∷ more)
+    dropped : (w : DropWhy) (more : List Act) → Agrees p reaches g x (acts.Drop g w ∷ past) more
+        → Agrees p reaches g x past (acts.Drop g w ∷ more)
     dropped w more rest = idle-agrees g x p reaches (acts.Drop g w) past more (is.plain (acts.Drop g w) refl) (let-idle g x g o w h) rest
 
     by-number : (v : Packet) (e : SadEntry) (b : Bool) → InList e (live g h) →
-        Agrees p reaches g x past (if b then acts.Drop g why.SeqLimit ∷ unless (was_overflow_given g e.name h) (tells g past (notices.SeqOverflow e.name)) else send_acts g past e (sent g e.name h + 1) (datagram e (sent g e.name h + 1) v o))
+        Agrees p reaches g x past (if b then acts.Drop g why.SeqLimit
+            ∷ unless (was_overflow_given g e.name h) (tells g past (notices.SeqOverflow e.name))
+            else send_acts g past e (sent g e.name h + 1) (datagram e (sent g e.name h + 1) v o))
     by-number v e true i =
         dropped why.SeqLimit (unless (was_overflow_given g e.name h) (tells g past (notices.SeqOverflow e.name)))
-        (unless-agrees g x p reaches (was_overflow_given g e.name h) (acts.Drop g why.SeqLimit ∷ past) past (notices.SeqOverflow e.name) (is.plain (acts.Notice g (sessions.session_taken g past) (notices.SeqOverflow e.name)) refl))
+        (unless-agrees g x p reaches (was_overflow_given g e.name h) (acts.Drop g why.SeqLimit ∷ past) past (notices.SeqOverflow e.name)
+            (is.plain (acts.Notice g (sessions.session_taken g past) (notices.SeqOverflow e.name)) refl))
     by-number v e false i =
         let n : ℕ = sent g e.name h + 1 in
-        use-agrees g x p reaches is (acts.Sent g e.name n (datagram e n v o)) past e (is.plain (acts.Sent g e.name n (datagram e n v o)) refl) (ap (λ z. z && bytes_eq e.name x) (same-refl g)) apart i
+        use-agrees g x p reaches is (acts.Sent g e.name n (datagram e n v o)) past e (is.plain (acts.Sent g e.name n (datagram e n v o))
+            refl) (ap (λ z. z && bytes_eq e.name x) (same-refl g)) apart i
 
-    by-half : (v : Packet) (q : SpdEntry) (found : Option SadEntry) → newest q.reqid v (live g h) ≡ found → Agrees p reaches g x past (let_by_half g c.seq_last past o v q found)
+    by-half : (v : Packet) (q : SpdEntry) (found : Option SadEntry) → newest q.reqid v (live g h) ≡ found
+        → Agrees p reaches g x past (let_by_half g c.seq_last past o v q found)
     by-half v q None e =
         dropped why.NoSa (unless (does_acquire_stand g q.name h) (tells g past (notices.Acquire q.name (flow_of v))))
-        (unless-agrees g x p reaches (does_acquire_stand g q.name h) (acts.Drop g why.NoSa ∷ past) past (notices.Acquire q.name (flow_of v)) (is.plain (acts.Notice g (sessions.session_taken g past) (notices.Acquire q.name (flow_of v))) refl))
+        (unless-agrees g x p reaches (does_acquire_stand g q.name h) (acts.Drop g why.NoSa ∷ past) past (notices.Acquire q.name (flow_of v))
+            (is.plain (acts.Notice g (sessions.session_taken g past) (notices.Acquire q.name (flow_of v))) refl))
     by-half v q (Some e) n = by-number v e (nat_le c.seq_last (sent g e.name h)) (newest-in q.reqid v e (live g h) n)
 
     by-action : (v : Packet) (q : SpdEntry) (d : Action) → Agrees p reaches g x past (let_by_action g c.seq_last past o v q d)
@@ -229,7 +255,8 @@ let-agrees c x p reaches h o is apart = idle-agrees c.name x p reaches (acts.Let
     by-entry v None = dropped why.NoPolicy [] refl
     by-entry v (Some q) = by-action v q q.action
 
-    by-length : (v : Packet) (b : Bool) → Agrees p reaches g x past (if b then acts.Drop g why.TooLong ∷ [] else let_by_entry g c.seq_last past o v (first_entry (force g h) Out v))
+    by-length : (v : Packet) (b : Bool) → Agrees p reaches g x past (if b then acts.Drop g why.TooLong
+        ∷ [] else let_by_entry g c.seq_last past o v (first_entry (force g h) Out v))
     by-length v true = dropped why.TooLong [] refl
     by-length v false = by-entry v (first_entry (force g h) Out v)
 
@@ -243,17 +270,21 @@ fault-closed : (fault : NotPacket) → is_opened (fault_why fault) ≡ false
 fault-closed faults.Fragment = refl
 fault-closed f = refl
 
-use-quiet : (g x : List ℕ) (p : Act → Bool) (reaches : List Act → SadEntry → Bool) → IsTold g x p reaches → (e : SadEntry) (n : ℕ) (a : Act) → UseAct g e n a → p a ≡ false
+use-quiet : (g x : List ℕ) (p : Act → Bool) (reaches : List Act → SadEntry → Bool) → IsTold g x p reaches → (e : SadEntry) (n : ℕ) (a : Act)
+    → UseAct g e n a → p a ≡ false
 use-quiet g x p reaches is e n a (inl (q, same)) = ap p same ∙ is.plain (acts.Gave g e.name n q) refl
 use-quiet g x p reaches is e n a (inr (w, same, op)) = ap p same ∙ is.plain (acts.Drop g w) refl
 
-use-looked : (g x o : List ℕ) (h : List Act) (e : SadEntry) (n : ℕ) (a : Act) → by_spi (spi_of (esp_of o)) (live g h) ≡ Some e → UseAct g e n a → is_looked_at g x a (acts.Arrived g o ∷ h) ≡ bytes_eq e.name x
+use-looked : (g x o : List ℕ) (h : List Act) (e : SadEntry) (n : ℕ) (a : Act) → by_spi (spi_of (esp_of o)) (live g h) ≡ Some e
+    → UseAct g e n a → is_looked_at g x a (acts.Arrived g o ∷ h) ≡ bytes_eq e.name x
 use-looked g x o h e n a found (inl (q, same)) = rw same (ap (λ z. z && bytes_eq e.name x) (same-refl g))
 use-looked g x o h e n a found (inr (w, same, op)) = rw (same, op, same-refl g, found) refl
 
-arrive-agrees : (c : Gateway) (x : List ℕ) (p : Act → Bool) (reaches : List Act → SadEntry → Bool) (h : List Act) (o : List ℕ) → IsTold c.name x p reaches → are_apart (live c.name h) ≡ true → Agrees p reaches c.name x h (gw_block c h (Arrive o))
+arrive-agrees : (c : Gateway) (x : List ℕ) (p : Act → Bool) (reaches : List Act → SadEntry → Bool) (h : List Act) (o : List ℕ)
+    → IsTold c.name x p reaches → are_apart (live c.name h) ≡ true → Agrees p reaches c.name x h (gw_block c h (Arrive o))
 unfolding arrive.arrive_acts
-arrive-agrees c x p reaches h o is apart = idle-agrees c.name x p reaches (acts.Arrived c.name o) h (arrive.arrive_by_view c.name c.address past o (view_of o)) (is.plain (acts.Arrived c.name o) refl) refl (by-view (view_of o) refl)
+arrive-agrees c x p reaches h o is apart = idle-agrees c.name x p reaches (acts.Arrived c.name o) h
+    (arrive.arrive_by_view c.name c.address past o (view_of o)) (is.plain (acts.Arrived c.name o) refl) refl (by-view (view_of o) refl)
   where
     g : List ℕ
     g = c.name
@@ -261,32 +292,41 @@ arrive-agrees c x p reaches h o is apart = idle-agrees c.name x p reaches (acts.
     past : List Act
     past = acts.Arrived c.name o ∷ h
 
-    dropped : (w : DropWhy) (more : List Act) → is_opened w ≡ false → Agrees p reaches g x (acts.Drop g w ∷ past) more → Agrees p reaches g x past (acts.Drop g w ∷ more)
-    dropped w more closed rest = idle-agrees g x p reaches (acts.Drop g w) past more (is.plain (acts.Drop g w) refl) (closed-idle g x w past closed) rest
+    dropped : (w : DropWhy) (more : List Act) → is_opened w ≡ false → Agrees p reaches g x (acts.Drop g w ∷ past) more
+        → Agrees p reaches g x past (acts.Drop g w ∷ more)
+    dropped w more closed rest = idle-agrees g x p reaches (acts.Drop g w) past more (is.plain (acts.Drop g w) refl)
+        (closed-idle g x w past closed) rest
 
-    by-text : (e : SadEntry) (n : ℕ) (t : Option (List ℕ)) → by_spi (spi_of (esp_of o)) (live g h) ≡ Some e → Agrees p reaches g x past (arrive.by_text g past e n t)
+    by-text : (e : SadEntry) (n : ℕ) (t : Option (List ℕ)) → by_spi (spi_of (esp_of o)) (live g h) ≡ Some e
+        → Agrees p reaches g x past (arrive.by_text g past e n t)
     by-text e n None f = dropped why.Auth [] refl refl
     by-text e n (Some t) f =
         let a : Act = arrive.by_packet g e n (esp.inner_packet t) in
         let u = use-packet g e n (esp.inner_packet t) in
-        use-agrees g x p reaches is a past e (use-quiet g x p reaches is e n a u) (use-looked g x o h e n a f u) apart (spi-in (spi_of (esp_of o)) e (live g h) f)
+        use-agrees g x p reaches is a past e (use-quiet g x p reaches is e n a u) (use-looked g x o h e n a f u) apart
+            (spi-in (spi_of (esp_of o)) e (live g h) f)
 
-    by-verdict : (b : List ℕ) (e : SadEntry) (n : ℕ) (w : Verdict) → by_spi (spi_of (esp_of o)) (live g h) ≡ Some e → Agrees p reaches g x past (arrive.by_verdict g past b e n w)
+    by-verdict : (b : List ℕ) (e : SadEntry) (n : ℕ) (w : Verdict) → by_spi (spi_of (esp_of o)) (live g h) ≡ Some e
+        → Agrees p reaches g x past (arrive.by_verdict g past b e n w)
     by-verdict b e n verdicts.Zero f = dropped why.Zero [] refl refl
     by-verdict b e n verdicts.Old f = dropped why.Old [] refl refl
     by-verdict b e n verdicts.Seen f = dropped why.Seen [] refl refl
     by-verdict b e n verdicts.Fresh f = by-text e n (esp.opened (keying e.spi e.key) b) f
 
-    by-half : (v : Packet) (found : Option SadEntry) → esp_of o ≡ v.payload → by_spi (spi_of v.payload) (live g h) ≡ found → Agrees p reaches g x past (arrive.arrive_by_half g past v.payload found)
+    by-half : (v : Packet) (found : Option SadEntry) → esp_of o ≡ v.payload → by_spi (spi_of v.payload) (live g h) ≡ found
+        → Agrees p reaches g x past (arrive.arrive_by_half g past v.payload found)
     by-half v None s f =
         let spi : ℕ = spi_of v.payload in
         dropped why.BadSpi (unless (does_bad_spi_stand g spi h) (tells g past (notices.BadSpi spi))) refl
-        (unless-agrees g x p reaches (does_bad_spi_stand g spi h) (acts.Drop g why.BadSpi ∷ past) past (notices.BadSpi spi) (is.plain (acts.Notice g (sessions.session_taken g past) (notices.BadSpi spi)) refl))
+        (unless-agrees g x p reaches (does_bad_spi_stand g spi h) (acts.Drop g why.BadSpi ∷ past) past (notices.BadSpi spi)
+            (is.plain (acts.Notice g (sessions.session_taken g past) (notices.BadSpi spi)) refl))
     by-half v (Some e) s f =
         let n : ℕ = number_of e (numbers_taken g e.name h) v.payload in
         by-verdict v.payload e n (verdict_over e.window (numbers_taken g e.name h) n) (ap (λ z. by_spi (spi_of z) (live g h)) s ∙ f)
 
-    by-length : (v : Packet) (b : Bool) → esp_of o ≡ v.payload → Agrees p reaches g x past (if b then arrive.drops g why.Short else arrive.arrive_by_half g past v.payload (by_spi (spi_of v.payload) (live g h)))
+    by-length : (v : Packet) (b : Bool) → esp_of o ≡ v.payload
+        → Agrees p reaches g x past (if b then arrive.drops g why.Short else arrive.arrive_by_half g past v.payload
+        (by_spi (spi_of v.payload) (live g h)))
     by-length v true s = dropped why.Short [] refl refl
     by-length v false s = by-half v (by_spi (spi_of v.payload) (live g h)) s refl
 
@@ -299,7 +339,9 @@ arrive-agrees c x p reaches h o is apart = idle-agrees c.name x p reaches (acts.
     by-entry None = dropped why.NoPolicy [] refl refl
     by-entry (Some q) = by-action q.action
 
-    by-own : (v : Packet) (b : Bool) → esp_of o ≡ v.payload → Agrees p reaches g x past (if b then arrive.esp_acts g past v.payload else arrive.arrive_by_entry g o (first_entry (force g h) In v) ∷ [])
+    by-own : (v : Packet) (b : Bool) → esp_of o ≡ v.payload
+        → Agrees p reaches g x past (if b then arrive.esp_acts g past v.payload else arrive.arrive_by_entry g o
+        (first_entry (force g h) In v) ∷ [])
     by-own v true s = by-length v (nat_lt (length v.payload) 34) s
     by-own v false s = by-entry (first_entry (force g h) In v)
 
@@ -315,11 +357,13 @@ raises t now false false p q = refl
 raises t now true false p q = absurd (let v : true ≡ false = grind (arith, common_steps) in cc)
 raises t now false true p q = absurd (let v : true ≡ false = grind (arith, common_steps) in cc)
 
-clock-idle : (reaches : List Act → SadEntry → Bool) (g x : List ℕ) (k h : List Act) (b : Bool) → is_reached_in reaches g x k (clock_acts g h b) ≡ false
+clock-idle : (reaches : List Act → SadEntry → Bool) (g x : List ℕ) (k h : List Act) (b : Bool)
+    → is_reached_in reaches g x k (clock_acts g h b) ≡ false
 clock-idle reaches g x k h true = look-idle reaches g x k h (live g h)
 clock-idle reaches g x k h false = refl
 
-clock-agrees : (c : Gateway) (x : List ℕ) (p : Act → Bool) (reaches : List Act → SadEntry → Bool) (h : List Act) (t : ℕ) → IsTold c.name x p reaches → Agrees p reaches c.name x h (gw_block c h (Clock t))
+clock-agrees : (c : Gateway) (x : List ℕ) (p : Act → Bool) (reaches : List Act → SadEntry → Bool) (h : List Act) (t : ℕ)
+    → IsTold c.name x p reaches → Agrees p reaches c.name x h (gw_block c h (Clock t))
 clock-agrees c x p reaches h t is =
     let g : List ℕ = c.name in
     let past : List Act = acts.Now (max t (clock h)) ∷ h in
@@ -349,7 +393,8 @@ hard-name : (g x : List ℕ) (h : List Act) → OfName x (reaches_hard g h x)
 hard-name g x h e n = and_left (bytes_eq e.name x) (is_reached e.hard (counts g e.name h)) n
 
 soft-name : (g x : List ℕ) (h : List Act) → OfName x (reaches_soft g h x)
-soft-name g x h e n = and_left (bytes_eq e.name x) (not (is_reached e.hard (counts g e.name h)) && (is_reached e.soft (counts g e.name h) && not (was_soft_given g e.name h))) n
+soft-name g x h e n = and_left (bytes_eq e.name x) (not (is_reached e.hard (counts g e.name h))
+    && (is_reached e.soft (counts g e.name h) && not (was_soft_given g e.name h))) n
 
 hard-end-is : (g x : List ℕ) → IsTold g x (is_hard_end x) (λ k. reaches_hard g k x)
 hard-end-is g x = record { looks = look-end g x; named = hard-name g x; plain = no-end x }
@@ -363,29 +408,44 @@ soft-expiry-is g x = record { looks = look-soft g x; named = soft-name g x; plai
 -- ---- every event
 
 -- a request reaches nothing
-changed-agrees : (g x : List ℕ) (p : Act → Bool) (reaches : List Act → SadEntry → Bool) (h : List Act) (r : table.Outcome) (s k : ℕ) (a : Change) → IsTold g x p reaches →
-    ((name : List ℕ) → p (acts.Gone g name gone.Removed) ≡ false) → Agrees p reaches g x h (change_acts g r a ++ acts.Handled g s k (answer_of r) ∷ [])
+changed-agrees : (g x : List ℕ) (p : Act → Bool) (reaches : List Act → SadEntry → Bool) (h : List Act) (r : table.Outcome) (s k : ℕ)
+    (a : Change) → IsTold g x p reaches →
+    ((name : List ℕ) → p (acts.Gone g name gone.Removed) ≡ false)
+        → Agrees p reaches g x h (change_acts g r a ++ acts.Handled g s k (answer_of r) ∷ [])
 changed-agrees g x p reaches h r s k changes.Nothing is removed = ap (λ z. z || false) (is.plain (acts.Handled g s k (answer_of r)) refl)
-changed-agrees g x p reaches h r s k changes.Spd is removed = rw (is.plain (acts.Policy g r.tree.spd) refl, is.plain (acts.Handled g s k (answer_of r)) refl) refl
-changed-agrees g x p reaches h r s k (changes.Put e) is removed = rw (is.plain (acts.Put g e) refl, is.plain (acts.Handled g s k (answer_of r)) refl) refl
-changed-agrees g x p reaches h r s k (changes.Gone name) is removed = rw (removed name, is.plain (acts.Handled g s k (answer_of r)) refl) refl
+changed-agrees g x p reaches h r s k changes.Spd is removed =
+    rw (is.plain (acts.Policy g r.tree.spd) refl, is.plain (acts.Handled g s k (answer_of r)) refl) refl
+changed-agrees g x p reaches h r s k (changes.Put e) is removed =
+    rw (is.plain (acts.Put g e) refl, is.plain (acts.Handled g s k (answer_of r)) refl) refl
+changed-agrees g x p reaches h r s k (changes.Gone name) is removed = rw (removed name, is.plain (acts.Handled g s k (answer_of r)) refl)
+    refl
 
-block-agrees : (c : Gateway) (x : List ℕ) (p : Act → Bool) (reaches : List Act → SadEntry → Bool) (h : List Act) (e : GatewayEvent) → IsTold c.name x p reaches →
-    ((name : List ℕ) → p (acts.Gone c.name name gone.Removed) ≡ false) → AreInstalled c.name h → Agrees p reaches c.name x h (gw_block c h e)
+block-agrees : (c : Gateway) (x : List ℕ) (p : Act → Bool) (reaches : List Act → SadEntry → Bool) (h : List Act) (e : GatewayEvent)
+    → IsTold c.name x p reaches →
+    ((name : List ℕ) → p (acts.Gone c.name name gone.Removed) ≡ false) → AreInstalled c.name h
+        → Agrees p reaches c.name x h (gw_block c h e)
 block-agrees c x p reaches h (Let o) is removed are = let-agrees c x p reaches h o is (halves-are c.name h are).apart
 block-agrees c x p reaches h (Arrive o) is removed are = arrive-agrees c x p reaches h o is (halves-are c.name h are).apart
 block-agrees c x p reaches h (Clock t) is removed are = clock-agrees c x p reaches h t is
 block-agrees c x p reaches h (Handle (Ok ask)) is removed are =
     let r : table.Outcome = table.reply (tree_of c.name h) ask in
     changed-agrees c.name x p reaches h r (sessions.session_taken c.name h) (requests c.name h + 1) r.change is removed
-block-agrees c x p reaches h (Handle (Err fault)) is removed are = ap (λ z. z || false) (is.plain (acts.Handled c.name (sessions.session_taken c.name h) (requests c.name h + 1) (fault_answer fault)) refl)
-block-agrees c x p reaches h Session_taken is removed are = ap (λ z. z || false) (is.plain (acts.Opened c.name (sessions.openings c.name h + 1)) refl)
+block-agrees c x p reaches h (Handle (Err fault)) is removed are =
+    ap (λ z. z || false) (is.plain (acts.Handled c.name (sessions.session_taken c.name h) (requests c.name h + 1) (fault_answer fault))
+    refl)
+block-agrees c x p reaches h Session_taken is removed are =
+    ap (λ z. z || false) (is.plain (acts.Opened c.name (sessions.openings c.name h + 1)) refl)
 
-pub ends-reached : (c : Gateway) (h : List Act) (e : GatewayEvent) (x : List ℕ) → AreInstalled c.name h → list_any (is_hard_end x) (gw_block c h e) ≡ is_hard_reached_in c.name x h (gw_block c h e)
+pub ends-reached : (c : Gateway) (h : List Act) (e : GatewayEvent) (x : List ℕ) → AreInstalled c.name h
+    → list_any (is_hard_end x) (gw_block c h e) ≡ is_hard_reached_in c.name x h (gw_block c h e)
 ends-reached c h e x are = block-agrees c x (is_hard_end x) (λ k. reaches_hard c.name k x) h e (hard-end-is c.name x) (λ name. refl) are
 
-pub hard-reached : (c : Gateway) (h : List Act) (e : GatewayEvent) (x : List ℕ) → AreInstalled c.name h → list_any (is_hard_expiry x) (gw_block c h e) ≡ is_hard_reached_in c.name x h (gw_block c h e)
-hard-reached c h e x are = block-agrees c x (is_hard_expiry x) (λ k. reaches_hard c.name k x) h e (hard-expiry-is c.name x) (λ name. refl) are
+pub hard-reached : (c : Gateway) (h : List Act) (e : GatewayEvent) (x : List ℕ) → AreInstalled c.name h
+    → list_any (is_hard_expiry x) (gw_block c h e) ≡ is_hard_reached_in c.name x h (gw_block c h e)
+hard-reached c h e x are = block-agrees c x (is_hard_expiry x) (λ k. reaches_hard c.name k x) h e (hard-expiry-is c.name x) (λ name. refl)
+    are
 
-pub soft-reached : (c : Gateway) (h : List Act) (e : GatewayEvent) (x : List ℕ) → AreInstalled c.name h → list_any (is_soft_expiry x) (gw_block c h e) ≡ is_soft_reached_in c.name x h (gw_block c h e)
-soft-reached c h e x are = block-agrees c x (is_soft_expiry x) (λ k. reaches_soft c.name k x) h e (soft-expiry-is c.name x) (λ name. refl) are
+pub soft-reached : (c : Gateway) (h : List Act) (e : GatewayEvent) (x : List ℕ) → AreInstalled c.name h
+    → list_any (is_soft_expiry x) (gw_block c h e) ≡ is_soft_reached_in c.name x h (gw_block c h e)
+soft-reached c h e x are = block-agrees c x (is_soft_expiry x) (λ k. reaches_soft c.name k x) h e (soft-expiry-is c.name x) (λ name. refl)
+    are

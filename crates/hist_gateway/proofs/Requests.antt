@@ -34,18 +34,21 @@ none-later : (g : List ℕ) (s : ℕ) (h : List Act) → AreNumbered g h → ope
 none-later g s [] m above = refl
 none-later g s (acts.Opened f t ∷ h) m above = none-later g s h m.1 (opened-before (bytes_eq f g) (openings g h) s above)
 none-later g s (acts.Handled f t k a ∷ h) m above =
-    handled-other (bytes_eq f g) t (openings g h) s (handled g s h) (λ at. let e = m.0 at in let le = taken-le g h m.1 in omega (arith, e, le)) above (none-later g s h m.1 above)
+    handled-other (bytes_eq f g) t (openings g h) s (handled g s h) (λ at. let e = m.0 at in let le = taken-le g h m.1 in
+        omega (arith, e, le)) above (none-later g s h m.1 above)
 none-later g s (a ∷ h) m above = none-later g s h m.1 above
 
 same-number : (m n : ℕ) → m ≡ n → (m == n) ≡ true
 same-number m n e = grind arith
 
-one-more : (g f : List ℕ) (s k : ℕ) (a : Answer) (h : List Act) (b : Bool) → bytes_eq f g ≡ b → (bytes_eq f g ≡ true → s ≡ session_taken g h) → requests g h ≡ handled g (session_taken g h) h →
+one-more : (g f : List ℕ) (s k : ℕ) (a : Answer) (h : List Act) (b : Bool) → bytes_eq f g ≡ b
+    → (bytes_eq f g ≡ true → s ≡ session_taken g h) → requests g h ≡ handled g (session_taken g h) h →
     requests g (acts.Handled f s k a ∷ h) ≡ handled g (session_taken g h) (acts.Handled f s k a ∷ h)
 one-more g f s k a h true at own ih = let e = own at in let same = same-number s (session_taken g h) e in rw (at, same) (ap (λ n. n + 1) ih)
 one-more g f s k a h false at own ih = rw at ih
 
-session-new : (g f : List ℕ) (s : ℕ) (h : List Act) (b : Bool) → bytes_eq f g ≡ b → (bytes_eq f g ≡ true → handled g s h ≡ 0) → requests g h ≡ handled g (session_taken g h) h →
+session-new : (g f : List ℕ) (s : ℕ) (h : List Act) (b : Bool) → bytes_eq f g ≡ b → (bytes_eq f g ≡ true → handled g s h ≡ 0)
+    → requests g h ≡ handled g (session_taken g h) h →
     requests g (acts.Opened f s ∷ h) ≡ handled g (session_taken g (acts.Opened f s ∷ h)) (acts.Opened f s ∷ h)
 session-new g f s h true at none ih =
     let first : requests g (acts.Opened f s ∷ h) ≡ 0 = rw at refl in
@@ -56,7 +59,8 @@ session-new g f s h false at none ih =
     let same : session_taken g (acts.Opened f s ∷ h) ≡ session_taken g h = rw at refl in
     first ∙ (ih ∙ ap (λ t. handled g t h) (sym same))
 
-session-lost : (g f : List ℕ) (h : List Act) (b : Bool) → bytes_eq f g ≡ b → (bytes_eq f g ≡ true → handled g 0 h ≡ 0) → requests g h ≡ handled g (session_taken g h) h →
+session-lost : (g f : List ℕ) (h : List Act) (b : Bool) → bytes_eq f g ≡ b → (bytes_eq f g ≡ true → handled g 0 h ≡ 0)
+    → requests g h ≡ handled g (session_taken g h) h →
     requests g (acts.Boot f ∷ h) ≡ handled g (session_taken g (acts.Boot f ∷ h)) (acts.Boot f ∷ h)
 session-lost g f h true at none ih =
     let first : requests g (acts.Boot f ∷ h) ≡ 0 = rw at refl in

@@ -36,7 +36,8 @@ few-put : (b : Bool) (m : ℕ) (xs : List ℕ) → AllUpTo m xs → AllUpTo (if 
 few-put true m xs p = tt
 few-put false m xs p = p
 
-few-sent : (b : Bool) (m k : ℕ) (xs : List ℕ) → AllUpTo m xs → (b ≡ true → k ≤ m + 1) → AllUpTo (if b then m + 1 else m) (if b then k ∷ xs else xs)
+few-sent : (b : Bool) (m k : ℕ) (xs : List ℕ) → AllUpTo m xs → (b ≡ true → k ≤ m + 1)
+    → AllUpTo (if b then m + 1 else m) (if b then k ∷ xs else xs)
 few-sent true m k xs p q = (q refl, more m xs p)
 few-sent false m k xs p q = p
 
@@ -52,11 +53,17 @@ record Good (h : List Act) : Type 0 where
 
 -- ---- a number that is fresh was not taken
 
-fresh-by : (size top s : ℕ) (is_taken zero old : Bool) → (s == 0) ≡ zero → is_below size top s ≡ old → verdict_by size top is_taken s ≡ verdicts.Fresh → is_taken ≡ false
+fresh-by : (size top s : ℕ) (is_taken zero old : Bool) → (s == 0) ≡ zero → is_below size top s ≡ old
+    → verdict_by size top is_taken s ≡ verdicts.Fresh → is_taken ≡ false
 fresh-by size top s false zero old z o e = refl
-fresh-by size top s true true old z o e = let p : verdicts.Zero ≡ verdicts.Fresh = subst (λ b. (if b then verdicts.Zero else if is_below size top s then verdicts.Old else verdicts.Seen) ≡ verdicts.Fresh) z e in cc
-fresh-by size top s true false true z o e = let p : verdicts.Old ≡ verdicts.Fresh = subst (λ b. (if b then verdicts.Old else verdicts.Seen) ≡ verdicts.Fresh) o (subst (λ b. (if b then verdicts.Zero else if is_below size top s then verdicts.Old else verdicts.Seen) ≡ verdicts.Fresh) z e) in cc
-fresh-by size top s true false false z o e = let p : verdicts.Seen ≡ verdicts.Fresh = subst (λ b. (if b then verdicts.Old else verdicts.Seen) ≡ verdicts.Fresh) o (subst (λ b. (if b then verdicts.Zero else if is_below size top s then verdicts.Old else verdicts.Seen) ≡ verdicts.Fresh) z e) in cc
+fresh-by size top s true true old z o e = let p : verdicts.Zero ≡ verdicts.Fresh =
+    subst (λ b. (if b then verdicts.Zero else if is_below size top s then verdicts.Old else verdicts.Seen) ≡ verdicts.Fresh) z e in cc
+fresh-by size top s true false true z o e = let p : verdicts.Old ≡ verdicts.Fresh =
+    subst (λ b. (if b then verdicts.Old else verdicts.Seen) ≡ verdicts.Fresh) o
+    (subst (λ b. (if b then verdicts.Zero else if is_below size top s then verdicts.Old else verdicts.Seen) ≡ verdicts.Fresh) z e) in cc
+fresh-by size top s true false false z o e = let p : verdicts.Seen ≡ verdicts.Fresh =
+    subst (λ b. (if b then verdicts.Old else verdicts.Seen) ≡ verdicts.Fresh) o
+    (subst (λ b. (if b then verdicts.Zero else if is_below size top s then verdicts.Old else verdicts.Seen) ≡ verdicts.Fresh) z e) in cc
 
 pub fresh-is : (size : ℕ) (ns : List ℕ) (s : ℕ) → verdict_over size ns s ≡ verdicts.Fresh → is_among s ns ≡ false
 fresh-is size ns s e = fresh-by size (greatest ns) s (is_among s ns) (s == 0) (is_below size (greatest ns) s) refl refl e
@@ -66,7 +73,8 @@ fresh-is size ns s e = fresh-by size (greatest ns) s (is_among s ns) (s == 0) (i
 good : (q : Gateway) (h : List Act) (a : Act) → GatewayMayAct q h a → Good h → Good (a ∷ h)
 good q h (acts.Clear f o) m k = record { few = k.few; safe = (m, k.safe) }
 good q h (acts.Pass f o) m k = record { few = k.few; safe = (m, k.safe) }
-good q h (acts.Put f e) m k = record { few = λ g x. few-put (is_half f e.name g x) (sent g x h) (numbers g x h) (k.few g x); safe = (tt, k.safe) }
+good q h (acts.Put f e) m k = record { few = λ g x. few-put (is_half f e.name g x) (sent g x h) (numbers g x h) (k.few g x); safe =
+    (tt, k.safe) }
 good q h (acts.Sent f y n o) m k = record {
   few = λ g x. few-sent (is_half f y g x) (sent g x h) n (numbers g x h) (k.few g x) (same-sent h f y g x n m.number);
   safe = (subst (λ t. is_among t (numbers f y h) ≡ false) (sym m.number) (unused (sent f y h) (numbers f y h) (k.few f y)), k.safe);
@@ -74,8 +82,11 @@ good q h (acts.Sent f y n o) m k = record {
 good q h (acts.Gave f y n o) m k =
     let e : SadEntry = m.opens.half in
     let b : List ℕ = m.opens.outer.payload in
-    let own : verdict_over e.window (numbers_taken f y h) (number_of e (numbers_taken f y h) b) ≡ verdicts.Fresh = subst (λ x. verdict_over e.window (numbers_taken f x h) (number_of e (numbers_taken f x h) b) ≡ verdicts.Fresh) (sym m.name) m.opens.fresh in
-    let fresh : verdict_over e.window (numbers_taken f y h) n ≡ verdicts.Fresh = subst (λ s. verdict_over e.window (numbers_taken f y h) s ≡ verdicts.Fresh) (sym m.number) own in
+    let own : verdict_over e.window (numbers_taken f y h) (number_of e (numbers_taken f y h) b) ≡ verdicts.Fresh =
+        subst (λ x. verdict_over e.window (numbers_taken f x h) (number_of e (numbers_taken f x h) b) ≡ verdicts.Fresh) (sym m.name)
+        m.opens.fresh in
+    let fresh : verdict_over e.window (numbers_taken f y h) n ≡ verdicts.Fresh =
+        subst (λ s. verdict_over e.window (numbers_taken f y h) s ≡ verdicts.Fresh) (sym m.number) own in
     record { few = k.few; safe = (fresh-is e.window (numbers_taken f y h) n fresh, k.safe) }
 good q h a m k = record { few = k.few; safe = (tt, k.safe) }
 
@@ -89,10 +100,12 @@ safe-lawful q h l = (good-lawful q h l).safe
 pub lawful-block : AllFit → (c : Gateway) (h : List Act) (e : GatewayEvent) → IsGatewayPast c h → IsGatewayPast c (after h (gw_block c h e))
 lawful-block fits c h e l = lawful-after c h (gw_block c h e) l (may-block fits c h e)
 
-lawful-on : AllFit → (c : Gateway) (h : List Act) (es : List GatewayEvent) → IsGatewayPast c h → IsGatewayPast c (after h (gw_history c h es))
+lawful-on : AllFit → (c : Gateway) (h : List Act) (es : List GatewayEvent) → IsGatewayPast c h
+    → IsGatewayPast c (after h (gw_history c h es))
 lawful-on fits c h [] l = l
 lawful-on fits c h (e ∷ es) l =
-    rw (after-append h (gw_block c h e) (gw_history c (after h (gw_block c h e)) es)) (lawful-on fits c (after h (gw_block c h e)) es (lawful-block fits c h e l))
+    rw (after-append h (gw_block c h e) (gw_history c (after h (gw_block c h e)) es))
+        (lawful-on fits c (after h (gw_block c h e)) es (lawful-block fits c h e l))
 
 pub lawful-history : AllFit → (c : Gateway) (es : List GatewayEvent) → IsGatewayPast c (after [] (gw_history c [] es))
 lawful-history fits c es = lawful-on fits c [] es tt

@@ -62,10 +62,12 @@ abbrev pub gateway_b : Gateway
 gateway_b = record { name = b; address = address_b; seq_last = 4294967295 }
 
 abbrev pub first_site : Prefix
-first_site = record { addr = V6 (32 ∷ 1 ∷ 13 ∷ 184 ∷ 0 ∷ 1 ∷ 0 ∷ 0 ∷ 0 ∷ 0 ∷ 0 ∷ 0 ∷ 0 ∷ 0 ∷ 0 ∷ 0 ∷ []); len = 48; in_range = omega arith; cleared = refl }
+first_site = record { addr = V6 (32 ∷ 1 ∷ 13 ∷ 184 ∷ 0 ∷ 1 ∷ 0 ∷ 0 ∷ 0 ∷ 0 ∷ 0 ∷ 0 ∷ 0 ∷ 0 ∷ 0 ∷ 0 ∷ []); len = 48; in_range = omega arith;
+    cleared = refl }
 
 abbrev pub second_site : Prefix
-second_site = record { addr = V6 (32 ∷ 1 ∷ 13 ∷ 184 ∷ 0 ∷ 2 ∷ 0 ∷ 0 ∷ 0 ∷ 0 ∷ 0 ∷ 0 ∷ 0 ∷ 0 ∷ 0 ∷ 0 ∷ []); len = 48; in_range = omega arith; cleared = refl }
+second_site = record { addr = V6 (32 ∷ 1 ∷ 13 ∷ 184 ∷ 0 ∷ 2 ∷ 0 ∷ 0 ∷ 0 ∷ 0 ∷ 0 ∷ 0 ∷ 0 ∷ 0 ∷ 0 ∷ 0 ∷ []); len = 48; in_range = omega arith;
+    cleared = refl }
 
 abbrev ten_one : Prefix
 ten_one = record { addr = V4 (10 ∷ 1 ∷ 0 ∷ 0 ∷ []); len = 16; in_range = omega arith; cleared = refl }
@@ -102,14 +104,17 @@ done status = record { status = status; tag = None; names = [] }
 
 -- a UDP packet from 10.1.0.5 to 10.2.0.9
 abbrev packet_4 : List ℕ
-packet_4 = 69 ∷ 0 ∷ 0 ∷ 32 ∷ 0 ∷ 0 ∷ 64 ∷ 0 ∷ 64 ∷ 17 ∷ 38 ∷ 189 ∷ 10 ∷ 1 ∷ 0 ∷ 5 ∷ 10 ∷ 2 ∷ 0 ∷ 9 ∷ 18 ∷ 52 ∷ 0 ∷ 53 ∷ 0 ∷ 12 ∷ 0 ∷ 0 ∷ 97 ∷ 98 ∷ 99 ∷ 100 ∷ []
+packet_4 = 69 ∷ 0 ∷ 0 ∷ 32 ∷ 0 ∷ 0 ∷ 64 ∷ 0 ∷ 64 ∷ 17 ∷ 38 ∷ 189 ∷ 10 ∷ 1 ∷ 0 ∷ 5 ∷ 10 ∷ 2 ∷ 0 ∷ 9 ∷ 18 ∷ 52 ∷ 0 ∷ 53 ∷ 0 ∷ 12 ∷ 0 ∷ 0 ∷ 97
+    ∷ 98 ∷ 99 ∷ 100 ∷ []
 
 -- a UDP packet from 2001:db8:1::5 to 2001:db8:2::9
 abbrev packet_6 : List ℕ
-packet_6 = 96 ∷ 0 ∷ 0 ∷ 0 ∷ 0 ∷ 12 ∷ 17 ∷ 64 ∷ 32 ∷ 1 ∷ 13 ∷ 184 ∷ 0 ∷ 1 ∷ 0 ∷ 0 ∷ 0 ∷ 0 ∷ 0 ∷ 0 ∷ 0 ∷ 0 ∷ 0 ∷ 5 ∷ 32 ∷ 1 ∷ 13 ∷ 184 ∷ 0 ∷ 2 ∷ 0 ∷ 0 ∷ 0 ∷ 0 ∷ 0 ∷ 0 ∷ 0 ∷ 0 ∷ 0 ∷ 9 ∷ 18 ∷ 52 ∷ 0 ∷ 53 ∷ 0 ∷ 12 ∷ 205 ∷ 35 ∷ 97 ∷ 98 ∷ 99 ∷ 100 ∷ []
+packet_6 = 96 ∷ 0 ∷ 0 ∷ 0 ∷ 0 ∷ 12 ∷ 17 ∷ 64 ∷ 32 ∷ 1 ∷ 13 ∷ 184 ∷ 0 ∷ 1 ∷ 0 ∷ 0 ∷ 0 ∷ 0 ∷ 0 ∷ 0 ∷ 0 ∷ 0 ∷ 0 ∷ 5 ∷ 32 ∷ 1 ∷ 13 ∷ 184 ∷ 0 ∷ 2
+    ∷ 0 ∷ 0 ∷ 0 ∷ 0 ∷ 0 ∷ 0 ∷ 0 ∷ 0 ∷ 0 ∷ 9 ∷ 18 ∷ 52 ∷ 0 ∷ 53 ∷ 0 ∷ 12 ∷ 205 ∷ 35 ∷ 97 ∷ 98 ∷ 99 ∷ 100 ∷ []
 
 abbrev view_4 : Packet
-view_4 = record { src = V4 (10 ∷ 1 ∷ 0 ∷ 5 ∷ []); dst = V4 (10 ∷ 2 ∷ 0 ∷ 9 ∷ []); proto = 17; ports = Some (4660, 53); df = true; payload = 18 ∷ 52 ∷ 0 ∷ 53 ∷ 0 ∷ 12 ∷ 0 ∷ 0 ∷ 97 ∷ 98 ∷ 99 ∷ 100 ∷ [] }
+view_4 = record { src = V4 (10 ∷ 1 ∷ 0 ∷ 5 ∷ []); dst = V4 (10 ∷ 2 ∷ 0 ∷ 9 ∷ []); proto = 17; ports = Some (4660, 53); df = true; payload =
+    18 ∷ 52 ∷ 0 ∷ 53 ∷ 0 ∷ 12 ∷ 0 ∷ 0 ∷ 97 ∷ 98 ∷ 99 ∷ 100 ∷ [] }
 
 seen_4 : view_of packet_4 ≡ Ok view_4
 unfolding view_of
@@ -129,12 +134,15 @@ shown_acquire = refl
 
 -- ---- a list that bypasses, one that discards, and none
 
-shown_out : gw_history gateway_a [] (Let packet_4 ∷ Handle (Ok (asks.PutSpd (policy (codes "p1") Out 1 actions.Bypass (between ten_one ten_two) ∷ [])))
-    ∷ Let packet_4 ∷ Let [] ∷ Handle (Ok (asks.PostSpd (policy (codes "d1") Out 0 actions.Discard (between ten_one ten_two)) places.First)) ∷ Let packet_4 ∷ [])
+shown_out : gw_history gateway_a [] (Let packet_4
+    ∷ Handle (Ok (asks.PutSpd (policy (codes "p1") Out 1 actions.Bypass (between ten_one ten_two) ∷ [])))
+    ∷ Let packet_4 ∷ Let [] ∷ Handle (Ok (asks.PostSpd (policy (codes "d1") Out 0 actions.Discard (between ten_one ten_two)) places.First))
+        ∷ Let packet_4 ∷ [])
     ≡ acts.Let a packet_4 ∷ acts.Drop a why.NoPolicy
     ∷ acts.Policy a (policy (codes "p1") Out 1 actions.Bypass (between ten_one ten_two) ∷ []) ∷ acts.Handled a 0 1 (done 204)
     ∷ acts.Let a packet_4 ∷ acts.Clear a packet_4 ∷ acts.Let a [] ∷ acts.Drop a why.Malformed
-    ∷ acts.Policy a (policy (codes "d1") Out 0 actions.Discard (between ten_one ten_two) ∷ policy (codes "p1") Out 1 actions.Bypass (between ten_one ten_two) ∷ []) ∷ acts.Handled a 0 2 (done 201)
+    ∷ acts.Policy a (policy (codes "d1") Out 0 actions.Discard (between ten_one ten_two)
+        ∷ policy (codes "p1") Out 1 actions.Bypass (between ten_one ten_two) ∷ []) ∷ acts.Handled a 0 2 (done 201)
     ∷ acts.Let a packet_4 ∷ acts.Drop a why.Discard ∷ []
 unfolding let_acts view_of holds_packet reply
 shown_out = refl
@@ -143,7 +151,8 @@ shown_out = refl
 
 -- a UDP packet from 10.2.0.9 to 10.1.0.5
 abbrev packet_back : List ℕ
-packet_back = 69 ∷ 0 ∷ 0 ∷ 32 ∷ 0 ∷ 0 ∷ 64 ∷ 0 ∷ 64 ∷ 17 ∷ 38 ∷ 189 ∷ 10 ∷ 2 ∷ 0 ∷ 9 ∷ 10 ∷ 1 ∷ 0 ∷ 5 ∷ 18 ∷ 52 ∷ 0 ∷ 53 ∷ 0 ∷ 12 ∷ 0 ∷ 0 ∷ 97 ∷ 98 ∷ 99 ∷ 100 ∷ []
+packet_back = 69 ∷ 0 ∷ 0 ∷ 32 ∷ 0 ∷ 0 ∷ 64 ∷ 0 ∷ 64 ∷ 17 ∷ 38 ∷ 189 ∷ 10 ∷ 2 ∷ 0 ∷ 9 ∷ 10 ∷ 1 ∷ 0 ∷ 5 ∷ 18 ∷ 52 ∷ 0 ∷ 53 ∷ 0 ∷ 12 ∷ 0 ∷ 0
+    ∷ 97 ∷ 98 ∷ 99 ∷ 100 ∷ []
 
 abbrev inward : Action → List SpdEntry
 inward act = policy (codes "c1") In 0 act (between ten_one ten_two) ∷ []
@@ -151,7 +160,8 @@ inward act = policy (codes "c1") In 0 act (between ten_one ten_two) ∷ []
 abbrev replaced_by : Action → GatewayEvent
 replaced_by act = Handle (Ok (asks.PutSpd (inward act)))
 
-shown_in : gw_history gateway_a [] (Arrive packet_back ∷ replaced_by actions.Bypass ∷ Arrive packet_back ∷ replaced_by actions.Protect ∷ Arrive packet_back
+shown_in : gw_history gateway_a [] (Arrive packet_back ∷ replaced_by actions.Bypass ∷ Arrive packet_back ∷ replaced_by actions.Protect
+    ∷ Arrive packet_back
     ∷ replaced_by actions.Discard ∷ Arrive packet_back ∷ Arrive (69 ∷ []) ∷ [])
     ≡ acts.Arrived a packet_back ∷ acts.Drop a why.NoPolicy
     ∷ acts.Policy a (inward actions.Bypass) ∷ acts.Handled a 0 1 (done 204) ∷ acts.Arrived a packet_back ∷ acts.Pass a packet_back
@@ -165,13 +175,21 @@ shown_in = refl
 
 -- packet_6 sealed with number 1 under SPI 257, from gateway a to gateway b, and its ESP octets
 abbrev datagram_1 : List ℕ
-datagram_1 = 69 ∷ 0 ∷ 0 ∷ 108 ∷ 0 ∷ 1 ∷ 64 ∷ 0 ∷ 64 ∷ 50 ∷ 78 ∷ 41 ∷ 192 ∷ 0 ∷ 2 ∷ 1 ∷ 198 ∷ 51 ∷ 100 ∷ 1 ∷ 0 ∷ 0 ∷ 1 ∷ 1 ∷ 0 ∷ 0 ∷ 0 ∷ 1 ∷ 0 ∷ 0 ∷ 0 ∷ 0 ∷ 0 ∷ 0 ∷ 0 ∷ 1 ∷ 38 ∷ 113 ∷ 28 ∷ 242 ∷ 108 ∷ 136 ∷ 102 ∷ 16 ∷ 167 ∷ 109 ∷ 75 ∷ 175 ∷ 219 ∷ 5 ∷ 148 ∷ 102 ∷ 17 ∷ 242 ∷ 25 ∷ 131 ∷ 150 ∷ 245 ∷ 128 ∷ 167 ∷ 77 ∷ 240 ∷ 134 ∷ 168 ∷ 28 ∷ 164 ∷ 95 ∷ 18 ∷ 235 ∷ 251 ∷ 206 ∷ 171 ∷ 37 ∷ 49 ∷ 144 ∷ 222 ∷ 34 ∷ 62 ∷ 228 ∷ 141 ∷ 207 ∷ 32 ∷ 114 ∷ 55 ∷ 211 ∷ 48 ∷ 142 ∷ 178 ∷ 0 ∷ 66 ∷ 251 ∷ 238 ∷ 145 ∷ 182 ∷ 246 ∷ 87 ∷ 119 ∷ 93 ∷ 147 ∷ 210 ∷ 150 ∷ 171 ∷ 113 ∷ 15 ∷ 107 ∷ 9 ∷ 220 ∷ 130 ∷ []
+datagram_1 = 69 ∷ 0 ∷ 0 ∷ 108 ∷ 0 ∷ 1 ∷ 64 ∷ 0 ∷ 64 ∷ 50 ∷ 78 ∷ 41 ∷ 192 ∷ 0 ∷ 2 ∷ 1 ∷ 198 ∷ 51 ∷ 100 ∷ 1 ∷ 0 ∷ 0 ∷ 1 ∷ 1 ∷ 0 ∷ 0 ∷ 0 ∷ 1
+    ∷ 0 ∷ 0 ∷ 0 ∷ 0 ∷ 0 ∷ 0 ∷ 0 ∷ 1 ∷ 38 ∷ 113 ∷ 28 ∷ 242 ∷ 108 ∷ 136 ∷ 102 ∷ 16 ∷ 167 ∷ 109 ∷ 75 ∷ 175 ∷ 219 ∷ 5 ∷ 148 ∷ 102 ∷ 17 ∷ 242
+    ∷ 25 ∷ 131 ∷ 150 ∷ 245 ∷ 128 ∷ 167 ∷ 77 ∷ 240 ∷ 134 ∷ 168 ∷ 28 ∷ 164 ∷ 95 ∷ 18 ∷ 235 ∷ 251 ∷ 206 ∷ 171 ∷ 37 ∷ 49 ∷ 144 ∷ 222 ∷ 34 ∷ 62
+    ∷ 228 ∷ 141 ∷ 207 ∷ 32 ∷ 114 ∷ 55 ∷ 211 ∷ 48 ∷ 142 ∷ 178 ∷ 0 ∷ 66 ∷ 251 ∷ 238 ∷ 145 ∷ 182 ∷ 246 ∷ 87 ∷ 119 ∷ 93 ∷ 147 ∷ 210 ∷ 150 ∷ 171
+    ∷ 113 ∷ 15 ∷ 107 ∷ 9 ∷ 220 ∷ 130 ∷ []
 
 abbrev sealed_1 : List ℕ
-sealed_1 = 0 ∷ 0 ∷ 1 ∷ 1 ∷ 0 ∷ 0 ∷ 0 ∷ 1 ∷ 0 ∷ 0 ∷ 0 ∷ 0 ∷ 0 ∷ 0 ∷ 0 ∷ 1 ∷ 38 ∷ 113 ∷ 28 ∷ 242 ∷ 108 ∷ 136 ∷ 102 ∷ 16 ∷ 167 ∷ 109 ∷ 75 ∷ 175 ∷ 219 ∷ 5 ∷ 148 ∷ 102 ∷ 17 ∷ 242 ∷ 25 ∷ 131 ∷ 150 ∷ 245 ∷ 128 ∷ 167 ∷ 77 ∷ 240 ∷ 134 ∷ 168 ∷ 28 ∷ 164 ∷ 95 ∷ 18 ∷ 235 ∷ 251 ∷ 206 ∷ 171 ∷ 37 ∷ 49 ∷ 144 ∷ 222 ∷ 34 ∷ 62 ∷ 228 ∷ 141 ∷ 207 ∷ 32 ∷ 114 ∷ 55 ∷ 211 ∷ 48 ∷ 142 ∷ 178 ∷ 0 ∷ 66 ∷ 251 ∷ 238 ∷ 145 ∷ 182 ∷ 246 ∷ 87 ∷ 119 ∷ 93 ∷ 147 ∷ 210 ∷ 150 ∷ 171 ∷ 113 ∷ 15 ∷ 107 ∷ 9 ∷ 220 ∷ 130 ∷ []
+sealed_1 = 0 ∷ 0 ∷ 1 ∷ 1 ∷ 0 ∷ 0 ∷ 0 ∷ 1 ∷ 0 ∷ 0 ∷ 0 ∷ 0 ∷ 0 ∷ 0 ∷ 0 ∷ 1 ∷ 38 ∷ 113 ∷ 28 ∷ 242 ∷ 108 ∷ 136 ∷ 102 ∷ 16 ∷ 167 ∷ 109 ∷ 75 ∷ 175
+    ∷ 219 ∷ 5 ∷ 148 ∷ 102 ∷ 17 ∷ 242 ∷ 25 ∷ 131 ∷ 150 ∷ 245 ∷ 128 ∷ 167 ∷ 77 ∷ 240 ∷ 134 ∷ 168 ∷ 28 ∷ 164 ∷ 95 ∷ 18 ∷ 235 ∷ 251 ∷ 206 ∷ 171
+    ∷ 37 ∷ 49 ∷ 144 ∷ 222 ∷ 34 ∷ 62 ∷ 228 ∷ 141 ∷ 207 ∷ 32 ∷ 114 ∷ 55 ∷ 211 ∷ 48 ∷ 142 ∷ 178 ∷ 0 ∷ 66 ∷ 251 ∷ 238 ∷ 145 ∷ 182 ∷ 246 ∷ 87
+    ∷ 119 ∷ 93 ∷ 147 ∷ 210 ∷ 150 ∷ 171 ∷ 113 ∷ 15 ∷ 107 ∷ 9 ∷ 220 ∷ 130 ∷ []
 
 shown_bad_spi : gw_history gateway_b [] (Arrive datagram_1 ∷ Arrive datagram_1 ∷ Session_taken ∷ Arrive datagram_1 ∷ Arrive datagram_1 ∷ [])
-    ≡ acts.Arrived b datagram_1 ∷ acts.Drop b why.BadSpi ∷ acts.Notice b 0 (notices.BadSpi 257) ∷ acts.Arrived b datagram_1 ∷ acts.Drop b why.BadSpi
+    ≡ acts.Arrived b datagram_1 ∷ acts.Drop b why.BadSpi ∷ acts.Notice b 0 (notices.BadSpi 257) ∷ acts.Arrived b datagram_1
+        ∷ acts.Drop b why.BadSpi
     ∷ acts.Opened b 1 ∷ acts.Arrived b datagram_1 ∷ acts.Drop b why.BadSpi ∷ acts.Notice b 1 (notices.BadSpi 257)
     ∷ acts.Arrived b datagram_1 ∷ acts.Drop b why.BadSpi ∷ []
 unfolding arrive.arrive_acts number_from view_of
@@ -215,8 +233,10 @@ shown_limit = refl
 abbrev soft_first : List Act
 soft_first = acts.Put a out_1 ∷ []
 
-shown_clock : gw_history gateway_a soft_first (Clock 3599 ∷ Clock 3600 ∷ Clock 3600 ∷ Clock 3601 ∷ Session_taken ∷ Clock 3000 ∷ Clock 3602 ∷ [])
-    ≡ acts.Now 3599 ∷ acts.Now 3600 ∷ acts.Notice a 0 (notices.Expire (codes "out/1") true (limits 3600 0 0 3600)) ∷ acts.Now 3600 ∷ acts.Now 3601
+shown_clock : gw_history gateway_a soft_first (Clock 3599 ∷ Clock 3600 ∷ Clock 3600 ∷ Clock 3601 ∷ Session_taken ∷ Clock 3000 ∷ Clock 3602
+    ∷ [])
+    ≡ acts.Now 3599 ∷ acts.Now 3600 ∷ acts.Notice a 0 (notices.Expire (codes "out/1") true (limits 3600 0 0 3600)) ∷ acts.Now 3600
+        ∷ acts.Now 3601
     ∷ acts.Opened a 1 ∷ acts.Now 3601 ∷ acts.Now 3602 ∷ acts.Notice a 1 (notices.Expire (codes "out/1") true (limits 3602 0 0 3602)) ∷ []
 shown_clock = refl
 
@@ -228,11 +248,13 @@ abbrev out_3 : SadEntry
 out_3 = half (codes "out/3") 259 (between first_site second_site) address_a address_b (limits 3600 0 0 0) (limits 10 0 0 0)
 
 abbrev used_once : List Act
-used_once = acts.Sent a (codes "out/1") 1 datagram_1 ∷ acts.Let a packet_6 ∷ acts.Put a out_3 ∷ acts.Put a out_1 ∷ acts.Put a in_2 ∷ acts.Opened a 1 ∷ []
+used_once = acts.Sent a (codes "out/1") 1 datagram_1 ∷ acts.Let a packet_6 ∷ acts.Put a out_3 ∷ acts.Put a out_1 ∷ acts.Put a in_2
+    ∷ acts.Opened a 1 ∷ []
 
 shown_looks : gw_history gateway_a used_once (Clock 3600 ∷ Handle (Ok asks.GetSad) ∷ [])
     ≡ acts.Now 3600 ∷ acts.Gone a (codes "out/3") gone.Hard
-    ∷ acts.Notice a 1 (notices.Expire (codes "in/2") true (limits 3600 0 0 3600)) ∷ acts.Notice a 1 (notices.Expire (codes "out/1") true (limits 3600 88 1 3600))
+    ∷ acts.Notice a 1 (notices.Expire (codes "in/2") true (limits 3600 0 0 3600))
+        ∷ acts.Notice a 1 (notices.Expire (codes "out/1") true (limits 3600 88 1 3600))
     ∷ acts.Notice a 1 (notices.Expire (codes "out/3") false (limits 3600 0 0 3600))
     ∷ acts.Handled a 1 1 (record { status = 200; tag = None; names = codes "in/2" ∷ codes "out/1" ∷ [] }) ∷ []
 unfolding view_of reply
@@ -253,11 +275,13 @@ Opens e = esp.opened (keying e.spi e.key) sealed_1 ≡ Some text_6
 abbrev put_1 : List Act
 put_1 = acts.Handled b 1 1 (done 201) ∷ acts.Put b in_1 ∷ acts.Opened b 1 ∷ []
 
-shown_put : gw_history gateway_b [] (Session_taken ∷ Handle (Ok (asks.PostSad in_1)) ∷ []) ≡ acts.Opened b 1 ∷ acts.Put b in_1 ∷ acts.Handled b 1 1 (done 201) ∷ []
+shown_put : gw_history gateway_b [] (Session_taken ∷ Handle (Ok (asks.PostSad in_1)) ∷ []) ≡ acts.Opened b 1 ∷ acts.Put b in_1
+    ∷ acts.Handled b 1 1 (done 201) ∷ []
 unfolding reply
 shown_put = refl
 
-shown_gave : Opens in_1 → gw_block gateway_b put_1 (Arrive datagram_1) ≡ acts.Arrived b datagram_1 ∷ acts.Gave b (codes "in/1") 1 packet_6 ∷ []
+shown_gave : Opens in_1 → gw_block gateway_b put_1 (Arrive datagram_1) ≡ acts.Arrived b datagram_1 ∷ acts.Gave b (codes "in/1") 1 packet_6
+    ∷ []
 unfolding arrive.arrive_acts number_from view_of upper_of holds_packet esp.inner_packet
 shown_gave opens = ap (λ text. acts.Arrived b datagram_1 ∷ arrive.by_text b (acts.Arrived b datagram_1 ∷ put_1) in_1 1 text) opens
 
@@ -276,11 +300,13 @@ abbrev put_once : List Act
 put_once = acts.Handled b 1 1 (done 201) ∷ acts.Put b in_once ∷ acts.Opened b 1 ∷ []
 
 shown_ended : Opens in_once → gw_block gateway_b put_once (Arrive datagram_1)
-    ≡ acts.Arrived b datagram_1 ∷ acts.Gave b (codes "in/1") 1 packet_6 ∷ acts.Gone b (codes "in/1") gone.Hard ∷ acts.Notice b 1 (notices.Expire (codes "in/1") false (limits 0 88 1 0)) ∷ []
+    ≡ acts.Arrived b datagram_1 ∷ acts.Gave b (codes "in/1") 1 packet_6 ∷ acts.Gone b (codes "in/1") gone.Hard
+        ∷ acts.Notice b 1 (notices.Expire (codes "in/1") false (limits 0 88 1 0)) ∷ []
 unfolding arrive.arrive_acts number_from view_of upper_of holds_packet esp.inner_packet
 shown_ended opens = ap (λ text. acts.Arrived b datagram_1 ∷ arrive.by_text b (acts.Arrived b datagram_1 ∷ put_once) in_once 1 text) opens
 
-shown_after : gw_block gateway_b (acts.Gone b (codes "in/1") gone.Hard ∷ acts.Gave b (codes "in/1") 1 packet_6 ∷ acts.Arrived b datagram_1 ∷ put_once) (Arrive datagram_1)
+shown_after : gw_block gateway_b (acts.Gone b (codes "in/1") gone.Hard ∷ acts.Gave b (codes "in/1") 1 packet_6 ∷ acts.Arrived b datagram_1
+    ∷ put_once) (Arrive datagram_1)
     ≡ acts.Arrived b datagram_1 ∷ acts.Drop b why.BadSpi ∷ acts.Notice b 1 (notices.BadSpi 257) ∷ []
 unfolding arrive.arrive_acts number_from view_of
 shown_after = refl
@@ -295,21 +321,25 @@ put_other = acts.Put b in_other ∷ []
 shown_selector : Opens in_other → gw_block gateway_b put_other (Arrive datagram_1)
     ≡ acts.Arrived b datagram_1 ∷ acts.Drop b why.Selector ∷ acts.Notice b 0 (notices.Expire (codes "in/1") true (limits 0 88 1 0)) ∷ []
 unfolding arrive.arrive_acts number_from view_of upper_of holds_packet esp.inner_packet
-shown_selector opens = ap (λ text. acts.Arrived b datagram_1 ∷ arrive.by_text b (acts.Arrived b datagram_1 ∷ put_other) in_other 1 text) opens
+shown_selector opens = ap (λ text. acts.Arrived b datagram_1 ∷ arrive.by_text b (acts.Arrived b datagram_1 ∷ put_other) in_other 1 text)
+    opens
 
-shown_taken : gw_block gateway_b (acts.Drop b why.Selector ∷ acts.Arrived b datagram_1 ∷ put_other) (Arrive datagram_1) ≡ acts.Arrived b datagram_1 ∷ acts.Drop b why.Seen ∷ []
+shown_taken : gw_block gateway_b (acts.Drop b why.Selector ∷ acts.Arrived b datagram_1 ∷ put_other) (Arrive datagram_1) ≡ acts.Arrived b
+    datagram_1 ∷ acts.Drop b why.Seen ∷ []
 unfolding arrive.arrive_acts number_from view_of
 shown_taken = refl
 
 -- a tag that isn't right takes no number
-shown_auth : esp.opened (keying 257 in_1.key) sealed_1 ≡ None → gw_block gateway_b put_1 (Arrive datagram_1) ≡ acts.Arrived b datagram_1 ∷ acts.Drop b why.Auth ∷ []
+shown_auth : esp.opened (keying 257 in_1.key) sealed_1 ≡ None → gw_block gateway_b put_1 (Arrive datagram_1) ≡ acts.Arrived b datagram_1
+    ∷ acts.Drop b why.Auth ∷ []
 unfolding arrive.arrive_acts number_from view_of
 shown_auth fails = ap (λ text. acts.Arrived b datagram_1 ∷ arrive.by_text b (acts.Arrived b datagram_1 ∷ put_1) in_1 1 text) fails
 
 shown_again : Opens in_1 → gw_block gateway_b (acts.Drop b why.Auth ∷ acts.Arrived b datagram_1 ∷ put_1) (Arrive datagram_1)
     ≡ acts.Arrived b datagram_1 ∷ acts.Gave b (codes "in/1") 1 packet_6 ∷ []
 unfolding arrive.arrive_acts number_from view_of upper_of holds_packet esp.inner_packet
-shown_again opens = ap (λ text. acts.Arrived b datagram_1 ∷ arrive.by_text b (acts.Arrived b datagram_1 ∷ acts.Drop b why.Auth ∷ acts.Arrived b datagram_1 ∷ put_1) in_1 1 text) opens
+shown_again opens = ap (λ text. acts.Arrived b datagram_1 ∷ arrive.by_text b (acts.Arrived b datagram_1 ∷ acts.Drop b why.Auth
+    ∷ acts.Arrived b datagram_1 ∷ put_1) in_1 1 text) opens
 
 -- ---- numbers that aren't fresh, and octets that are too few
 
@@ -317,16 +347,20 @@ abbrev gave_100 : List Act
 gave_100 = acts.Gave b (codes "in/1") 100 packet_6 ∷ acts.Arrived b datagram_1 ∷ put_1
 
 abbrev datagram_0 : List ℕ
-datagram_0 = 69 ∷ 0 ∷ 0 ∷ 60 ∷ 0 ∷ 1 ∷ 64 ∷ 0 ∷ 64 ∷ 50 ∷ 78 ∷ 89 ∷ 192 ∷ 0 ∷ 2 ∷ 1 ∷ 198 ∷ 51 ∷ 100 ∷ 1 ∷ 0 ∷ 0 ∷ 1 ∷ 1 ∷ 0 ∷ 0 ∷ 0 ∷ 0 ∷ 0 ∷ 0 ∷ 0 ∷ 0 ∷ 0 ∷ 0 ∷ 0 ∷ 0 ∷ 0 ∷ 0 ∷ 0 ∷ 0 ∷ 0 ∷ 0 ∷ 0 ∷ 0 ∷ 0 ∷ 0 ∷ 0 ∷ 0 ∷ 0 ∷ 0 ∷ 0 ∷ 0 ∷ 0 ∷ 0 ∷ 0 ∷ 0 ∷ 0 ∷ 0 ∷ 0 ∷ 0 ∷ []
+datagram_0 = 69 ∷ 0 ∷ 0 ∷ 60 ∷ 0 ∷ 1 ∷ 64 ∷ 0 ∷ 64 ∷ 50 ∷ 78 ∷ 89 ∷ 192 ∷ 0 ∷ 2 ∷ 1 ∷ 198 ∷ 51 ∷ 100 ∷ 1 ∷ 0 ∷ 0 ∷ 1 ∷ 1 ∷ 0 ∷ 0 ∷ 0 ∷ 0 ∷ 0
+    ∷ 0 ∷ 0 ∷ 0 ∷ 0 ∷ 0 ∷ 0 ∷ 0 ∷ 0 ∷ 0 ∷ 0 ∷ 0 ∷ 0 ∷ 0 ∷ 0 ∷ 0 ∷ 0 ∷ 0 ∷ 0 ∷ 0 ∷ 0 ∷ 0 ∷ 0 ∷ 0 ∷ 0 ∷ 0 ∷ 0 ∷ 0 ∷ 0 ∷ 0 ∷ 0 ∷ 0 ∷ []
 
 abbrev datagram_36 : List ℕ
-datagram_36 = 69 ∷ 0 ∷ 0 ∷ 60 ∷ 0 ∷ 1 ∷ 64 ∷ 0 ∷ 64 ∷ 50 ∷ 78 ∷ 89 ∷ 192 ∷ 0 ∷ 2 ∷ 1 ∷ 198 ∷ 51 ∷ 100 ∷ 1 ∷ 0 ∷ 0 ∷ 1 ∷ 1 ∷ 0 ∷ 0 ∷ 0 ∷ 36 ∷ 0 ∷ 0 ∷ 0 ∷ 0 ∷ 0 ∷ 0 ∷ 0 ∷ 36 ∷ 0 ∷ 0 ∷ 0 ∷ 0 ∷ 0 ∷ 0 ∷ 0 ∷ 0 ∷ 0 ∷ 0 ∷ 0 ∷ 0 ∷ 0 ∷ 0 ∷ 0 ∷ 0 ∷ 0 ∷ 0 ∷ 0 ∷ 0 ∷ 0 ∷ 0 ∷ 0 ∷ 0 ∷ []
+datagram_36 = 69 ∷ 0 ∷ 0 ∷ 60 ∷ 0 ∷ 1 ∷ 64 ∷ 0 ∷ 64 ∷ 50 ∷ 78 ∷ 89 ∷ 192 ∷ 0 ∷ 2 ∷ 1 ∷ 198 ∷ 51 ∷ 100 ∷ 1 ∷ 0 ∷ 0 ∷ 1 ∷ 1 ∷ 0 ∷ 0 ∷ 0 ∷ 36
+    ∷ 0 ∷ 0 ∷ 0 ∷ 0 ∷ 0 ∷ 0 ∷ 0 ∷ 36 ∷ 0 ∷ 0 ∷ 0 ∷ 0 ∷ 0 ∷ 0 ∷ 0 ∷ 0 ∷ 0 ∷ 0 ∷ 0 ∷ 0 ∷ 0 ∷ 0 ∷ 0 ∷ 0 ∷ 0 ∷ 0 ∷ 0 ∷ 0 ∷ 0 ∷ 0 ∷ 0 ∷ 0 ∷ []
 
 abbrev datagram_37 : List ℕ
-datagram_37 = 69 ∷ 0 ∷ 0 ∷ 60 ∷ 0 ∷ 1 ∷ 64 ∷ 0 ∷ 64 ∷ 50 ∷ 78 ∷ 89 ∷ 192 ∷ 0 ∷ 2 ∷ 1 ∷ 198 ∷ 51 ∷ 100 ∷ 1 ∷ 0 ∷ 0 ∷ 1 ∷ 1 ∷ 0 ∷ 0 ∷ 0 ∷ 37 ∷ 0 ∷ 0 ∷ 0 ∷ 0 ∷ 0 ∷ 0 ∷ 0 ∷ 37 ∷ 0 ∷ 0 ∷ 0 ∷ 0 ∷ 0 ∷ 0 ∷ 0 ∷ 0 ∷ 0 ∷ 0 ∷ 0 ∷ 0 ∷ 0 ∷ 0 ∷ 0 ∷ 0 ∷ 0 ∷ 0 ∷ 0 ∷ 0 ∷ 0 ∷ 0 ∷ 0 ∷ 0 ∷ []
+datagram_37 = 69 ∷ 0 ∷ 0 ∷ 60 ∷ 0 ∷ 1 ∷ 64 ∷ 0 ∷ 64 ∷ 50 ∷ 78 ∷ 89 ∷ 192 ∷ 0 ∷ 2 ∷ 1 ∷ 198 ∷ 51 ∷ 100 ∷ 1 ∷ 0 ∷ 0 ∷ 1 ∷ 1 ∷ 0 ∷ 0 ∷ 0 ∷ 37
+    ∷ 0 ∷ 0 ∷ 0 ∷ 0 ∷ 0 ∷ 0 ∷ 0 ∷ 37 ∷ 0 ∷ 0 ∷ 0 ∷ 0 ∷ 0 ∷ 0 ∷ 0 ∷ 0 ∷ 0 ∷ 0 ∷ 0 ∷ 0 ∷ 0 ∷ 0 ∷ 0 ∷ 0 ∷ 0 ∷ 0 ∷ 0 ∷ 0 ∷ 0 ∷ 0 ∷ 0 ∷ 0 ∷ []
 
 abbrev datagram_33_octets : List ℕ
-datagram_33_octets = 69 ∷ 0 ∷ 0 ∷ 53 ∷ 0 ∷ 1 ∷ 64 ∷ 0 ∷ 64 ∷ 50 ∷ 78 ∷ 96 ∷ 192 ∷ 0 ∷ 2 ∷ 1 ∷ 198 ∷ 51 ∷ 100 ∷ 1 ∷ 0 ∷ 0 ∷ 1 ∷ 1 ∷ 0 ∷ 0 ∷ 0 ∷ 1 ∷ 0 ∷ 0 ∷ 0 ∷ 0 ∷ 0 ∷ 0 ∷ 0 ∷ 1 ∷ 0 ∷ 0 ∷ 0 ∷ 0 ∷ 0 ∷ 0 ∷ 0 ∷ 0 ∷ 0 ∷ 0 ∷ 0 ∷ 0 ∷ 0 ∷ 0 ∷ 0 ∷ 0 ∷ 0 ∷ []
+datagram_33_octets = 69 ∷ 0 ∷ 0 ∷ 53 ∷ 0 ∷ 1 ∷ 64 ∷ 0 ∷ 64 ∷ 50 ∷ 78 ∷ 96 ∷ 192 ∷ 0 ∷ 2 ∷ 1 ∷ 198 ∷ 51 ∷ 100 ∷ 1 ∷ 0 ∷ 0 ∷ 1 ∷ 1 ∷ 0 ∷ 0 ∷ 0
+    ∷ 1 ∷ 0 ∷ 0 ∷ 0 ∷ 0 ∷ 0 ∷ 0 ∷ 0 ∷ 1 ∷ 0 ∷ 0 ∷ 0 ∷ 0 ∷ 0 ∷ 0 ∷ 0 ∷ 0 ∷ 0 ∷ 0 ∷ 0 ∷ 0 ∷ 0 ∷ 0 ∷ 0 ∷ 0 ∷ 0 ∷ []
 
 shown_not_fresh : gw_history gateway_b gave_100 (Arrive datagram_0 ∷ Arrive datagram_36 ∷ Arrive datagram_33_octets ∷ [])
     ≡ acts.Arrived b datagram_0 ∷ acts.Drop b why.Zero ∷ acts.Arrived b datagram_36 ∷ acts.Drop b why.Old
@@ -335,7 +369,9 @@ unfolding arrive.arrive_acts number_from view_of
 shown_not_fresh = refl
 
 -- the least number inside the window is looked at
-shown_inside : esp.opened (keying 257 in_1.key) (0 ∷ 0 ∷ 1 ∷ 1 ∷ 0 ∷ 0 ∷ 0 ∷ 37 ∷ 0 ∷ 0 ∷ 0 ∷ 0 ∷ 0 ∷ 0 ∷ 0 ∷ 37 ∷ 0 ∷ 0 ∷ 0 ∷ 0 ∷ 0 ∷ 0 ∷ 0 ∷ 0 ∷ 0 ∷ 0 ∷ 0 ∷ 0 ∷ 0 ∷ 0 ∷ 0 ∷ 0 ∷ 0 ∷ 0 ∷ 0 ∷ 0 ∷ 0 ∷ 0 ∷ 0 ∷ 0 ∷ []) ≡ None → gw_block gateway_b gave_100 (Arrive datagram_37) ≡ acts.Arrived b datagram_37 ∷ acts.Drop b why.Auth ∷ []
+shown_inside : esp.opened (keying 257 in_1.key) (0 ∷ 0 ∷ 1 ∷ 1 ∷ 0 ∷ 0 ∷ 0 ∷ 37 ∷ 0 ∷ 0 ∷ 0 ∷ 0 ∷ 0 ∷ 0 ∷ 0 ∷ 37 ∷ 0 ∷ 0 ∷ 0 ∷ 0 ∷ 0 ∷ 0 ∷ 0
+    ∷ 0 ∷ 0 ∷ 0 ∷ 0 ∷ 0 ∷ 0 ∷ 0 ∷ 0 ∷ 0 ∷ 0 ∷ 0 ∷ 0 ∷ 0 ∷ 0 ∷ 0 ∷ 0 ∷ 0 ∷ []) ≡ None → gw_block gateway_b gave_100 (Arrive datagram_37) ≡
+    acts.Arrived b datagram_37 ∷ acts.Drop b why.Auth ∷ []
 unfolding arrive.arrive_acts number_from view_of
 shown_inside fails = ap (λ text. acts.Arrived b datagram_37 ∷ arrive.by_text b (acts.Arrived b datagram_37 ∷ gave_100) in_1 37 text) fails
 
@@ -349,23 +385,32 @@ shown_elsewhere = refl
 abbrev pub refusal : ℕ → Tag → Answer
 refusal status tag = record { status = status; tag = Some tag; names = [] }
 
-shown_requests : gw_history gateway_b [] (Session_taken ∷ Handle (Ok (asks.PostSad in_1)) ∷ Handle (Ok (asks.PostSad in_1)) ∷ Handle (Ok (asks.PostSad (half (codes "in/9") 257 (between second_site first_site) address_a address_b (limits 0 0 0 0) (limits 0 0 0 0))))
-    ∷ Handle (Ok (asks.DeleteSad (codes "in/7"))) ∷ Handle (Ok asks.GetSad) ∷ Handle (Ok (asks.DeleteSad (codes "in/1"))) ∷ Handle (Ok asks.GetSad)
+shown_requests : gw_history gateway_b [] (Session_taken ∷ Handle (Ok (asks.PostSad in_1)) ∷ Handle (Ok (asks.PostSad in_1))
+    ∷ Handle (Ok (asks.PostSad (half (codes "in/9") 257 (between second_site first_site) address_a address_b (limits 0 0 0 0)
+    (limits 0 0 0 0))))
+    ∷ Handle (Ok (asks.DeleteSad (codes "in/7"))) ∷ Handle (Ok asks.GetSad) ∷ Handle (Ok (asks.DeleteSad (codes "in/1")))
+        ∷ Handle (Ok asks.GetSad)
     ∷ Handle (Err (record { status = 400; tag = tags.UnknownElement })) ∷ Session_taken ∷ Handle (Ok asks.GetSpd) ∷ [])
-    ≡ acts.Opened b 1 ∷ acts.Put b in_1 ∷ acts.Handled b 1 1 (done 201) ∷ acts.Handled b 1 2 (refusal 409 tags.ResourceDenied) ∷ acts.Handled b 1 3 (refusal 409 tags.ResourceDenied)
-    ∷ acts.Handled b 1 4 (refusal 404 tags.InvalidValue) ∷ acts.Handled b 1 5 (record { status = 200; tag = None; names = codes "in/1" ∷ [] })
+    ≡ acts.Opened b 1 ∷ acts.Put b in_1 ∷ acts.Handled b 1 1 (done 201) ∷ acts.Handled b 1 2 (refusal 409 tags.ResourceDenied)
+        ∷ acts.Handled b 1 3 (refusal 409 tags.ResourceDenied)
+    ∷ acts.Handled b 1 4 (refusal 404 tags.InvalidValue)
+        ∷ acts.Handled b 1 5 (record { status = 200; tag = None; names = codes "in/1" ∷ [] })
     ∷ acts.Gone b (codes "in/1") gone.Removed ∷ acts.Handled b 1 6 (done 204) ∷ acts.Handled b 1 7 (done 200)
     ∷ acts.Handled b 1 8 (refusal 400 tags.UnknownElement) ∷ acts.Opened b 2 ∷ acts.Handled b 2 1 (done 200) ∷ []
 unfolding reply
 shown_requests = refl
 
 -- an acquire may come again once another list is in force or a half for it was installed, and not before
-shown_acquire_ends : gw_history gateway_a [] (Handle (Ok (asks.PutSpd protect_4)) ∷ Let packet_4 ∷ Handle (Ok (asks.PostSad in_1)) ∷ Let packet_4 ∷ Handle (Ok (asks.PostSad out_1)) ∷ Let packet_4
+shown_acquire_ends : gw_history gateway_a [] (Handle (Ok (asks.PutSpd protect_4)) ∷ Let packet_4 ∷ Handle (Ok (asks.PostSad in_1))
+    ∷ Let packet_4 ∷ Handle (Ok (asks.PostSad out_1)) ∷ Let packet_4
     ∷ Handle (Ok (asks.PutSpd protect_4)) ∷ Let packet_4 ∷ [])
-    ≡ acts.Policy a protect_4 ∷ acts.Handled a 0 1 (done 204) ∷ acts.Let a packet_4 ∷ acts.Drop a why.NoSa ∷ acts.Notice a 0 (notices.Acquire (codes "o1") (flow_of view_4))
+    ≡ acts.Policy a protect_4 ∷ acts.Handled a 0 1 (done 204) ∷ acts.Let a packet_4 ∷ acts.Drop a why.NoSa
+        ∷ acts.Notice a 0 (notices.Acquire (codes "o1") (flow_of view_4))
     ∷ acts.Put a in_1 ∷ acts.Handled a 0 2 (done 201) ∷ acts.Let a packet_4 ∷ acts.Drop a why.NoSa
-    ∷ acts.Put a out_1 ∷ acts.Handled a 0 3 (done 201) ∷ acts.Let a packet_4 ∷ acts.Drop a why.NoSa ∷ acts.Notice a 0 (notices.Acquire (codes "o1") (flow_of view_4))
-    ∷ acts.Policy a protect_4 ∷ acts.Handled a 0 4 (done 204) ∷ acts.Let a packet_4 ∷ acts.Drop a why.NoSa ∷ acts.Notice a 0 (notices.Acquire (codes "o1") (flow_of view_4)) ∷ []
+    ∷ acts.Put a out_1 ∷ acts.Handled a 0 3 (done 201) ∷ acts.Let a packet_4 ∷ acts.Drop a why.NoSa
+        ∷ acts.Notice a 0 (notices.Acquire (codes "o1") (flow_of view_4))
+    ∷ acts.Policy a protect_4 ∷ acts.Handled a 0 4 (done 204) ∷ acts.Let a packet_4 ∷ acts.Drop a why.NoSa
+        ∷ acts.Notice a 0 (notices.Acquire (codes "o1") (flow_of view_4)) ∷ []
 unfolding let_acts view_of holds_packet reply
 shown_acquire_ends = refl
 
@@ -373,8 +418,10 @@ shown_acquire_ends = refl
 abbrev out_other : SadEntry
 out_other = record out_1 { reqid = 11 }
 
-shown_acquire_stays : gw_history gateway_a [] (Handle (Ok (asks.PutSpd protect_4)) ∷ Let packet_4 ∷ Handle (Ok (asks.PostSad out_other)) ∷ Let packet_4 ∷ [])
-    ≡ acts.Policy a protect_4 ∷ acts.Handled a 0 1 (done 204) ∷ acts.Let a packet_4 ∷ acts.Drop a why.NoSa ∷ acts.Notice a 0 (notices.Acquire (codes "o1") (flow_of view_4))
+shown_acquire_stays : gw_history gateway_a [] (Handle (Ok (asks.PutSpd protect_4)) ∷ Let packet_4 ∷ Handle (Ok (asks.PostSad out_other))
+    ∷ Let packet_4 ∷ [])
+    ≡ acts.Policy a protect_4 ∷ acts.Handled a 0 1 (done 204) ∷ acts.Let a packet_4 ∷ acts.Drop a why.NoSa
+        ∷ acts.Notice a 0 (notices.Acquire (codes "o1") (flow_of view_4))
     ∷ acts.Put a out_other ∷ acts.Handled a 0 2 (done 201) ∷ acts.Let a packet_4 ∷ acts.Drop a why.NoSa ∷ []
 unfolding let_acts view_of holds_packet reply
 shown_acquire_stays = refl
@@ -383,7 +430,8 @@ shown_acquire_stays = refl
 
 -- packet_back, with a bit that says that more fragments follow
 abbrev fragment : List ℕ
-fragment = 69 ∷ 0 ∷ 0 ∷ 32 ∷ 0 ∷ 0 ∷ 32 ∷ 0 ∷ 64 ∷ 17 ∷ 70 ∷ 189 ∷ 10 ∷ 2 ∷ 0 ∷ 9 ∷ 10 ∷ 1 ∷ 0 ∷ 5 ∷ 18 ∷ 52 ∷ 0 ∷ 53 ∷ 0 ∷ 12 ∷ 0 ∷ 0 ∷ 97 ∷ 98 ∷ 99 ∷ 100 ∷ []
+fragment = 69 ∷ 0 ∷ 0 ∷ 32 ∷ 0 ∷ 0 ∷ 32 ∷ 0 ∷ 64 ∷ 17 ∷ 70 ∷ 189 ∷ 10 ∷ 2 ∷ 0 ∷ 9 ∷ 10 ∷ 1 ∷ 0 ∷ 5 ∷ 18 ∷ 52 ∷ 0 ∷ 53 ∷ 0 ∷ 12 ∷ 0 ∷ 0 ∷ 97
+    ∷ 98 ∷ 99 ∷ 100 ∷ []
 
 shown_fragment : gw_history gateway_a [] (replaced_by actions.Bypass ∷ Arrive fragment ∷ [])
     ≡ acts.Policy a (inward actions.Bypass) ∷ acts.Handled a 0 1 (done 204) ∷ acts.Arrived a fragment ∷ acts.Drop a why.Fragment ∷ []
@@ -396,11 +444,14 @@ abbrev out_idle : SadEntry
 out_idle = half (codes "out/1") 257 (between first_site second_site) address_a address_b (limits 0 0 0 5) (limits 0 0 0 0)
 
 shown_idle : gw_history gateway_a (acts.Put a out_idle ∷ []) (Clock 4 ∷ Clock 5 ∷ [])
-    ≡ acts.Now 4 ∷ acts.Now 5 ∷ acts.Gone a (codes "out/1") gone.Hard ∷ acts.Notice a 0 (notices.Expire (codes "out/1") false (limits 5 0 0 5)) ∷ []
+    ≡ acts.Now 4 ∷ acts.Now 5 ∷ acts.Gone a (codes "out/1") gone.Hard
+        ∷ acts.Notice a 0 (notices.Expire (codes "out/1") false (limits 5 0 0 5)) ∷ []
 shown_idle = refl
 
-shown_idle_used : gw_history gateway_a (acts.Sent a (codes "out/1") 1 datagram_1 ∷ acts.Let a packet_6 ∷ acts.Now 3 ∷ acts.Put a out_idle ∷ []) (Clock 7 ∷ Clock 8 ∷ [])
-    ≡ acts.Now 7 ∷ acts.Now 8 ∷ acts.Gone a (codes "out/1") gone.Hard ∷ acts.Notice a 0 (notices.Expire (codes "out/1") false (limits 8 88 1 5)) ∷ []
+shown_idle_used : gw_history gateway_a (acts.Sent a (codes "out/1") 1 datagram_1 ∷ acts.Let a packet_6 ∷ acts.Now 3 ∷ acts.Put a out_idle
+    ∷ []) (Clock 7 ∷ Clock 8 ∷ [])
+    ≡ acts.Now 7 ∷ acts.Now 8 ∷ acts.Gone a (codes "out/1") gone.Hard
+        ∷ acts.Notice a 0 (notices.Expire (codes "out/1") false (limits 8 88 1 5)) ∷ []
 unfolding view_of
 shown_idle_used = refl
 
@@ -430,7 +481,8 @@ shown_version opens = ap (λ text. acts.Arrived b datagram_1 ∷ arrive.by_text 
 
 -- ---- the DF bit of the outer header: clear, set, or that of the packet
 
-shown_df : (has_outer_df dfs.Clear view_6 ≡ false) × (has_outer_df dfs.Set view_6 ≡ true) × (has_outer_df dfs.Copy view_6 ≡ true) × (has_outer_df dfs.Copy (record view_6 { df = false }) ≡ false)
+shown_df : (has_outer_df dfs.Clear view_6 ≡ false) × (has_outer_df dfs.Set view_6 ≡ true) × (has_outer_df dfs.Copy view_6 ≡ true)
+    × (has_outer_df dfs.Copy (record view_6 { df = false }) ≡ false)
 shown_df = (refl, refl, refl, refl)
 
 -- ---- a bad SPI stands among the last 64
@@ -460,11 +512,13 @@ abbrev out_once : SadEntry
 out_once = half (codes "out/1") 257 (between first_site second_site) address_a address_b (limits 0 0 1 0) (limits 0 0 0 0)
 
 abbrev sent_once : List Act
-sent_once = acts.Sent a (codes "out/1") 1 (datagram out_once 1 view_6 packet_6) ∷ acts.Let a packet_6 ∷ acts.Put a out_once ∷ acts.Policy a protect_6 ∷ []
+sent_once = acts.Sent a (codes "out/1") 1 (datagram out_once 1 view_6 packet_6) ∷ acts.Let a packet_6 ∷ acts.Put a out_once
+    ∷ acts.Policy a protect_6 ∷ []
 
 shown_spent : gw_block gateway_a (acts.Put a out_once ∷ acts.Policy a protect_6 ∷ []) (Let packet_6)
     ≡ acts.Let a packet_6 ∷ acts.Sent a (codes "out/1") 1 (datagram out_once 1 view_6 packet_6)
-    ∷ acts.Gone a (codes "out/1") gone.Hard ∷ acts.Notice a 0 (notices.Expire (codes "out/1") false (counts a (codes "out/1") sent_once)) ∷ []
+    ∷ acts.Gone a (codes "out/1") gone.Hard ∷ acts.Notice a 0 (notices.Expire (codes "out/1") false (counts a (codes "out/1") sent_once))
+        ∷ []
 unfolding let_acts view_of upper_of holds_packet
 shown_spent = refl
 

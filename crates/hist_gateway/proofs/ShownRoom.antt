@@ -35,25 +35,31 @@ rows g h = length-map (live g h) (row_of g h)
 -- the reply is that of the room alone
 by-room : (c : Gateway) (h : List Act) (e : SadEntry) (full : Bool) → Free c h e → nat_le 4096 (length (live c.name h)) ≡ full →
     table.reply (tree_of c.name h) (asks.PostSad e)
-    ≡ (if full then table.full (tree_of c.name h) else table.made (table.At_half e.name) (changes.Put e) (table.with_sad (tree_of c.name h) ((tree_of c.name h).sad ++ table.new_row e ∷ [])))
+    ≡ (if full then table.full (tree_of c.name h) else table.made (table.At_half e.name) (changes.Put e)
+        (table.with_sad (tree_of c.name h) ((tree_of c.name h).sad ++ table.new_row e ∷ [])))
 unfolding table.reply
 by-room c h e full free room =
     let g : List ℕ = c.name in
-    let made : table.Outcome = table.made (table.At_half e.name) (changes.Put e) (table.with_sad (tree_of g h) ((tree_of g h).sad ++ table.new_row e ∷ [])) in
+    let made : table.Outcome =
+        table.made (table.At_half e.name) (changes.Put e) (table.with_sad (tree_of g h) ((tree_of g h).sad ++ table.new_row e ∷ [])) in
     let last : table.Outcome = if table.is_sad_full (tree_of g h).sad then table.full (tree_of g h) else made in
     let own : table.Outcome = if is_inbound e.name && table.has_spi e.spi (tree_of g h).sad then table.spi_taken (tree_of g h) else last in
     let name : list_any (table.is_row e.name) (tree_of g h).sad ≡ false = any-map (table.is_row e.name) (row_of g h) (live g h) ∙ free.0 in
-    let spi : (is_inbound e.name && table.has_spi e.spi (tree_of g h).sad) ≡ false = ap (λ z. is_inbound e.name && z) (any-map (λ r. is_inbound r.entry.name && (r.entry.spi == e.spi)) (row_of g h) (live g h)) ∙ free.1 in
+    let spi : (is_inbound e.name && table.has_spi e.spi (tree_of g h).sad) ≡ false =
+        ap (λ z. is_inbound e.name && z) (any-map (λ r. is_inbound r.entry.name && (r.entry.spi == e.spi)) (row_of g h) (live g h))
+        ∙ free.1 in
     ap (λ z. if z then table.exists (tree_of g h) else own) name
     ∙ (ap (λ z. if z then table.spi_taken (tree_of g h) else last) spi
     ∙ ap (λ z. if z then table.full (tree_of g h) else made) (ap (nat_le 4096) (rows g h) ∙ room))
 
 pub shown_put : (c : Gateway) (h : List Act) (e : SadEntry) → Free c h e → nat_le 4096 (length (live c.name h)) ≡ false →
-    gw_block c h (Handle (Ok (asks.PostSad e))) ≡ acts.Put c.name e ∷ acts.Handled c.name (sessions.session_taken c.name h) (requests c.name h + 1) (done 201) ∷ []
+    gw_block c h (Handle (Ok (asks.PostSad e))) ≡ acts.Put c.name e ∷ acts.Handled c.name (sessions.session_taken c.name h)
+        (requests c.name h + 1) (done 201) ∷ []
 shown_put c h e free room = ap (reply_acts c.name (sessions.session_taken c.name h) (requests c.name h + 1)) (by-room c h e false free room)
 
 pub shown_full : (c : Gateway) (h : List Act) (e : SadEntry) → Free c h e → nat_le 4096 (length (live c.name h)) ≡ true →
-    gw_block c h (Handle (Ok (asks.PostSad e))) ≡ acts.Handled c.name (sessions.session_taken c.name h) (requests c.name h + 1) (refusal 409 tags.ResourceDenied) ∷ []
+    gw_block c h (Handle (Ok (asks.PostSad e))) ≡ acts.Handled c.name (sessions.session_taken c.name h) (requests c.name h + 1)
+        (refusal 409 tags.ResourceDenied) ∷ []
 shown_full c h e free room = ap (reply_acts c.name (sessions.session_taken c.name h) (requests c.name h + 1)) (by-room c h e true free room)
 
 -- ---- a past with so many outbound halves
@@ -111,18 +117,21 @@ filled-free n = (
   any-end (λ e. is_inbound e.name && (e.spi == 259)) (live b (puts n)) last_half ∙ spi-free n 259,
 )
 
-first-of : (n : ℕ) → n ≡ 4095 → gw_block gateway_b (puts n) (Handle (Ok (asks.PostSad last_half))) ≡ acts.Put b last_half ∷ acts.Handled b 0 1 (done 201) ∷ []
+first-of : (n : ℕ) → n ≡ 4095 → gw_block gateway_b (puts n) (Handle (Ok (asks.PostSad last_half))) ≡ acts.Put b last_half
+    ∷ acts.Handled b 0 1 (done 201) ∷ []
 first-of n e =
     shown_put gateway_b (puts n) last_half (name-free n (codes "1"), spi-free n 258) (ap (nat_le 4096) (so-many n ∙ e))
     ∙ (λ i. acts.Put b last_half ∷ acts.Handled b (no-session n i) (no-requests n i + 1) (done 201) ∷ [])
 
-second-of : (n : ℕ) → n ≡ 4095 → gw_block gateway_b (filled n) (Handle (Ok (asks.PostSad one_more))) ≡ acts.Handled b 0 2 (refusal 409 tags.ResourceDenied) ∷ []
+second-of : (n : ℕ) → n ≡ 4095 → gw_block gateway_b (filled n) (Handle (Ok (asks.PostSad one_more))) ≡ acts.Handled b 0 2
+    (refusal 409 tags.ResourceDenied) ∷ []
 second-of n e =
     shown_full gateway_b (filled n) one_more (filled-free n) (ap (nat_le 4096) (filled-many n ∙ ap (λ (z : ℕ). z + 1) e))
     ∙ (λ i. acts.Handled b (no-session n i) (no-requests n i + 1 + 1) (refusal 409 tags.ResourceDenied) ∷ [])
 
 -- the acts of both, after so many halves
-shown_room : (n : ℕ) → n ≡ 4095 → gw_history gateway_b (puts n) (Handle (Ok (asks.PostSad last_half)) ∷ Handle (Ok (asks.PostSad one_more)) ∷ [])
+shown_room : (n : ℕ) → n ≡ 4095 → gw_history gateway_b (puts n) (Handle (Ok (asks.PostSad last_half)) ∷ Handle (Ok (asks.PostSad one_more))
+    ∷ [])
     ≡ acts.Put b last_half ∷ acts.Handled b 0 1 (done 201) ∷ acts.Handled b 0 2 (refusal 409 tags.ResourceDenied) ∷ []
 shown_room n e =
     let rest : List Act → List Act = λ xs. xs ++ gw_history gateway_b (after (puts n) xs) (Handle (Ok (asks.PostSad one_more)) ∷ []) in

@@ -38,7 +38,8 @@ posted t e place =
     let point : table.Outcome = if not (table.has_point place t.spd) then table.no_point t else made in
     let room : table.Outcome = if table.is_spd_full t.spd then table.full t else point in
     either (table.has_policy e.name t.spd) (table.exists t) room refl
-    (either (table.is_spd_full t.spd) (table.full t) point refl (either (not (table.has_point place t.spd)) (table.no_point t) made refl refl))
+    (either (table.is_spd_full t.spd) (table.full t) point refl (either (not (table.has_point place t.spd)) (table.no_point t) made refl
+        refl))
 
 put : (t : Tree) (e : SpdEntry) → Answers (table.put_spd_entry t e)
 put t e =
@@ -53,7 +54,8 @@ installed t e =
     let room : table.Outcome = if table.is_sad_full t.sad then table.full t else made in
     let own : table.Outcome = if is_inbound e.name && table.has_spi e.spi t.sad then table.spi_taken t else room in
     either (list_any (table.is_row e.name) t.sad) (table.exists t) own refl
-    (either (is_inbound e.name && table.has_spi e.spi t.sad) (table.spi_taken t) room refl (either (table.is_sad_full t.sad) (table.full t) made refl refl))
+    (either (is_inbound e.name && table.has_spi e.spi t.sad) (table.spi_taken t) room refl
+        (either (table.is_sad_full t.sad) (table.full t) made refl refl))
 
 policy-shown : (t : Tree) (found : Option SpdEntry) → Answers (table.show_policy t found)
 policy-shown t None = refl
@@ -70,22 +72,29 @@ replies t (asks.PutSpd list) = refl
 replies t (asks.PostSpd e place) = posted t e place
 replies t (asks.GetSpdEntry name) = policy-shown t (find (is_named name) t.spd)
 replies t (asks.PutSpdEntry e) = put t e
-replies t (asks.DeleteSpdEntry name) = either (table.has_policy name t.spd) (table.done changes.Spd (table.with_spd t (table.without_policy name t.spd))) (table.absent t) refl refl
+replies t (asks.DeleteSpdEntry name) =
+    either (table.has_policy name t.spd) (table.done changes.Spd (table.with_spd t (table.without_policy name t.spd))) (table.absent t) refl
+    refl
 replies t asks.GetSad = refl
 replies t (asks.PostSad e) = installed t e
 replies t (asks.GetSadEntry name) = half-shown t (find (table.is_row name) t.sad)
-replies t (asks.DeleteSad name) = either (list_any (table.is_row name) t.sad) (table.done (changes.Gone name) (table.with_sad t (table.without_row name t.sad))) (table.absent t) refl refl
+replies t (asks.DeleteSad name) =
+    either (list_any (table.is_row name) t.sad) (table.done (changes.Gone name) (table.with_sad t (table.without_row name t.sad)))
+    (table.absent t) refl refl
 
 -- ---- a request
 
-changed : (g : List ℕ) (r : table.Outcome) (c : Change) (last : Act) → has_answer_status last ≡ true → list_all has_answer_status (change_acts g r c ++ last ∷ []) ≡ true
+changed : (g : List ℕ) (r : table.Outcome) (c : Change) (last : Act) → has_answer_status last ≡ true
+    → list_all has_answer_status (change_acts g r c ++ last ∷ []) ≡ true
 changed g r changes.Nothing last e = and_from (has_answer_status last) true e refl
 changed g r changes.Spd last e = and_from (has_answer_status last) true e refl
 changed g r (changes.Put x) last e = and_from (has_answer_status last) true e refl
 changed g r (changes.Gone name) last e = and_from (has_answer_status last) true e refl
 
-pub request-statuses : (c : Gateway) (h : List Act) (request : Result Ask Fault) → MayCome (Handle request) → list_all has_answer_status (gw_block c h (Handle request)) ≡ true
+pub request-statuses : (c : Gateway) (h : List Act) (request : Result Ask Fault) → MayCome (Handle request)
+    → list_all has_answer_status (gw_block c h (Handle request)) ≡ true
 request-statuses c h (Ok ask) m =
     let r : table.Outcome = table.reply (tree_of c.name h) ask in
-    changed c.name r r.change (acts.Handled c.name (sessions.session_taken c.name h) (requests c.name h + 1) (answer_of r)) (replies (tree_of c.name h) ask)
+    changed c.name r r.change (acts.Handled c.name (sessions.session_taken c.name h) (requests c.name h + 1) (answer_of r))
+        (replies (tree_of c.name h) ask)
 request-statuses c h (Err fault) m = and_from (is_answer_status (Some fault.tag) fault.status) true m refl

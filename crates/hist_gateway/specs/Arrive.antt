@@ -104,7 +104,8 @@ is_sealed_for own v = (v.proto == 50) && is_same_address v.dst own
 -- ESP for the gateway itself is opened, and all else comes in clear or not at all
 abbrev pub arrive_by_view : List ℕ → Addr → List Act → List ℕ → Result Packet NotPacket → List Act
 arrive_by_view g own h o (Err fault) = drops g (fault_why fault)
-arrive_by_view g own h o (Ok v) = if is_sealed_for own v then esp_acts g h v.payload else arrive_by_entry g o (first_entry (force g h) In v) ∷ []
+arrive_by_view g own h o (Ok v) = if is_sealed_for own v then esp_acts g h v.payload else arrive_by_entry g o (first_entry (force g h) In v)
+    ∷ []
 
 -- the acts at gateway g with its own address for the datagram o
 unfoldable pub arrive_acts : List ℕ → Addr → List Act → List ℕ → List Act

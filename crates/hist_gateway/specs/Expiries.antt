@@ -42,4 +42,5 @@ reaches_hard g h x e = bytes_eq e.name x && is_reached e.hard (counts g e.name h
 
 -- or none has, but one a soft limit, and no soft expiry that stands was told
 abbrev pub reaches_soft : List ℕ → List Act → List ℕ → SadEntry → Bool
-reaches_soft g h x e = bytes_eq e.name x && (not (is_reached e.hard (counts g e.name h)) && (is_reached e.soft (counts g e.name h) && not (was_soft_given g e.name h)))
+reaches_soft g h x e = bytes_eq e.name x
+    && (not (is_reached e.hard (counts g e.name h)) && (is_reached e.soft (counts g e.name h) && not (was_soft_given g e.name h)))

@@ -40,9 +40,11 @@ send_acts g h e n d = acts.Sent g e.name n d ∷ look g (acts.Sent g e.name n d 
 
 -- a half seals the packet while its numbers last; where there is no half or no number, that is told unless it stands
 abbrev pub let_by_half : List ℕ → ℕ → List Act → List ℕ → Packet → SpdEntry → Option SadEntry → List Act
-let_by_half g seq_last h o v p None = acts.Drop g why.NoSa ∷ unless (does_acquire_stand g p.name h) (tells g h (notices.Acquire p.name (flow_of v)))
+let_by_half g seq_last h o v p None = acts.Drop g why.NoSa
+    ∷ unless (does_acquire_stand g p.name h) (tells g h (notices.Acquire p.name (flow_of v)))
 let_by_half g seq_last h o v p (Some e) =
-    if nat_le seq_last (sent g e.name h) then acts.Drop g why.SeqLimit ∷ unless (was_overflow_given g e.name h) (tells g h (notices.SeqOverflow e.name))
+    if nat_le seq_last (sent g e.name h) then acts.Drop g why.SeqLimit
+        ∷ unless (was_overflow_given g e.name h) (tells g h (notices.SeqOverflow e.name))
     else send_acts g h e (sent g e.name h + 1) (datagram e (sent g e.name h + 1) v o)
 
 -- what is done with a packet by the action of its policy (RFC 4301 section 5.1)
@@ -59,7 +61,8 @@ let_by_entry g seq_last h o v (Some p) = let_by_action g seq_last h o v p p.acti
 -- octets that are no packet, or more than 65,000, are dropped
 abbrev pub let_by_view : List ℕ → ℕ → List Act → List ℕ → Result Packet NotPacket → List Act
 let_by_view g seq_last h o (Err fault) = acts.Drop g (fault_why fault) ∷ []
-let_by_view g seq_last h o (Ok v) = if nat_lt 65000 (length o) then acts.Drop g why.TooLong ∷ [] else let_by_entry g seq_last h o v (first_entry (force g h) Out v)
+let_by_view g seq_last h o (Ok v) = if nat_lt 65000 (length o) then acts.Drop g why.TooLong
+    ∷ [] else let_by_entry g seq_last h o v (first_entry (force g h) Out v)
 
 -- the acts at gateway g for the packet o, where no half sends a number above the last one
 unfoldable pub let_acts : List ℕ → ℕ → List Act → List ℕ → List Act

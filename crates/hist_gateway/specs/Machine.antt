@@ -44,12 +44,14 @@ use Rattle.hist_gateway.specs.State.{GatewayState, did_all}
 -- of these halves those that are gone at a hard limit, at this clock
 abbrev pub goings_of : List ℕ → ℕ → List Half → List Act
 goings_of g now [] = []
-goings_of g now (x ∷ xs) = if is_reached x.life.hard (counts_of now x.life) then acts.Gone g x.entry.name gone.Hard ∷ goings_of g now xs else goings_of g now xs
+goings_of g now (x ∷ xs) = if is_reached x.life.hard (counts_of now x.life) then acts.Gone g x.entry.name gone.Hard
+    ∷ goings_of g now xs else goings_of g now xs
 
 -- the hard and the soft expiries of these halves, told in this session
 abbrev pub expiries_of : List ℕ → ℕ → ℕ → List Half → List Act
 expiries_of g session now [] = []
-expiries_of g session now (x ∷ xs) = given_by g session (expiry x.entry.name (counts_of now x.life) (event_at now x.life)) ++ expiries_of g session now xs
+expiries_of g session now (x ∷ xs) = given_by g session (expiry x.entry.name (counts_of now x.life) (event_at now x.life))
+    ++ expiries_of g session now xs
 
 -- a look at these halves
 abbrev pub look_of : List ℕ → ℕ → ℕ → List Half → List Act
@@ -114,7 +116,8 @@ in_by_number g s o b x n = in_by_verdict g s o b x n (judged x.window n)
 
 -- the half that the SPI names; where none has it, a notice tells of it unless one stands
 abbrev pub in_by_half : List ℕ → GatewayState → List ℕ → List ℕ → Option Half → List Act
-in_by_half g s o b None = acts.Drop g why.BadSpi ∷ unless (list_any (λ k. k == spi_of b) s.bad_spis) (tells_of g s (notices.BadSpi (spi_of b)))
+in_by_half g s o b None = acts.Drop g why.BadSpi ∷ unless (list_any (λ k. k == spi_of b) s.bad_spis)
+    (tells_of g s (notices.BadSpi (spi_of b)))
 in_by_half g s o b (Some x) = in_by_number g s o b x (number_from x.entry x.window.top b)
 
 -- the acts for ESP octets, those of the datagram
@@ -124,7 +127,8 @@ in_esp g s o b = if nat_lt (length b) 34 then arrive.drops g why.Short else in_b
 -- ESP for the gateway itself is opened, and all else comes in clear or not at all
 abbrev pub in_by_view : List ℕ → Addr → GatewayState → List ℕ → Result Packet NotPacket → List Act
 in_by_view g own s o (Err fault) = arrive.drops g (fault_why fault)
-in_by_view g own s o (Ok v) = if arrive.is_sealed_for own v then in_esp g s o v.payload else arrive.arrive_by_entry g o (first_entry s.spd In v) ∷ []
+in_by_view g own s o (Ok v) = if arrive.is_sealed_for own v then in_esp g s o v.payload else arrive.arrive_by_entry g o
+    (first_entry s.spd In v) ∷ []
 
 -- ---- a request
 

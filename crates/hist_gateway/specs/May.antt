@@ -82,7 +82,8 @@ pub record OpensArrival (c : Gateway) (h : List Act) (g : List ℕ) : Type 0 whe
   pub view : view_of octets ≡ Ok outer
   pub own : is_sealed_for c.address outer ≡ true
   pub spi : by_spi (spi_of outer.payload) (live g h) ≡ Some half
-  pub fresh : verdict_over half.window (numbers_taken g half.name h) (number_of half (numbers_taken g half.name h) outer.payload) ≡ verdicts.Fresh
+  pub fresh : verdict_over half.window (numbers_taken g half.name h) (number_of half (numbers_taken g half.name h) outer.payload) ≡
+      verdicts.Fresh
   pub opened : esp.opened (keying half.spi half.key) outer.payload ≡ Some text
 
 -- What is given is the packet in what the datagram opens to, under the half that has its SPI, with its number.
@@ -223,12 +224,14 @@ pub record IsHalfOf (g : List ℕ) (h : List Act) (spi : ℕ) (e : SadEntry) : T
 
 -- The datagram is ESP for the gateway's own address with the SPI of a live inbound half, its number is fresh, it opens to a packet of
 -- the version told, and the half's selector holds that packet.
-pub record IsDelivery (c : Gateway) (h : List Act) (o : List ℕ) (outer inner : Packet) (e : SadEntry) (text : List ℕ) (next : ℕ) (p : List ℕ) : Type 0 where
+pub record IsDelivery (c : Gateway) (h : List Act) (o : List ℕ) (outer inner : Packet) (e : SadEntry) (text : List ℕ) (next : ℕ)
+    (p : List ℕ) : Type 0 where
   pub view : view_of o ≡ Ok outer
   pub own : is_sealed_for c.address outer ≡ true
   pub whole : nat_lt (length outer.payload) 34 ≡ false
   pub spi : by_spi (spi_of outer.payload) (live c.name h) ≡ Some e
-  pub fresh : verdict_over e.window (numbers_taken c.name e.name h) (number_of e (numbers_taken c.name e.name h) outer.payload) ≡ verdicts.Fresh
+  pub fresh : verdict_over e.window (numbers_taken c.name e.name h) (number_of e (numbers_taken c.name e.name h) outer.payload) ≡
+      verdicts.Fresh
   pub opened : esp.opened (keying e.spi e.key) outer.payload ≡ Some text
   pub packet : esp.inner_packet text ≡ Some (record { next = next; octets = p })
   pub inner_view : view_of p ≡ Ok inner

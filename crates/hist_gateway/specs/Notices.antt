@@ -89,7 +89,8 @@ is_looked_at g x a h = is_use g x a h
 -- among these acts, after what was before them, is one after which the live half is looked at and reaches what is asked for
 abbrev pub is_reached_in : (List Act → SadEntry → Bool) → List ℕ → List ℕ → List Act → List Act → Bool
 is_reached_in reaches g x h [] = false
-is_reached_in reaches g x h (a ∷ more) = (is_looked_at g x a h && list_any (reaches (a ∷ h)) (live g h)) || is_reached_in reaches g x (a ∷ h) more
+is_reached_in reaches g x h (a ∷ more) = (is_looked_at g x a h && list_any (reaches (a ∷ h)) (live g h))
+    || is_reached_in reaches g x (a ∷ h) more
 
 -- a hard limit is reached at a look, or a soft one of which nothing stands
 abbrev pub is_hard_reached_in : List ℕ → List ℕ → List Act → List Act → Bool

@@ -21,4 +21,5 @@ without_all (name ∷ names) xs = without_all names (halves_without name xs)
 -- the names of the halves that reach a hard limit at this clock
 abbrev pub names_reached : ℕ → List Half → List (List ℕ)
 names_reached now [] = []
-names_reached now (x ∷ xs) = if is_reached x.life.hard (counts_of now x.life) then x.entry.name ∷ names_reached now xs else names_reached now xs
+names_reached now (x ∷ xs) = if is_reached x.life.hard (counts_of now x.life) then x.entry.name
+    ∷ names_reached now xs else names_reached now xs

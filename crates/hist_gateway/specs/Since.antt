@@ -19,7 +19,8 @@ is_put_at g x _ = false
 -- the octets of each use of the half among these acts, the newest first, with what was before them
 abbrev pub uses_among : List ℕ → List ℕ → List Act → List Act → List ℕ
 uses_among g x [] old = []
-uses_among g x (a ∷ recent) old = if is_use g x a (recent ++ old) then use_octets g a (recent ++ old) ∷ uses_among g x recent old else uses_among g x recent old
+uses_among g x (a ∷ recent) old = if is_use g x a (recent ++ old) then use_octets g a (recent ++ old) ∷ uses_among g x recent old
+    else uses_among g x recent old
 
 -- ---- the SPIs that were told
 

@@ -38,7 +38,8 @@ abbrev pub does_acquire_stand : List ℕ → List ℕ → List Act → Bool
 does_acquire_stand g name [] = false
 does_acquire_stand g name (acts.Notice f s n ∷ h) = (bytes_eq f g && is_acquire_of name n) || does_acquire_stand g name h
 does_acquire_stand g name (acts.Policy f list ∷ h) = not (bytes_eq f g) && does_acquire_stand g name h
-does_acquire_stand g name (acts.Put f e ∷ h) = not ((bytes_eq f g && not (is_inbound e.name)) && has_reqid name e.reqid (force g h)) && does_acquire_stand g name h
+does_acquire_stand g name (acts.Put f e ∷ h) = not ((bytes_eq f g && not (is_inbound e.name)) && has_reqid name e.reqid (force g h))
+    && does_acquire_stand g name h
 does_acquire_stand g name (acts.Opened f s ∷ h) = not (bytes_eq f g) && does_acquire_stand g name h
 does_acquire_stand g name (acts.Boot f ∷ h) = not (bytes_eq f g) && does_acquire_stand g name h
 does_acquire_stand g name (_ ∷ h) = does_acquire_stand g name h

@@ -47,7 +47,8 @@ abbrev pub acquires : List ℕ → List Act → List (List ℕ)
 acquires g [] = []
 acquires g (acts.Notice f s n ∷ h) = if bytes_eq f g then with_acquire n (acquires g h) else acquires g h
 acquires g (acts.Policy f list ∷ h) = if bytes_eq f g then [] else acquires g h
-acquires g (acts.Put f e ∷ h) = if bytes_eq f g && not (is_inbound e.name) then unwanted e.reqid (force g h) (acquires g h) else acquires g h
+acquires g (acts.Put f e ∷ h) = if bytes_eq f g && not (is_inbound e.name) then unwanted e.reqid (force g h) (acquires g h)
+    else acquires g h
 acquires g (acts.Opened f s ∷ h) = if bytes_eq f g then [] else acquires g h
 acquires g (acts.Boot f ∷ h) = if bytes_eq f g then [] else acquires g h
 acquires g (_ ∷ h) = acquires g h

@@ -84,7 +84,8 @@ abbrev pub was_taken : List ℕ → List ℕ → ℕ → List Act → Bool
 was_taken g x s [] = false
 was_taken g x s (acts.Put f e ∷ h) = not (is_half f e.name g x) && was_taken g x s h
 was_taken g x s (acts.Gave f y n o ∷ h) = (is_half f y g x && (s == n)) || was_taken g x s h
-was_taken g x s (acts.Drop f w ∷ h) = ((bytes_eq f g && is_opened w) && is_number s (arrival_number g x (numbers_taken g x h) h)) || was_taken g x s h
+was_taken g x s (acts.Drop f w ∷ h) = ((bytes_eq f g && is_opened w) && is_number s (arrival_number g x (numbers_taken g x h) h))
+    || was_taken g x s h
 was_taken g x s (_ ∷ h) = was_taken g x s h
 
 -- a datagram was sent under the half with this number, since its installation

@@ -92,7 +92,8 @@ abbrev pub numbers_taken : List ℕ → List ℕ → List Act → List ℕ
 numbers_taken g x [] = []
 numbers_taken g x (acts.Put f e ∷ h) = if is_half f e.name g x then [] else numbers_taken g x h
 numbers_taken g x (acts.Gave f y n o ∷ h) = if is_half f y g x then numbers_taken g x h ++ n ∷ [] else numbers_taken g x h
-numbers_taken g x (acts.Drop f w ∷ h) = if bytes_eq f g && is_opened w then with_number (numbers_taken g x h) (arrival_number g x (numbers_taken g x h) h) else numbers_taken g x h
+numbers_taken g x (acts.Drop f w ∷ h) = if bytes_eq f g && is_opened w then with_number (numbers_taken g x h)
+    (arrival_number g x (numbers_taken g x h) h) else numbers_taken g x h
 numbers_taken g x (_ ∷ h) = numbers_taken g x h
 
 -- a datagram with these ESP octets was sent under a half of this name

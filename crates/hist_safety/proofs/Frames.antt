@@ -47,7 +47,8 @@ pub seals-open : (k : Keying) (s next : ℕ) (p b : List ℕ) → b ≡ esp k s 
 seals-open k s next p b e = subst (λ z. EspOpens k z (padded (pad_len (length p)) next p)) (sym e) (sealed_opens k s next p)
 
 -- and to no other packet
-pub one-packet : (k : Keying) (s next next' : ℕ) (p p' b text : List ℕ) → b ≡ esp k s next p → EspOpens k b text → Inner text next' p' → p' ≡ p
+pub one-packet : (k : Keying) (s next next' : ℕ) (p p' b text : List ℕ) → b ≡ esp k s next p → EspOpens k b text → Inner text next' p'
+    → p' ≡ p
 one-packet k s next next' p p' b text e o i =
     let a = opens_once k b text o ∙ sym (opens_once k b (padded (pad_len (length p)) next p) (seals-open k s next p b e)) in
     let j : Inner (padded (pad_len (length p)) next p) next' p' = subst (λ z. Inner z next' p') a i in

@@ -85,7 +85,8 @@ only-handled gs x (acts.Heard g s n) h m e = absurd (ready-mid x h m e)
 only-handled gs x (acts.Wire g lane o) h m e = absurd (ready-mid x h m e)
 only-handled gs x (acts.Refused why) h m e = absurd (ready-mid x h m e)
 
-answer-mid : (g x : List ℕ) (o : Order) (a : Answer) (h : List Act) → IsAnswer g o a h → is_mid x h ≡ true → (e : SadEntry) × (e.name ≡ x) × (o ≡ asks.Put e)
+answer-mid : (g x : List ℕ) (o : Order) (a : Answer) (h : List Act) → IsAnswer g o a h → is_mid x h ≡ true → (e : SadEntry) × (e.name ≡ x)
+    × (o ≡ asks.Put e)
 answer-mid g x (asks.Put e) a (acts.Put f d ∷ h) p m = (e, ap (λ (z : SadEntry). z.name) (sym p.1) ∙ name-is d.name x m, refl)
 answer-mid g x asks.Read a (acts.Put f d ∷ h) p m = absurd (no p.0)
 answer-mid g x (asks.Policy list) a (acts.Put f d ∷ h) p m = absurd (no p.0)
@@ -94,15 +95,19 @@ answer-mid g x o a [] p m = absurd (no m)
 answer-mid g x o a (b ∷ h) p m = absurd (no m)
 
 once-now : (f x : List ℕ) (t j : ℕ) (h : List Act) → (site x h ≡ f) → (session_of x h ≡ t) → (place_of x h ≡ j) → j ≡ handled f t h + 1 →
-    place_of x h ≤ (if is_session f t (site x h) (session_of x h) then handled (site x h) (session_of x h) h + 1 else handled (site x h) (session_of x h) h)
+    place_of x h ≤ (if is_session f t (site x h) (session_of x h) then handled (site x h) (session_of x h) h + 1
+        else handled (site x h) (session_of x h) h)
 once-now f x t j h a b c q =
     let r : is_session f t (site x h) (session_of x h) ≡ true = rw (a, b) (session-self f t) in
     rw r (rw (a, b, c) (omega (arith, q)))
 
-once-handled : (f x : List ℕ) (t j : ℕ) (h : List Act) → (is_mid x h ≡ true → (site x h ≡ f) × (session_of x h ≡ t) × (place_of x h ≡ j)) → j ≡ handled f t h + 1 → (is_mid x h ≡ true) ⊎ IsBehind x h →
-    place_of x h ≤ (if is_session f t (site x h) (session_of x h) then handled (site x h) (session_of x h) h + 1 else handled (site x h) (session_of x h) h)
+once-handled : (f x : List ℕ) (t j : ℕ) (h : List Act) → (is_mid x h ≡ true → (site x h ≡ f) × (session_of x h ≡ t) × (place_of x h ≡ j))
+    → j ≡ handled f t h + 1 → (is_mid x h ≡ true) ⊎ IsBehind x h →
+    place_of x h ≤ (if is_session f t (site x h) (session_of x h) then handled (site x h) (session_of x h) h + 1
+        else handled (site x h) (session_of x h) h)
 once-handled f x t j h pl q (inl m) = let p = pl m in once-now f x t j h p.0 p.1 p.2 q
-once-handled f x t j h pl q (inr n) = more (is_session f t (site x h) (session_of x h)) (place_of x h) (handled (site x h) (session_of x h) h) n
+once-handled f x t j h pl q (inr n) = more (is_session f t (site x h) (session_of x h)) (place_of x h)
+    (handled (site x h) (session_of x h) h) n
 
 pub settled : {A : Type 0} (x : List ℕ) (h : List Act) → is_ready h ≡ true → (is_mid x h ≡ true) ⊎ A → A
 settled x h r (inl m) = absurd (ready-mid x h r m)
@@ -117,18 +122,22 @@ once-put b true c f e = inl refl
 once-put true false c f e = inr (f e)
 once-put false false c f e = inr (f e)
 
-behind-older : (x f : List ℕ) (t j : ℕ) (d : SadEntry) (h : List Act) → bytes_eq d.name x ≡ false → IsBehind x h → IsBehind x (acts.Order f t j (asks.Put d) ∷ h)
+behind-older : (x f : List ℕ) (t j : ℕ) (d : SadEntry) (h : List Act) → bytes_eq d.name x ≡ false → IsBehind x h
+    → IsBehind x (acts.Order f t j (asks.Put d) ∷ h)
 behind-older x f t j d h q n =
-    let m : (if bytes_eq d.name x then j else place_of x h) ≤ handled (if bytes_eq d.name x then f else site x h) (if bytes_eq d.name x then t else session_of x h) h = rw q n in
+    let m : (if bytes_eq d.name x then j else place_of x h) ≤ handled (if bytes_eq d.name x then f else site x h)
+        (if bytes_eq d.name x then t else session_of x h) h = rw q n in
     m
 
-placed-at : (f x : List ℕ) (t j : ℕ) (e : SadEntry) (h : List Act) → IsPutAt f t j e h → e.name ≡ x → (site x h ≡ f) × (session_of x h ≡ t) × (place_of x h ≡ j)
+placed-at : (f x : List ℕ) (t j : ℕ) (e : SadEntry) (h : List Act) → IsPutAt f t j e h → e.name ≡ x → (site x h ≡ f) × (session_of x h ≡ t)
+    × (place_of x h ≡ j)
 placed-at f x t j e h p q = subst (λ z. (site z h ≡ f) × (session_of z h ≡ t) × (place_of z h ≡ j)) q (p.1, p.2, p.3)
 
 -- once a half was put, the order of its put is handled
 pub once : (gs : List Peer) (g x : List ℕ) (h : List Act) → IsLawful gs h → was_put g x h ≡ true → (is_mid x h ≡ true) ⊎ IsBehind x h
 once gs g x [] l e = absurd (no e)
-once gs g x (acts.Put f d ∷ h) l e = once-put (bytes_eq f g) (bytes_eq d.name x) (was_put g x h) (λ q. settled x h l.0.0 (once gs g x h l.1 q)) e
+once gs g x (acts.Put f d ∷ h) l e = once-put (bytes_eq f g) (bytes_eq d.name x) (was_put g x h)
+    (λ q. settled x h l.0.0 (once gs g x h l.1 q)) e
 once gs g x (acts.Handled f t j r ∷ h) l e =
     let o = l.0.2.0 in
     inr (once-handled f x t j h
@@ -142,11 +151,14 @@ once gs g x (acts.Order f t j (asks.Put d) ∷ h) l e =
     inr (behind-older x f t j d h q (settled x h l.0.0 (once gs g x h l.1 e)))
 once gs g x (a ∷ h) l e = not-mid x h (λ m. no (only-handled gs x a h l.0 m)) (once gs g x h l.1 e)
 
-pub too-far : (f x : List ℕ) (t : ℕ) (h : List Act) → (site x h ≡ f) → (session_of x h ≡ t) → (place_of x h ≡ handled f t h + 1) → IsBehind x h → ⊥
-too-far f x t h a b c n = let q : handled f t h + 1 ≤ handled f t h = rw (sym c) (let m : place_of x h ≤ handled f t h = rw (sym a, sym b) n in m) in omega (arith, q)
+pub too-far : (f x : List ℕ) (t : ℕ) (h : List Act) → (site x h ≡ f) → (session_of x h ≡ t) → (place_of x h ≡ handled f t h + 1)
+    → IsBehind x h → ⊥
+too-far f x t h a b c n = let q : handled f t h + 1 ≤ handled f t h = rw (sym c) (let m : place_of x h ≤ handled f t h =
+    rw (sym a, sym b) n in m) in omega (arith, q)
 
 -- no half is put twice
-pub put-once : (gs : List Peer) (g f : List ℕ) (e : SadEntry) (h : List Act) → IsLawful gs h → is_ready h ≡ true → next_request f h ≡ Some (asks.Put e) → was_put g e.name h ≡ false
+pub put-once : (gs : List Peer) (g f : List ℕ) (e : SadEntry) (h : List Act) → IsLawful gs h → is_ready h ≡ true
+    → next_request f h ≡ Some (asks.Put e) → was_put g e.name h ≡ false
 put-once gs g f e h l r n =
     false_from_ne_true (was_put g e.name h) (λ q.
     let p = place gs f (session_taken f h) (handled f (session_taken f h) h + 1) e h l (next-is f (asks.Put e) h n) in

@@ -50,7 +50,8 @@ fresh-not size n xs e = fresh-by (n == 0) _ (is_among n xs) e
 abbrev Found : List ℕ → List ℕ → SadEntry → List Act → Type 0
 Found g x e h = (t : List ℕ) × (x ≡ in_half t) × (order_of x h ≡ Some e) × (site x h ≡ g) × (put_of g x h ≡ Some e) × (is_live g x h ≡ true)
 
-found : (gs : List Peer) (g x : List ℕ) (spi : ℕ) (e : SadEntry) (h : List Act) → IsLawful gs h → by_spi spi (live g h) ≡ Some e → e.name ≡ x → Found g x e h
+found : (gs : List Peer) (g x : List ℕ) (spi : ℕ) (e : SadEntry) (h : List Act) → IsLawful gs h → by_spi spi (live g h) ≡ Some e
+    → e.name ≡ x → Found g x e h
 found gs g x spi e h l p q =
     let s = spi-is gs g spi e h l p in
     let o = put-order gs g e.name e h l s.0 in
@@ -59,18 +60,22 @@ found gs g x spi e h l p q =
     subst (λ z. Found g z e h) q one
 
 -- the entries of a pair seal alike
-paired : (gs : List Peer) (t : List ℕ) (o i : SadEntry) (h : List Act) → IsLawful gs h → order_of (out_half t) h ≡ Some o → order_of (in_half t) h ≡ Some i →
-    (keying_of o ≡ keying_of i) × (o.spi ≡ i.spi) × (i.selector ≡ mirrored o.selector) × (bytes_eq (site (in_half t) h) (site (out_half t) h) ≡ false)
+paired : (gs : List Peer) (t : List ℕ) (o i : SadEntry) (h : List Act) → IsLawful gs h → order_of (out_half t) h ≡ Some o
+    → order_of (in_half t) h ≡ Some i →
+    (keying_of o ≡ keying_of i) × (o.spi ≡ i.spi) × (i.selector ≡ mirrored o.selector)
+        × (bytes_eq (site (in_half t) h) (site (out_half t) h) ≡ false)
 paired gs t o i h l p q =
     let w = pair gs t h l (order-ordered (out_half t) o h p) in
     let a : w.0 ≡ o = some-is w.0 o (sym w.2 ∙ p) in
     let b : w.1 ≡ i = some-is w.1 i (sym w.3 ∙ q) in
     let k : o.key ≡ i.key = ap (λ (z : SadEntry). z.key) (sym a) ∙ w.4 ∙ ap (λ (z : SadEntry). z.key) b in
     let s : o.spi ≡ i.spi = ap (λ (z : SadEntry). z.spi) (sym a) ∙ w.5 ∙ ap (λ (z : SadEntry). z.spi) b in
-    let m : i.selector ≡ mirrored o.selector = ap (λ (z : SadEntry). z.selector) (sym b) ∙ w.6 ∙ ap (λ (z : SadEntry). mirrored z.selector) a in
+    let m : i.selector ≡ mirrored o.selector = ap (λ (z : SadEntry). z.selector) (sym b) ∙ w.6
+        ∙ ap (λ (z : SadEntry). mirrored z.selector) a in
     (keying-same o i k s, s, m, w.7)
 
-gave-by : (gs : List Peer) (g o x : List ℕ) (n : ℕ) (p : List ℕ) (h : List Act) → IsLawful gs h → IsGenuine gs g o h → (d : Delivers gs g o x n p h) → (t : List ℕ) → x ≡ in_half t → order_of x h ≡ Some d.half → site x h ≡ g →
+gave-by : (gs : List Peer) (g o x : List ℕ) (n : ℕ) (p : List ℕ) (h : List Act) → IsLawful gs h → IsGenuine gs g o h
+    → (d : Delivers gs g o x n p h) → (t : List ℕ) → x ≡ in_half t → order_of x h ≡ Some d.half → site x h ≡ g →
     (bytes_eq (site (out_half t) h) g ≡ false) × (was_sent (site (out_half t) h) (out_half t) n (esp_of o) p h ≡ true)
 gave-by gs g o x n p h l genuine d t e order here =
     let z = genuine d.half d.text d.comes d.opens in
@@ -80,14 +85,20 @@ gave-by gs g o x n p h l genuine d t e order here =
     let i : order_of (in_half t) h ≡ Some d.half = subst (λ y. order_of y h ≡ Some d.half) e order in
     let w = paired gs t c.0 d.half h l c.2 i in
     let sealed : esp_of o ≡ esp (keying_of d.half) s.1 (next_header s.2) s.2 = c.6 ∙ ap (λ k. esp k s.1 (next_header s.2) s.2) w.0 in
-    let number : n ≡ s.1 = d.number ∙ number-field d.half (greatest (numbers_taken g x h)) (esp_of o) ∙ ap (λ (y : List ℕ). seq_of y) sealed ∙ esp-seq (keying_of d.half) s.1 (next_header s.2) s.2 c.5 in
-    let packet : p ≡ s.2 = one-packet (keying_of d.half) s.1 (next_header s.2) (next_header p) s.2 p (esp_of o) d.text sealed d.opens d.inner in
+    let number : n ≡ s.1 = d.number ∙ number-field d.half (greatest (numbers_taken g x h)) (esp_of o) ∙ ap (λ (y : List ℕ). seq_of y) sealed
+        ∙ esp-seq (keying_of d.half) s.1 (next_header s.2) s.2 c.5 in
+    let packet : p ≡ s.2 = one-packet (keying_of d.half) s.1 (next_header s.2) (next_header p) s.2 p (esp_of o) d.text sealed d.opens
+        d.inner in
     let site_in : site (in_half t) h ≡ g = subst (λ y. site y h ≡ g) e here in
-    let apart : bytes_eq (site (out_half t) h) g ≡ false = name-not (site (out_half t) h) g (λ r. no (sym w.3 ∙ name-true (site (in_half t) h) (site (out_half t) h) (site_in ∙ sym r))) in
-    let was : was_sent (site (out_half t) h) (out_half t) s.1 (esp_of o) s.2 h ≡ true = subst (λ y. was_sent y (out_half t) s.1 (esp_of o) s.2 h ≡ true) (sym c.3) s.3 in
-    (apart, subst (λ y. was_sent (site (out_half t) h) (out_half t) y (esp_of o) p h ≡ true) (sym number) (subst (λ y. was_sent (site (out_half t) h) (out_half t) s.1 (esp_of o) y h ≡ true) (sym packet) was))
+    let apart : bytes_eq (site (out_half t) h) g ≡ false =
+        name-not (site (out_half t) h) g (λ r. no (sym w.3 ∙ name-true (site (in_half t) h) (site (out_half t) h) (site_in ∙ sym r))) in
+    let was : was_sent (site (out_half t) h) (out_half t) s.1 (esp_of o) s.2 h ≡ true =
+        subst (λ y. was_sent y (out_half t) s.1 (esp_of o) s.2 h ≡ true) (sym c.3) s.3 in
+    (apart, subst (λ y. was_sent (site (out_half t) h) (out_half t) y (esp_of o) p h ≡ true) (sym number)
+        (subst (λ y. was_sent (site (out_half t) h) (out_half t) s.1 (esp_of o) y h ≡ true) (sym packet) was))
 
-not-given : (gs : List Peer) (g x : List ℕ) (n size : ℕ) (h : List Act) → IsLawful gs h → site x h ≡ g → verdict_over size (numbers_taken g x h) n ≡ Fresh → was_given x n h ≡ false
+not-given : (gs : List Peer) (g x : List ℕ) (n size : ℕ) (h : List Act) → IsLawful gs h → site x h ≡ g
+    → verdict_over size (numbers_taken g x h) n ≡ Fresh → was_given x n h ≡ false
 not-given gs g x n size h l here f =
     false_from_ne_true (was_given x n h) (λ e.
     let i = given gs x n h l e in
@@ -95,12 +106,16 @@ not-given gs g x n size h l here f =
     let a : is_among n (numbers_taken g x h) ≡ true = subst (λ z. is_among n (numbers_taken z x h) ≡ true) s i.2 in
     no (sym (fresh-not size n (numbers_taken g x h) f) ∙ a))
 
-fresh-of : (gs : List Peer) (g o x : List ℕ) (n : ℕ) (p : List ℕ) (h : List Act) (d : Delivers gs g o x n p h) → verdict_over d.half.window (numbers_taken g x h) n ≡ Fresh
+fresh-of : (gs : List Peer) (g o x : List ℕ) (n : ℕ) (p : List ℕ) (h : List Act) (d : Delivers gs g o x n p h)
+    → verdict_over d.half.window (numbers_taken g x h) n ≡ Fresh
 fresh-of gs g o x n p h d =
-    let a : verdict_over d.half.window (numbers_taken g x h) (number_of d.half (numbers_taken g x h) (esp_of o)) ≡ Fresh = subst (λ z. verdict_over d.half.window (numbers_taken g z h) (number_of d.half (numbers_taken g z h) (esp_of o)) ≡ Fresh) d.name d.comes.fresh in
+    let a : verdict_over d.half.window (numbers_taken g x h) (number_of d.half (numbers_taken g x h) (esp_of o)) ≡ Fresh =
+        subst (λ z. verdict_over d.half.window (numbers_taken g z h) (number_of d.half (numbers_taken g z h) (esp_of o)) ≡ Fresh) d.name
+        d.comes.fresh in
     ap (verdict_over d.half.window (numbers_taken g x h)) d.number ∙ a
 
-gave-now : (gs : List Peer) (g o x : List ℕ) (n : ℕ) (p : List ℕ) (h : List Act) → IsLawful gs h → IsGenuine gs g o h → Delivers gs g o x n p h → GaveWasSent g x n p (acts.Arrived g o ∷ h)
+gave-now : (gs : List Peer) (g o x : List ℕ) (n : ℕ) (p : List ℕ) (h : List Act) → IsLawful gs h → IsGenuine gs g o h
+    → Delivers gs g o x n p h → GaveWasSent g x n p (acts.Arrived g o ∷ h)
 gave-now gs g o x n p h l genuine d =
     let f = found gs g x (spi_of (esp_of o)) d.half h l d.comes.found d.name in
     let b = gave-by gs g o x n p h l genuine d f.0 f.1 f.2 f.3 in
@@ -114,8 +129,10 @@ gave-now gs g o x n p h l genuine d =
       first = not-given gs g x n d.half.window h l f.3 (fresh-of gs g o x n p h d);
     }
 
-pub gave-safe : (gs : List Peer) (g x : List ℕ) (n : ℕ) (p : List ℕ) (h : List Act) → IsLawful gs h → GiveMayHappen gs g x n p h → GaveWasSent g x n p h
-gave-safe gs g x n p (acts.Arrived f o ∷ h) l m = subst (λ z. GaveWasSent g x n p (acts.Arrived z o ∷ h)) (sym m.0) (gave-now gs g o x n p h l.1 m.1 m.2)
+pub gave-safe : (gs : List Peer) (g x : List ℕ) (n : ℕ) (p : List ℕ) (h : List Act) → IsLawful gs h → GiveMayHappen gs g x n p h
+    → GaveWasSent g x n p h
+gave-safe gs g x n p (acts.Arrived f o ∷ h) l m = subst (λ z. GaveWasSent g x n p (acts.Arrived z o ∷ h)) (sym m.0)
+    (gave-now gs g o x n p h l.1 m.1 m.2)
 gave-safe gs g x n p [] l m = absurd m
 gave-safe gs g x n p (a ∷ h) l m = absurd m
 
@@ -139,9 +156,16 @@ ports-out (Some r) = refl
 holds-in : (s : Selector) (v : Packet) → holds_packet s Out v ≡ true → holds_packet (mirrored s) In v ≡ true
 unfolding holds_packet
 holds-in s v e =
-    let z = swap (lies_in v.src s.local) (lies_in v.dst s.remote) (proto_fits s.proto v.proto) (port_fits s.local_ports (local_port Out v.ports)) (port_fits s.remote_ports (remote_port Out v.ports)) e in
-    subst (λ k. (lies_in v.dst s.remote && (lies_in v.src s.local && (proto_fits s.proto v.proto && (port_fits s.remote_ports (local_port In v.ports) && port_fits s.local_ports k)))) ≡ true) (ports-out v.ports)
-    (subst (λ k. (lies_in v.dst s.remote && (lies_in v.src s.local && (proto_fits s.proto v.proto && (port_fits s.remote_ports k && port_fits s.local_ports (local_port Out v.ports))))) ≡ true) (ports-in v.ports) z)
+    let z = swap (lies_in v.src s.local) (lies_in v.dst s.remote) (proto_fits s.proto v.proto)
+        (port_fits s.local_ports (local_port Out v.ports)) (port_fits s.remote_ports (remote_port Out v.ports)) e in
+    subst (λ k. (lies_in v.dst s.remote
+        && (lies_in v.src s.local
+        && (proto_fits s.proto v.proto && (port_fits s.remote_ports (local_port In v.ports) && port_fits s.local_ports k)))) ≡ true)
+        (ports-out v.ports)
+    (subst (λ k. (lies_in v.dst s.remote
+        && (lies_in v.src s.local
+        && (proto_fits s.proto v.proto && (port_fits s.remote_ports k && port_fits s.local_ports (local_port Out v.ports))))) ≡ true)
+        (ports-in v.ports) z)
 
 still-live : (v p d : Bool) → p ≡ false → d ≡ false → Stands v p d → v ≡ true
 still-live v p d e f (inl q) = q
@@ -152,16 +176,19 @@ small-spi : (t : List ℕ) (e : SadEntry) → Numbered t e → e.spi < 2 ^ 32
 small-spi t e n = let a = n.2 in let b = n.3 in omega (arith, a, b)
 
 -- the datagram comes to its half
-comes : (gs : List Peer) (g o t p : List ℕ) (half : SadEntry) (h : List Act) → IsLawful gs h → MustGive gs g o t p half h → half.name ≡ in_half t → spi_of (esp_of o) ≡ half.spi → ComesTo gs g o half h
+comes : (gs : List Peer) (g o t p : List ℕ) (half : SadEntry) (h : List Act) → IsLawful gs h → MustGive gs g o t p half h
+    → half.name ≡ in_half t → spi_of (esp_of o) ≡ half.spi → ComesTo gs g o half h
 comes gs g o t p half h l m name spi =
-    let v = still-live (is_live g (in_half t) h) (is_lapsed g (in_half t) h) (is_removal_ordered (in_half t) h) m.whole m.stays (stays gs g (in_half t) h l (put-was g (in_half t) half h m.put)) in
+    let v = still-live (is_live g (in_half t) h) (is_lapsed g (in_half t) h) (is_removal_ordered (in_half t) h) m.whole m.stays
+        (stays gs g (in_half t) h l (put-was g (in_half t) half h m.put)) in
     record {
       packet = m.packet;
       view = m.view;
       proto = m.proto;
       own = m.own;
       found = spi-finds gs g t (spi_of (esp_of o)) half h l v m.put (sym spi);
-      fresh = subst (λ z. verdict_over half.window (numbers_taken g z h) (number_of half (numbers_taken g z h) (esp_of o)) ≡ Fresh) (sym name) m.fresh;
+      fresh = subst (λ z. verdict_over half.window (numbers_taken g z h) (number_of half (numbers_taken g z h) (esp_of o)) ≡ Fresh)
+          (sym name) m.fresh;
     }
 
 pub delivered : (gs : List Peer) (g o t p : List ℕ) (half : SadEntry) (h : List Act) → IsLawful gs h → MustGive gs g o t p half h →
@@ -173,8 +200,10 @@ delivered gs g o t p half h l m =
     let sealed : esp_of o ≡ esp (keying_of half) m.number (next_header p) p = c.6 ∙ ap (λ k. esp k m.number (next_header p) p) w.0 in
     let n = numbered gs t half h l i.3 in
     let low : (keying_of half).spi < 2 ^ 32 = subst (λ (z : ℕ). z < 2 ^ 32) (sym (keying-spi half)) (small-spi t half n) in
-    let spi : spi_of (esp_of o) ≡ half.spi = ap (λ (z : List ℕ). spi_of z) sealed ∙ esp-spi (keying_of half) m.number (next_header p) p low ∙ keying-spi half in
-    let fits : holds_packet half.selector In c.1 ≡ true = subst (λ z. holds_packet z In c.1 ≡ true) (sym w.2) (holds-in c.0.selector c.1 c.8) in
+    let spi : spi_of (esp_of o) ≡ half.spi = ap (λ (z : List ℕ). spi_of z) sealed ∙ esp-spi (keying_of half) m.number (next_header p) p low
+        ∙ keying-spi half in
+    let fits : holds_packet half.selector In c.1 ≡ true = subst (λ z. holds_packet z In c.1 ≡ true) (sym w.2)
+        (holds-in c.0.selector c.1 c.8) in
     record {
       half = half;
       comes = comes gs g o t p half h l m i.0 spi;
@@ -192,18 +221,22 @@ delivered gs g o t p half h l m =
 pub same-found : (gs : List Peer) (g o : List ℕ) (d e : SadEntry) (h : List Act) → ComesTo gs g o d h → ComesTo gs g o e h → d ≡ e
 same-found gs g o d e h a b = some-is d e (sym a.found ∙ b.found)
 
-same-packet : (d e : SadEntry) (b x y p q : List ℕ) (m n : ℕ) → d ≡ e → EspOpens (keying_of d) b x → EspOpens (keying_of e) b y → Inner x m p → Inner y n q → p ≡ q
+same-packet : (d e : SadEntry) (b x y p q : List ℕ) (m n : ℕ) → d ≡ e → EspOpens (keying_of d) b x → EspOpens (keying_of e) b y
+    → Inner x m p → Inner y n q → p ≡ q
 same-packet d e b x y p q m n s a c i j =
     let w : EspOpens (keying_of e) b x = subst (λ z. EspOpens (keying_of z) b x) s a in
     let t : x ≡ y = opens_once (keying_of e) b x w ∙ sym (opens_once (keying_of e) b y c) in
     (inner_once y p q m n (subst (λ z. Inner z m p) t i) j).1
 
-delivers-once : (gs : List Peer) (g o x y : List ℕ) (m n : ℕ) (p q : List ℕ) (h : List Act) → (a : Delivers gs g o x m p h) → (b : Delivers gs g o y n q h) → acts.Gave g x m p ≡ acts.Gave g y n q
+delivers-once : (gs : List Peer) (g o x y : List ℕ) (m n : ℕ) (p q : List ℕ) (h : List Act) → (a : Delivers gs g o x m p h)
+    → (b : Delivers gs g o y n q h) → acts.Gave g x m p ≡ acts.Gave g y n q
 delivers-once gs g o x y m n p q h a b =
     let s = same-found gs g o a.half b.half h a.comes b.comes in
     let e : x ≡ y = sym a.name ∙ ap (λ (z : SadEntry). z.name) s ∙ b.name in
-    let k : m ≡ n = a.number ∙ ap (λ (z : List ℕ). number_of a.half (numbers_taken g z h) (esp_of o)) e ∙ ap (λ (z : SadEntry). number_of z (numbers_taken g y h) (esp_of o)) s ∙ sym b.number in
-    let r : p ≡ q = same-packet a.half b.half (esp_of o) a.text b.text p q (next_header p) (next_header q) s a.opens b.opens a.inner b.inner in
+    let k : m ≡ n = a.number ∙ ap (λ (z : List ℕ). number_of a.half (numbers_taken g z h) (esp_of o)) e
+        ∙ ap (λ (z : SadEntry). number_of z (numbers_taken g y h) (esp_of o)) s ∙ sym b.number in
+    let r : p ≡ q = same-packet a.half b.half (esp_of o) a.text b.text p q (next_header p) (next_header q) s a.opens b.opens a.inner b.inner
+        in
     rw (e, k, r) refl
 
 answer-not : (g f o : List ℕ) (q : Order) (a : Answer) (h : List Act) → IsAnswer g q a (acts.Arrived f o ∷ h) → ⊥
@@ -219,16 +252,19 @@ is_arrived _ = false
 clear-not : (g f o q : List ℕ) (h : List Act) → ClearIsLet (acts.Arrived f o ∷ h) g q → ⊥
 clear-not g f o q h c = let p : true ≡ false = ap is_arrived c.let_before in no (sym p)
 
-give-only : (gs : List Peer) (g f o x y : List ℕ) (m n : ℕ) (p q : List ℕ) (h : List Act) → f ≡ g → Delivers gs f o y n q h → Delivers gs g o x m p h → acts.Gave f y n q ≡ acts.Gave g x m p
+give-only : (gs : List Peer) (g f o x y : List ℕ) (m n : ℕ) (p q : List ℕ) (h : List Act) → f ≡ g → Delivers gs f o y n q h
+    → Delivers gs g o x m p h → acts.Gave f y n q ≡ acts.Gave g x m p
 give-only gs g f o x y m n p q h e a b =
     let c : Delivers gs g o y n q h = subst (λ z. Delivers gs z o y n q h) e a in
     ap (λ (z : List ℕ). acts.Gave z y n q) e ∙ delivers-once gs g o y x n m q p h c b
 
-not-delivered : (gs : List Peer) (g f o x : List ℕ) (m : ℕ) (p : List ℕ) (h : List Act) → g ≡ f → ((y : List ℕ) (n : ℕ) (q : List ℕ) → Delivers gs f o y n q h → ⊥) → Delivers gs g o x m p h → ⊥
+not-delivered : (gs : List Peer) (g f o x : List ℕ) (m : ℕ) (p : List ℕ) (h : List Act) → g ≡ f
+    → ((y : List ℕ) (n : ℕ) (q : List ℕ) → Delivers gs f o y n q h → ⊥) → Delivers gs g o x m p h → ⊥
 not-delivered gs g f o x m p h e u d = u x m p (subst (λ z. Delivers gs z o x m p h) e d)
 
 -- an arrival that has a packet is answered by giving it
-pub answer : (gs : List Peer) (a : Act) (g o x : List ℕ) (m : ℕ) (p : List ℕ) (h : List Act) → MayHappen gs a (acts.Arrived g o ∷ h) → Delivers gs g o x m p h → a ≡ acts.Gave g x m p
+pub answer : (gs : List Peer) (a : Act) (g o x : List ℕ) (m : ℕ) (p : List ℕ) (h : List Act) → MayHappen gs a (acts.Arrived g o ∷ h)
+    → Delivers gs g o x m p h → a ≡ acts.Gave g x m p
 answer gs (acts.Gave f y n q) g o x m p h e d = give-only gs g f o x y m n p q h (sym e.0) e.2 d
 answer gs (acts.Drop f why) g o x m p h e d = absurd (not-delivered gs g f o x m p h e.0 e.2 d)
 answer gs (acts.Pass f q) g o x m p h e d = absurd (not-delivered gs g f o x m p h e.0 e.2 d)

@@ -15,7 +15,8 @@ NeverEnds ended = (serial : List ℕ) (a : Act) (h : List Act) → ended serial 
 -- each removal of an inbound half was ordered where its association was ended
 abbrev pub RemovedEnded : (List ℕ → List Act → Bool) → List Act → Type 0
 RemovedEnded ended [] = Unit {0}
-RemovedEnded ended (acts.Order f s k (asks.Remove x) ∷ h) = ((serial : List ℕ) → x ≡ in_half serial → ended serial h ≡ true) × RemovedEnded ended h
+RemovedEnded ended (acts.Order f s k (asks.Remove x) ∷ h) = ((serial : List ℕ) → x ≡ in_half serial → ended serial h ≡ true)
+    × RemovedEnded ended h
 RemovedEnded ended (_ ∷ h) = RemovedEnded ended h
 
 -- so where an association isn't ended, no removal of its inbound half was ordered

@@ -27,7 +27,8 @@ Never x h = session_taken (site x h) h ≡ session_of x h → IsBehind x h
 
 -- this put was ordered there, and no other put of its half
 abbrev pub IsPutAt : List ℕ → ℕ → ℕ → SadEntry → List Act → Type 0
-IsPutAt g s k e h = (was_order_given e.name h ≡ true) × (site e.name h ≡ g) × (session_of e.name h ≡ s) × (place_of e.name h ≡ k) × (order_of e.name h ≡ Some e)
+IsPutAt g s k e h = (was_order_given e.name h ≡ true) × (site e.name h ≡ g) × (session_of e.name h ≡ s) × (place_of e.name h ≡ k)
+    × (order_of e.name h ≡ Some e)
 
 -- what stands is what was ordered, where it was ordered
 abbrev pub PutIs : List ℕ → List ℕ → SadEntry → List Act → Type 0
@@ -36,13 +37,16 @@ PutIs g x e h = (e.name ≡ x) × (was_order_given x h ≡ true) × (site x h �
 -- the two halves of an association: one key, one SPI, mirrored selectors, two gateways, and the inbound one installed first
 abbrev pub Pair : List ℕ → List Act → Type 0
 Pair t h =
-    (o : SadEntry) × (i : SadEntry) × (order_of (out_half t) h ≡ Some o) × (order_of (in_half t) h ≡ Some i) × (o.key ≡ i.key) × (o.spi ≡ i.spi)
-    × (i.selector ≡ mirrored o.selector) × (bytes_eq (site (in_half t) h) (site (out_half t) h) ≡ false) × (is_put_accepted (in_half t) h ≡ true)
+    (o : SadEntry) × (i : SadEntry) × (order_of (out_half t) h ≡ Some o) × (order_of (in_half t) h ≡ Some i) × (o.key ≡ i.key)
+        × (o.spi ≡ i.spi)
+    × (i.selector ≡ mirrored o.selector) × (bytes_eq (site (in_half t) h) (site (out_half t) h) ≡ false)
+        × (is_put_accepted (in_half t) h ≡ true)
 
 -- the key and IV were used by an outbound half that has the key, with a number up to its count
 abbrev pub Under : List ℕ → List ℕ → List Act → Type 0
 Under c iv h =
-    (g x : List ℕ) × (e : SadEntry) × (k : ℕ) × (halves.put_of g x h ≡ Some e) × (aes_part e.key ≡ c) × (iv ≡ to_be_bytes w64 k) × (k < 2 ^ 32) × (k ≤ halves.sent g x h) × (is_inbound x ≡ false)
+    (g x : List ℕ) × (e : SadEntry) × (k : ℕ) × (halves.put_of g x h ≡ Some e) × (aes_part e.key ≡ c) × (iv ≡ to_be_bytes w64 k)
+        × (k < 2 ^ 32) × (k ≤ halves.sent g x h) × (is_inbound x ≡ false)
 
 -- the half is gone for good
 abbrev pub Dead : List ℕ → List Act → Type 0
@@ -81,11 +85,13 @@ pub record Kept (h : List Act) : Type 0 where
   pub handled_ordered : (g : List ℕ) (s : ℕ) → handled g s h ≤ orders g s h
   -- keys
   pub ordered_once : (g : List ℕ) (s k : ℕ) (e : SadEntry) → order_at g s k h ≡ Some (asks.Put e) → IsPutAt g s k e h
-  pub order_stands : (x : List ℕ) (e : SadEntry) → order_of x h ≡ Some e → order_at (site x h) (session_of x h) (place_of x h) h ≡ Some (asks.Put e)
+  pub order_stands : (x : List ℕ) (e : SadEntry) → order_of x h ≡ Some e → order_at (site x h) (session_of x h) (place_of x h) h ≡ Some
+      (asks.Put e)
   pub put_as_ordered : (g x : List ℕ) (e : SadEntry) → halves.put_of g x h ≡ Some e → PutIs g x e h
   pub own_key : (t : List ℕ) → was_order_given (out_half t) h ≡ true → Pair t h
   pub ends : (x : List ℕ) (e : SadEntry) → order_of x h ≡ Some e → AreOneFamily e.local e.remote
-  pub keys_differ : (t u : List ℕ) (d e : SadEntry) → order_of (in_half t) h ≡ Some d → order_of (in_half u) h ≡ Some e → aes_part d.key ≡ aes_part e.key → t ≡ u
+  pub keys_differ : (t u : List ℕ) (d e : SadEntry) → order_of (in_half t) h ≡ Some d → order_of (in_half u) h ≡ Some e
+      → aes_part d.key ≡ aes_part e.key → t ≡ u
   pub numbers : (c iv : List ℕ) → was_sealed c iv h ≡ true → Under c iv h
   -- finality
   pub doomed_ordered : (x : List ℕ) → is_removal_ordered x h ≡ true → was_order_given x h ≡ true
@@ -94,12 +100,15 @@ pub record Kept (h : List Act) : Type 0 where
   -- halves
   pub inbound_first : (t : List ℕ) → was_order_given (out_half t) h ≡ true → halves.was_put (site (in_half t) h) (in_half t) h ≡ true
   pub outbound_last : (t : List ℕ) → is_removal_ordered (in_half t) h ≡ true → Last t h
-  pub stays : (g x : List ℕ) → halves.was_put g x h ≡ true → (halves.is_live g x h ≡ true) ⊎ ((halves.is_lapsed g x h ≡ true) ⊎ (is_removal_ordered x h ≡ true))
-  pub listed : (g : List ℕ) (e : SadEntry) → IsOneOf e (halves.live g h) → (halves.put_of g e.name h ≡ Some e) × (halves.is_live g e.name h ≡ true)
+  pub stays : (g x : List ℕ) → halves.was_put g x h ≡ true → (halves.is_live g x h ≡ true)
+      ⊎ ((halves.is_lapsed g x h ≡ true) ⊎ (is_removal_ordered x h ≡ true))
+  pub listed : (g : List ℕ) (e : SadEntry) → IsOneOf e (halves.live g h) → (halves.put_of g e.name h ≡ Some e)
+      × (halves.is_live g e.name h ≡ true)
   pub live_listed : (g x : List ℕ) → halves.is_live g x h ≡ true → (e : SadEntry) × IsOneOf e (halves.live g h) × (e.name ≡ x)
   pub spi_names : (g : List ℕ) (spi : ℕ) (e : SadEntry) → by_spi spi (halves.live g h) ≡ Some e →
       (halves.put_of g e.name h ≡ Some e) × (halves.is_live g e.name h ≡ true) × (is_inbound e.name ≡ true) × (e.spi ≡ spi)
-  pub spi_finds : (g t : List ℕ) (spi : ℕ) (e : SadEntry) → halves.is_live g (in_half t) h ≡ true → halves.put_of g (in_half t) h ≡ Some e → e.spi ≡ spi → by_spi spi (halves.live g h) ≡ Some e
+  pub spi_finds : (g t : List ℕ) (spi : ℕ) (e : SadEntry) → halves.is_live g (in_half t) h ≡ true → halves.put_of g (in_half t) h ≡ Some e
+      → e.spi ≡ spi → by_spi spi (halves.live g h) ≡ Some e
   -- window
   pub carried : (g x : List ℕ) (n : ℕ) (b p : List ℕ) → was_sent g x n b p h ≡ true → Carried g x n b p h
   pub given : (x : List ℕ) (n : ℕ) → was_given x n h ≡ true → WasGiven x n h

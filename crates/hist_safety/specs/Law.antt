@@ -124,9 +124,12 @@ DropMayHappen gateways g why _ = ⊥
 abbrev pub MayHappen : List Peer → Act → List Act → Type 0
 MayHappen gateways (acts.Opened g s) h = (is_ready h ≡ true) × (s ≡ openings g h + 1)
 MayHappen gateways (acts.Cut g s) h = (is_ready h ≡ true) × (is_open g h ≡ true) × (s ≡ openings g h)
-MayHappen gateways (acts.Order g s k o) h = (is_ready h ≡ true) × (is_open g h ≡ true) × (s ≡ openings g h) × (k ≡ orders g s h + 1) × OrderMayHappen g o h
-MayHappen gateways (acts.Handled g s k a) h = (s ≡ session_taken g h) × (k ≡ handled g s h + 1) × ((o : Order) × (next_request g h ≡ Some o) × IsAnswer g o a h)
-MayHappen gateways (acts.Answered g s k a) h = (is_ready h ≡ true) × (is_open g h ≡ true) × (s ≡ openings g h) × (k ≡ answered g s h + 1) × (answer_at g s k h ≡ Some a)
+MayHappen gateways (acts.Order g s k o) h = (is_ready h ≡ true) × (is_open g h ≡ true) × (s ≡ openings g h) × (k ≡ orders g s h + 1)
+    × OrderMayHappen g o h
+MayHappen gateways (acts.Handled g s k a) h = (s ≡ session_taken g h) × (k ≡ handled g s h + 1)
+    × ((o : Order) × (next_request g h ≡ Some o) × IsAnswer g o a h)
+MayHappen gateways (acts.Answered g s k a) h = (is_ready h ≡ true) × (is_open g h ≡ true) × (s ≡ openings g h) × (k ≡ answered g s h + 1)
+    × (answer_at g s k h ≡ Some a)
 MayHappen gateways (acts.Policy g list) h = (is_ready h ≡ true) × (next_request g h ≡ Some (asks.Policy list))
 MayHappen gateways (acts.Put g e) h = (is_ready h ≡ true) × (next_request g h ≡ Some (asks.Put e))
 MayHappen gateways (acts.Gone g x gone.Removed) h = (is_ready h ≡ true) × (next_request g h ≡ Some (asks.Remove x))

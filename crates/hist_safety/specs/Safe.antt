@@ -61,7 +61,8 @@ pub record MustGive (gateways : List Peer) (g o serial p : List ℕ) (half : Sad
   pub number : ℕ
   pub unchanged : was_sent sender (out_half serial) number (esp_of o) p h ≡ true
   pub put : put_of g (in_half serial) h ≡ Some half
-  pub fresh : verdict_over half.window (numbers_taken g (in_half serial) h) (number_of half (numbers_taken g (in_half serial) h) (esp_of o)) ≡ Fresh
+  pub fresh : verdict_over half.window (numbers_taken g (in_half serial) h) (number_of half (numbers_taken g (in_half serial) h) (esp_of o))
+      ≡ Fresh
   pub stays : is_removal_ordered (in_half serial) h ≡ false
   pub whole : is_lapsed g (in_half serial) h ≡ false
 

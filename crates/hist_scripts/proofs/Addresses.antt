@@ -24,7 +24,8 @@ quad-whole : (parts : List (List ℕ)) (octets : List ℕ) → quad_of parts ≡
 unfolding quad_of
 quad-whole parts octets is = by-form (is_quad parts) refl is
   where
-    by-range : is_quad parts ≡ true → (b : Bool) → cond (not b) (Err Range) (Ok (map (digits_value 10) parts)) ≡ Ok octets → length octets ≡ 4
+    by-range : is_quad parts ≡ true → (b : Bool) → cond (not b) (Err Range) (Ok (map (digits_value 10) parts)) ≡ Ok octets
+        → length octets ≡ 4
     by-range f false t = cc
     by-range f true t =
         let e : map (digits_value 10) parts ≡ octets = cc in
@@ -32,7 +33,9 @@ quad-whole parts octets is = by-form (is_quad parts) refl is
         let m : length parts ≡ 4 = grind arith in
         sym (ap length e) ∙ (length-map parts (digits_value 10) ∙ m)
 
-    by-form : (b : Bool) → is_quad parts ≡ b → cond (not b) (Err Form) (cond (not (list_all fits_octet parts)) (Err Range) (Ok (map (digits_value 10) parts))) ≡ Ok octets → length octets ≡ 4
+    by-form : (b : Bool) → is_quad parts ≡ b
+        → cond (not b) (Err Form) (cond (not (list_all fits_octet parts)) (Err Range) (Ok (map (digits_value 10) parts))) ≡ Ok octets
+        → length octets ≡ 4
     by-form false f t = cc
     by-form true f t = by-range f (list_all fits_octet parts) t
 
@@ -44,7 +47,8 @@ eight-some : (o : Option (List ℕ)) (out : List ℕ) → option_and_then eight 
 eight-some None out t = cc
 eight-some (Some groups) out t = eight-is groups out (length groups == 8) refl t
 
-filled-is : (front back out : List ℕ) (b : Bool) → nat_lt (length front + length back) 8 ≡ b → (if b then Some (front ++ replicate (8 - (length front + length back)) 0 ++ back) else None) ≡ Some out → length out ≡ 8
+filled-is : (front back out : List ℕ) (b : Bool) → nat_lt (length front + length back) 8 ≡ b
+    → (if b then Some (front ++ replicate (8 - (length front + length back)) 0 ++ back) else None) ≡ Some out → length out ≡ 8
 filled-is front back out true e t =
     let q : front ++ replicate (8 - (length front + length back)) 0 ++ back ≡ out = cc in
     let a = length-append (front ++ replicate (8 - (length front + length back)) 0) back in
@@ -70,7 +74,8 @@ v4-whole (Ok octets) a f t = let q : V4 octets ≡ a = cc in subst IsWhole q (f 
 v4-whole (Err e) a f t = cc
 
 v6-whole : (r : Option (List ℕ)) (a : Addr) → ((groups : List ℕ) → r ≡ Some groups → length groups ≡ 8) → v6_of r ≡ Ok a → IsWhole a
-v6-whole (Some groups) a f t = let q : V6 (octets_of groups) ≡ a = cc in let n = f groups refl in let m = octets-length groups in subst IsWhole q (let w : length (octets_of groups) ≡ 16 = omega (arith, n, m) in w)
+v6-whole (Some groups) a f t = let q : V6 (octets_of groups) ≡ a = cc in let n = f groups refl in let m = octets-length groups in
+    subst IsWhole q (let w : length (octets_of groups) ≡ 16 = omega (arith, n, m) in w)
 v6-whole None a f t = cc
 
 pub address-whole : (t : List ℕ) (a : Addr) → address_of t ≡ Ok a → IsWhole a

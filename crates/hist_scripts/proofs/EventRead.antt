@@ -18,7 +18,8 @@ known-number : (ps : List Peer) (g : List ℕ) → is_named ps g ≡ true → pe
 known-number [] g e = cc
 known-number (p ∷ ps) g e = at (bytes_eq p.name g) e (known-number ps g)
   where
-    at : (b : Bool) → (b || is_named ps g) ≡ true → (is_named ps g ≡ true → peer_number g ps < length ps) → (if b then 0 else peer_number g ps + 1) < length (p ∷ ps)
+    at : (b : Bool) → (b || is_named ps g) ≡ true → (is_named ps g ≡ true → peer_number g ps < length ps)
+        → (if b then 0 else peer_number g ps + 1) < length (p ∷ ps)
     at true t f = grind arith
     at false t f = let q = f t in grind arith
 

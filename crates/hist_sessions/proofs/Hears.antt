@@ -39,22 +39,27 @@ orders-besides ps h (Accepted x ∷ xs) p = absurd (no p)
 orders-besides ps h (Refused x ∷ xs) p = absurd (no p)
 
 -- its own act, and orders
-going-besides : (ps : List Peer) (h : List Act) (c : List ControllerAct) (a : ControllerAct) → AllBesides h (told ps a) → AllBesides h (all_told ps (going c a))
+going-besides : (ps : List Peer) (h : List Act) (c : List ControllerAct) (a : ControllerAct) → AllBesides h (told ps a)
+    → AllBesides h (all_told ps (going c a))
 going-besides ps h c a m = after-own ps h (told ps a) (asked_then (a ∷ c) (asked (a ∷ c) a)) m (then-orders c a) where
-  after-own : (ps : List Peer) (h own : List Act) (xs : List ControllerAct) → AllBesides h own → are_orders xs ≡ true → AllBesides h (own ++ all_told ps xs)
+  after-own : (ps : List Peer) (h own : List Act) (xs : List ControllerAct) → AllBesides h own → are_orders xs ≡ true
+      → AllBesides h (own ++ all_told ps xs)
   after-own ps h [] xs m p = orders-besides ps h xs p
   after-own ps h (a ∷ own) xs m p = (m.0, after-own ps (a ∷ h) own xs m.1 p)
 
-if-besides : (ps : List Peer) (h : List Act) (b : Bool) (xs ys : List ControllerAct) → (b ≡ true → AllBesides h (all_told ps xs)) → (b ≡ false → AllBesides h (all_told ps ys))
+if-besides : (ps : List Peer) (h : List Act) (b : Bool) (xs ys : List ControllerAct) → (b ≡ true → AllBesides h (all_told ps xs))
+    → (b ≡ false → AllBesides h (all_told ps ys))
     → AllBesides h (all_told ps (if b then xs else ys))
 if-besides ps h true xs ys p q = p refl
 if-besides ps h false xs ys p q = q refl
 
-refusal-besides : (ps : List Peer) (h : List Act) (c : List ControllerAct) (x : PlacedCommand) (r : Option Refusal) → AllBesides h (all_told ps (by_refusal c x r))
+refusal-besides : (ps : List Peer) (h : List Act) (c : List ControllerAct) (x : PlacedCommand) (r : Option Refusal)
+    → AllBesides h (all_told ps (by_refusal c x r))
 refusal-besides ps h c x None = going-besides ps h c (Accepted x) tt
 refusal-besides ps h c x (Some r) = (tt, tt)
 
-answer-besides : (ps : List Peer) (h : List Act) (c : List ControllerAct) (g : ℕ) (a : Answer) (os : List ControllerOrder) → AllBesides h (all_told ps (by_answer c g a os))
+answer-besides : (ps : List Peer) (h : List Act) (c : List ControllerAct) (g : ℕ) (a : Answer) (os : List ControllerOrder)
+    → AllBesides h (all_told ps (by_answer c g a os))
 answer-besides ps h c g a [] = tt
 answer-besides ps h c g a (o ∷ os) = going-besides ps h c (Answered g (openings g c) (answered g c + 1) a) (tt, tt)
 
@@ -64,13 +69,16 @@ Comes ps h (Opens g) = g < length ps
 Comes ps h (Notices g t) = (g < length ps) × (sessions.next_notice (peer_name ps g) h ≡ Some t)
 Comes ps h _ = Unit {0}
 
-pub block-besides : (ps : List Peer) (h : List Act) (c : List ControllerAct) (e : ControllerEvent) → Named ps → Meet ps h c → Comes ps h e → AllBesides h (all_told ps (block ps c e))
+pub block-besides : (ps : List Peer) (h : List Act) (c : List ControllerAct) (e : ControllerEvent) → Named ps → Meet ps h c → Comes ps h e
+    → AllBesides h (all_told ps (block ps c e))
 block-besides ps h c (Told x) names m i = refusal-besides ps h c (placed_command ps x) (refusal (length ps) c (placed_command ps x))
 block-besides ps h c (Opens g) names m i =
     let own : ControllerAct = Opened g (openings g c + 1) in
     if-besides ps h (is_open g c) [] (going c own) (λ e. tt) (λ e. going-besides ps h c own (open-meet ps h c g names m i ∙ e, tt))
-block-besides ps h c (Cuts g) names m i = if-besides ps h (is_open g c) (going c (Cut g (openings g c))) [] (λ e. going-besides ps h c (Cut g (openings g c)) (tt, tt)) (λ e. tt)
+block-besides ps h c (Cuts g) names m i = if-besides ps h (is_open g c) (going c (Cut g (openings g c))) []
+    (λ e. going-besides ps h c (Cut g (openings g c)) (tt, tt)) (λ e. tt)
 block-besides ps h c (Answers g a) names m i = answer-besides ps h c g a (queue g c)
 block-besides ps h c (Notices g t) names m i =
     let own : ControllerAct = Heard g (openings g c) t in
-    if-besides ps h (is_open g c) (going c own) [] (λ e. going-besides ps h c own ((sym (openings-meet ps h c g names m i.0), i.1), tt)) (λ e. tt)
+    if-besides ps h (is_open g c) (going c own) [] (λ e. going-besides ps h c own ((sym (openings-meet ps h c g names m i.0), i.1), tt))
+        (λ e. tt)

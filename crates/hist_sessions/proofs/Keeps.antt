@@ -74,7 +74,8 @@ down-acts : (h : List Act) (o : Option Order) (c : Option node.Gateway) → AllT
 down-acts h None c = tt
 down-acts h (Some o) c = request-acts h o c
 
-raised-acts : (taken : List ℕ → ℕ) (header : Header) (h : List Act) (b : Bool) → ((g : List ℕ) → session_taken g h ≡ taken g) → AllTell taken (raised header h b)
+raised-acts : (taken : List ℕ → ℕ) (header : Header) (h : List Act) (b : Bool) → ((g : List ℕ) → session_taken g h ≡ taken g)
+    → AllTell taken (raised header h b)
 raised-acts taken header h true e = looks-tell taken h header.gateways e
 raised-acts taken header h false e = tt
 
@@ -91,18 +92,21 @@ alone h xs m = subst (AllBesides h) (sym (append-nil xs)) m
 took-meet : (header : Header) (p : Past) → Stands header p → Meet header.gateways (took p.world) p.controller
 took-meet header p s = record { part = s.meet.part; past = s.meet.past; fit = s.meet.fit }
 
-hears-besides : (header : Header) (p : Past) (g : List ℕ) (t : Option Notice) → IsHeader header → IsKnown header g → Stands header p → next_notice g (took p.world) ≡ t
+hears-besides : (header : Header) (p : Past) (g : List ℕ) (t : Option Notice) → IsHeader header → IsKnown header g → Stands header p
+    → next_notice g (took p.world) ≡ t
     → AllBesides (took p.world) (all_told header.gateways (by_event header.gateways p.controller (hears (peer_number g header.gateways) t)))
 hears-besides header p g None i k s e = tt
 hears-besides header p g (Some t) i k s e =
     let n : ℕ = peer_number g header.gateways in
-    let next : next_notice (peer_name header.gateways n) (took p.world) ≡ Some t = ap (λ (z : List ℕ). next_notice z (took p.world)) (name-number g header.gateways k) ∙ e in
+    let next : next_notice (peer_name header.gateways n) (took p.world) ≡ Some t =
+        ap (λ (z : List ℕ). next_notice z (took p.world)) (name-number g header.gateways k) ∙ e in
     block-besides header.gateways (took p.world) p.controller (controller.Notices n t) i.named (took-meet header p s) (k, next)
 
 answers-besides : (header : Header) (p : Past) (n : ℕ) (a : Option Answer) → IsHeader header → Stands header p
     → AllBesides (took p.world) (all_told header.gateways (by_event header.gateways p.controller (answer_event n a)))
 answers-besides header p n None i s = tt
-answers-besides header p n (Some a) i s = block-besides header.gateways (took p.world) p.controller (controller.Answers n a) i.named (took-meet header p s) tt
+answers-besides header p n (Some a) i s = block-besides header.gateways (took p.world) p.controller (controller.Answers n a) i.named
+    (took-meet header p s) tt
 
 commanded : (header : Header) (p : Past) (c : Command) → IsHeader header → Stands header p
     → AllBesides (took p.world) (all_told header.gateways (by_event header.gateways p.controller (Some (controller.Told c))))
@@ -110,24 +114,32 @@ commanded header p c i s = block-besides header.gateways (took p.world) p.contro
 
 event-besides : (shows : Shows) (header : Header) (p : Past) (e : Event) → IsHeader header → IsEventOf header e → Stands header p
     → AllBesides (took p.world) (gateway_acts shows header (took p.world) e ++ all_told header.gateways (controller_acts header p e))
-event-besides shows header p (events.Let g o) i k s = alone (took p.world) _ (gateway-besides (took p.world) _ (let-acts (took p.world) o (gateway_at header g)))
-event-besides shows header p (events.Arrive g o) i k s = alone (took p.world) _ (gateway-besides (took p.world) _ (arrive-acts (took p.world) o (gateway_at header g)))
+event-besides shows header p (events.Let g o) i k s =
+    alone (took p.world) _ (gateway-besides (took p.world) _ (let-acts (took p.world) o (gateway_at header g)))
+event-besides shows header p (events.Arrive g o) i k s =
+    alone (took p.world) _ (gateway-besides (took p.world) _ (arrive-acts (took p.world) o (gateway_at header g)))
 event-besides shows header p (events.ArriveSent g m) i k s =
     alone (took p.world) _ (gateway-besides (took p.world) _ (arrive-acts (took p.world) (sent_at m (took p.world)) (gateway_at header g)))
 event-besides shows header p (events.ArriveFlip g m offset bit) i k s =
-    alone (took p.world) _ (gateway-besides (took p.world) _ (arrive-acts (took p.world) (flipped offset bit (sent_at m (took p.world))) (gateway_at header g)))
+    alone (took p.world) _ (gateway-besides (took p.world) _ (arrive-acts (took p.world) (flipped offset bit (sent_at m (took p.world)))
+        (gateway_at header g)))
 event-besides shows header p (events.ArriveTtl g m ttl) i k s =
-    alone (took p.world) _ (gateway-besides (took p.world) _ (arrive-acts (took p.world) (with_ttl ttl (sent_at m (took p.world))) (gateway_at header g)))
+    alone (took p.world) _ (gateway-besides (took p.world) _ (arrive-acts (took p.world) (with_ttl ttl (sent_at m (took p.world)))
+        (gateway_at header g)))
 event-besides shows header p (events.Now t) i k s =
     let w : List Act = took p.world in
     let a : Act = acts.Now (max t (clock w)) in
-    alone w (clock_block header w t) (gateway-besides w (clock_block header w t) (raised-acts (Takes w) header (a ∷ w) (nat_lt (clock w) t) (λ g. refl)))
+    alone w (clock_block header w t) (gateway-besides w (clock_block header w t) (raised-acts (Takes w) header (a ∷ w) (nat_lt (clock w) t)
+        (λ g. refl)))
 event-besides shows header p (events.Boot g) i k s = alone (took p.world) _ (boot-besides g (took p.world) (gateway_at header g))
 event-besides shows header p (events.Down g) i k s =
-    alone (took p.world) _ (gateway-besides (took p.world) _ (down-acts (took p.world) (next_request g (took p.world)) (gateway_at header g)))
+    alone (took p.world) _
+        (gateway-besides (took p.world) _ (down-acts (took p.world) (next_request g (took p.world)) (gateway_at header g)))
 event-besides shows header p (events.Wire g lane) i k s = (tt, tt)
-event-besides shows header p (events.Open g) i k s = block-besides header.gateways (took p.world) p.controller (controller.Opens (peer_number g header.gateways)) i.named (took-meet header p s) k
-event-besides shows header p (events.Cut g) i k s = block-besides header.gateways (took p.world) p.controller (controller.Cuts (peer_number g header.gateways)) i.named (took-meet header p s) tt
+event-besides shows header p (events.Open g) i k s = block-besides header.gateways (took p.world) p.controller
+    (controller.Opens (peer_number g header.gateways)) i.named (took-meet header p s) k
+event-besides shows header p (events.Cut g) i k s = block-besides header.gateways (took p.world) p.controller
+    (controller.Cuts (peer_number g header.gateways)) i.named (took-meet header p s) tt
 event-besides shows header p (events.Up g) i k s = answers-besides header p (peer_number g header.gateways) (next_answer g p.world) i s
 event-besides shows header p (events.Note g) i k s = hears-besides header p g (next_notice g p.world) i k s refl
 event-besides shows header p (events.Policy g list) i k s = commanded header p (commands.Policy g list) i s
@@ -138,10 +150,12 @@ event-besides shows header p (events.Keys key) i k s = commanded header p (comma
 
 -- ---- with the law of the whole
 
-next-is : (g : List ℕ) (s k : ℕ) (a : Answer) (h : List Act) → is_open g h ≡ true → s ≡ openings g h → k ≡ answered g s h + 1 → answer_at g s k h ≡ Some a → next_answer g h ≡ Some a
+next-is : (g : List ℕ) (s k : ℕ) (a : Answer) (h : List Act) → is_open g h ≡ true → s ≡ openings g h → k ≡ answered g s h + 1
+    → answer_at g s k h ≡ Some a → next_answer g h ≡ Some a
 next-is g s k a h o is n at =
     let one : answer_at g s (answered g s h + 1) h ≡ Some a = ap (λ (z : ℕ). answer_at g s z h) (sym n) ∙ at in
-    let own : answer_at g (openings g h) (answered g (openings g h) h + 1) h ≡ Some a = subst (λ (z : ℕ). answer_at g z (answered g z h + 1) h ≡ Some a) is one in
+    let own : answer_at g (openings g h) (answered g (openings g h) h + 1) h ≡ Some a =
+        subst (λ (z : ℕ). answer_at g z (answered g z h + 1) h ≡ Some a) is one in
     where-open (is_open g h) o own where
       where-open : (b : Bool) → b ≡ true → answer_at g (openings g h) (answered g (openings g h) h + 1) h ≡ Some a
           → (if b then answer_at g (openings g h) (answered g (openings g h) h + 1) h else None) ≡ Some a
@@ -162,22 +176,28 @@ keep-more : (gs : List Peer) (h xs : List Act) → IsLawful gs (after h xs) → 
 keep-more gs h [] l b k = k
 keep-more gs h (a ∷ xs) l b k = keep-more gs (a ∷ h) xs l b.1 (may-stand gs a h (lawful-before gs (a ∷ h) xs l).0 b.0, k)
 
-pub keep-block : (shows : Shows) (header : Header) (p : Past) (e : Event) → IsHeader header → IsEventOf header e → Stands header p → KeepsSessions p.world
+pub keep-block : (shows : Shows) (header : Header) (p : Past) (e : Event) → IsHeader header → IsEventOf header e → Stands header p
+    → KeepsSessions p.world
     → KeepsSessions (after p.world (block shows header p e))
 keep-block shows header p e i k s keeps =
     let xs : List Act = block shows header p e in
     let one = history-one shows header p e in
-    let l : IsLawful header.gateways (after p.world xs) = subst (λ (z : List Act). IsLawful header.gateways (after p.world z)) one (lawful-history shows header p (e ∷ []) i (k, tt) s) in
+    let l : IsLawful header.gateways (after p.world xs) = subst (λ (z : List Act). IsLawful header.gateways (after p.world z)) one
+        (lawful-history shows header p (e ∷ []) i (k, tt) s) in
     keep-more header.gateways p.world xs l (tt, event-besides shows header p e i k s) keeps
 
-pub keep-history : (shows : Shows) (header : Header) (p : Past) (es : List Event) → IsHeader header → AreEventsOf header es → Stands header p → KeepsSessions p.world
+pub keep-history : (shows : Shows) (header : Header) (p : Past) (es : List Event) → IsHeader header → AreEventsOf header es
+    → Stands header p → KeepsSessions p.world
     → KeepsSessions (after p.world (history shows header p es))
 keep-history shows header p [] i k s keeps = keeps
 keep-history shows header p (e ∷ es) i k s keeps =
-    by-forgery (is_forged_event header p e) refl (λ t. keep-history shows header (past_after shows header p e) es i k.1 t (keep-block shows header p e i k.0 s keeps)) where
+    by-forgery (is_forged_event header p e) refl (λ t. keep-history shows header (past_after shows header p e) es i k.1 t
+        (keep-block shows header p e i k.0 s keeps)) where
       by-forgery : (b : Bool) → is_forged_event header p e ≡ b
-          → (Stands header (past_after shows header p e) → KeepsSessions (after (past_after shows header p e).world (history shows header (past_after shows header p e) es)))
-          → KeepsSessions (after p.world (block shows header p e ++ unless_forged b (history shows header (past_after shows header p e) es)))
+          → (Stands header (past_after shows header p e)
+              → KeepsSessions (after (past_after shows header p e).world (history shows header (past_after shows header p e) es)))
+          → KeepsSessions (after p.world (block shows header p e
+              ++ unless_forged b (history shows header (past_after shows header p e) es)))
       by-forgery true f ih =
           let xs : List Act = block shows header p e in
           subst (λ (z : List Act). KeepsSessions (after p.world z)) (sym (append-nil xs)) (keep-block shows header p e i k.0 s keeps)

@@ -27,7 +27,8 @@ elsewhere (y ∷ xs) x (suc k) q = elsewhere xs x k (λ e. q (ap suc e))
 not-last : (j k n : ℕ) → (j == k + 1) ≡ false → j ≡ n + 1 → k ≡ n → ⊥
 not-last j k n e is q = grind arith
 
-new-number : {A : Type 0} (xs : List A) (x : A) (old : Option A) (b : Bool) (j k : ℕ) → (j == k + 1) ≡ b → j ≡ length xs + 1 → old ≡ slice_get xs k
+new-number : {A : Type 0} (xs : List A) (x : A) (old : Option A) (b : Bool) (j k : ℕ) → (j == k + 1) ≡ b → j ≡ length xs + 1
+    → old ≡ slice_get xs k
     → (if b then Some x else old) ≡ slice_get (xs ++ x ∷ []) k
 new-number xs x old true j k e is p =
     let m = same_number j (k + 1) e in
@@ -36,12 +37,14 @@ new-number xs x old true j k e is p =
 new-number xs x old false j k e is p = p ∙ sym (elsewhere xs x k (λ q. not-last j k (length xs) e is q))
 
 -- one more, of this session or of another one
-more-number : {A : Type 0} (here : Bool) (xs : List A) (x : A) (old : Option A) (j k : ℕ) → (here ≡ true → j ≡ length xs + 1) → old ≡ slice_get xs k
+more-number : {A : Type 0} (here : Bool) (xs : List A) (x : A) (old : Option A) (j k : ℕ) → (here ≡ true → j ≡ length xs + 1)
+    → old ≡ slice_get xs k
     → (if here && (j == k + 1) then Some x else old) ≡ slice_get (if here then xs ++ x ∷ [] else xs) k
 more-number true xs x old j k is p = new-number xs x old (j == k + 1) j k refl (is refl) p
 more-number false xs x old j k is p = p
 
-longer : {A : Type 0} (here : Bool) (n : ℕ) (xs : List A) (x : A) → length xs ≡ n → length (if here then xs ++ x ∷ [] else xs) ≡ (if here then n + 1 else n)
+longer : {A : Type 0} (here : Bool) (n : ℕ) (xs : List A) (x : A) → length xs ≡ n
+    → length (if here then xs ++ x ∷ [] else xs) ≡ (if here then n + 1 else n)
 longer true n xs x e = let p = length-append xs (x ∷ []) in omega (arith, p, e)
 longer false n xs x e = e
 
@@ -99,45 +102,57 @@ record IsFirst {A : Type 0} (heard given : List A) (n : ℕ) : Type 0 where
   pub is : heard ≡ take n given
   pub few : n ≤ length given
 
-given-more : {A : Type 0} (here : Bool) (heard given : List A) (x : A) (n : ℕ) → IsFirst heard given n → IsFirst heard (if here then given ++ x ∷ [] else given) n
-given-more true heard given x n p = record { is = p.is ∙ sym (take-more n given x p.few); few = (let q = length-append given (x ∷ []) in let few = p.few in omega (arith, q, few)) }
+given-more : {A : Type 0} (here : Bool) (heard given : List A) (x : A) (n : ℕ) → IsFirst heard given n
+    → IsFirst heard (if here then given ++ x ∷ [] else given) n
+given-more true heard given x n p = record { is = p.is ∙ sym (take-more n given x p.few); few = (let q = length-append given (x ∷ []) in
+    let few = p.few in omega (arith, q, few)) }
 given-more false heard given x n p = p
 
-heard-more : {A : Type 0} (here : Bool) (heard given : List A) (x : A) (n : ℕ) → (here ≡ true → slice_get given n ≡ Some x) → IsFirst heard given n
+heard-more : {A : Type 0} (here : Bool) (heard given : List A) (x : A) (n : ℕ) → (here ≡ true → slice_get given n ≡ Some x)
+    → IsFirst heard given n
     → IsFirst (if here then heard ++ x ∷ [] else heard) given (if here then n + 1 else n)
 heard-more true heard given x n e p =
     let next : n + 1 ≡ suc n = omega arith in
-    record { is = ap (λ z. z ++ x ∷ []) p.is ∙ sym (take-next n given x (e refl)) ∙ ap (λ k. take k given) (sym next); few = (let q = slice_get_within given n x (e refl) in omega (arith, q)) }
+    record { is = ap (λ z. z ++ x ∷ []) p.is ∙ sym (take-next n given x (e refl)) ∙ ap (λ k. take k given) (sym next); few =
+        (let q = slice_get_within given n x (e refl) in omega (arith, q)) }
 heard-more false heard given x n e p = p
 
-next-given : (f : List ℕ) (t : ℕ) (a : Answer) (h : List Act) → KeepsSessions h → t ≡ openings f h → next_answer f h ≡ Some a → slice_get (answers_given f t h) (answered f t h) ≡ Some a
+next-given : (f : List ℕ) (t : ℕ) (a : Answer) (h : List Act) → KeepsSessions h → t ≡ openings f h → next_answer f h ≡ Some a
+    → slice_get (answers_given f t h) (answered f t h) ≡ Some a
 next-given f t a h l is e =
     let at = else_none (is_open f h) (answer_at f (openings f h) (answered f (openings f h) h + 1) h) a e in
-    let own : answer_at f t (answered f t h + 1) h ≡ Some a = subst (λ (z : ℕ). answer_at f z (answered f z h + 1) h ≡ Some a) (sym is) at.1 in
+    let own : answer_at f t (answered f t h + 1) h ≡ Some a = subst (λ (z : ℕ). answer_at f z (answered f z h + 1) h ≡ Some a) (sym is) at.1
+        in
     sym (answer-at f t (answered f t h) h l) ∙ own
 
 answers-first : (g : List ℕ) (s : ℕ) (h : List Act) → KeepsSessions h → IsFirst (answers_heard g s h) (answers_given g s h) (answered g s h)
 answers-first g s [] l = record { is = refl; few = omega arith }
-answers-first g s (acts.Handled f t k a ∷ h) l = given-more (is_session f t g s) (answers_heard g s h) (answers_given g s h) a (answered g s h) (answers-first g s h l.1)
+answers-first g s (acts.Handled f t k a ∷ h) l = given-more (is_session f t g s) (answers_heard g s h) (answers_given g s h) a
+    (answered g s h) (answers-first g s h l.1)
 answers-first g s (acts.Answered f t k a ∷ h) l =
     heard-more (is_session f t g s) (answers_heard g s h) (answers_given g s h) a (answered g s h)
-    (λ e. there f t g s (λ n m. slice_get (answers_given n m h) (answered n m h) ≡ Some a) e (next-given f t a h l.1 l.0.0 l.0.2)) (answers-first g s h l.1)
+    (λ e. there f t g s (λ n m. slice_get (answers_given n m h) (answered n m h) ≡ Some a) e (next-given f t a h l.1 l.0.0 l.0.2))
+        (answers-first g s h l.1)
 answers-first g s (_ ∷ h) l = answers-first g s h l.1
 
-next-told : (f : List ℕ) (t : ℕ) (n : Notice) (h : List Act) → t ≡ openings f h → next_notice f h ≡ Some n → slice_get (notices f t h) (notices_heard f t h) ≡ Some n
+next-told : (f : List ℕ) (t : ℕ) (n : Notice) (h : List Act) → t ≡ openings f h → next_notice f h ≡ Some n
+    → slice_get (notices f t h) (notices_heard f t h) ≡ Some n
 next-told f t n h is e =
     let at = else_none (is_open f h) (slice_get (notices f (openings f h) h) (notices_heard f (openings f h) h)) n e in
     subst (λ (z : ℕ). slice_get (notices f z h) (notices_heard f z h) ≡ Some n) (sym is) at.1
 
 notices-first : (g : List ℕ) (s : ℕ) (h : List Act) → KeepsSessions h → IsFirst (told g s h) (notices g s h) (notices_heard g s h)
 notices-first g s [] l = record { is = refl; few = omega arith }
-notices-first g s (acts.Notice f t n ∷ h) l = given-more (is_session f t g s) (told g s h) (notices g s h) n (notices_heard g s h) (notices-first g s h l.1)
+notices-first g s (acts.Notice f t n ∷ h) l = given-more (is_session f t g s) (told g s h) (notices g s h) n (notices_heard g s h)
+    (notices-first g s h l.1)
 notices-first g s (acts.Heard f t n ∷ h) l =
     heard-more (is_session f t g s) (told g s h) (notices g s h) n (notices_heard g s h)
-    (λ e. there f t g s (λ a b. slice_get (notices a b h) (notices_heard a b h) ≡ Some n) e (next-told f t n h l.0.0 l.0.1)) (notices-first g s h l.1)
+    (λ e. there f t g s (λ a b. slice_get (notices a b h) (notices_heard a b h) ≡ Some n) e (next-told f t n h l.0.0 l.0.1))
+        (notices-first g s h l.1)
 notices-first g s (_ ∷ h) l = notices-first g s h l.1
 
-pub answers-in-order : (g : List ℕ) (s : ℕ) (h : List Act) → KeepsSessions h → answers_heard g s h ≡ take (answered g s h) (answers_given g s h)
+pub answers-in-order : (g : List ℕ) (s : ℕ) (h : List Act) → KeepsSessions h
+    → answers_heard g s h ≡ take (answered g s h) (answers_given g s h)
 answers-in-order g s h l = (answers-first g s h l).is
 
 pub notices-in-order : (g : List ℕ) (s : ℕ) (h : List Act) → KeepsSessions h → told g s h ≡ take (notices_heard g s h) (notices g s h)

@@ -16,7 +16,8 @@ pub keeps-before : (h more : List Act) → KeepsSessions (after h more) → Keep
 keeps-before h [] l = l
 keeps-before h (a ∷ more) l = (keeps-before (a ∷ h) more l).1
 
-pub pipe-follows : (request : List Act → Order → List ℕ) (response : List Act → Answer → List ℕ) (line : List Act → Notice → List ℕ) (g : List ℕ) (h more : List Act) → KeepsSessions (after h more)
+pub pipe-follows : (request : List Act → Order → List ℕ) (response : List Act → Answer → List ℕ) (line : List Act → Notice → List ℕ)
+    (g : List ℕ) (h more : List Act) → KeepsSessions (after h more)
     → piped request response line g h more (pipe_of request response line g h) ≡ pipe_of request response line g (after h more)
 pipe-follows request response line g h [] l = refl
 pipe-follows request response line g h (a ∷ more) l =
@@ -28,13 +29,15 @@ map-last : {A : Type 0} (f : A → List ℕ) (xs : List A) (x : A) → map f (xs
 map-last f [] x = refl
 map-last f (y ∷ xs) x = ap (λ z. f y ∷ z) (map-last f xs x)
 
-more-mapped : (f : Order → List ℕ) (here : Bool) (xs : List Order) (x : Order) (ms : List (List ℕ)) → ms ≡ map f xs → (if here then ms ++ f x ∷ [] else ms) ≡ map f (if here then xs ++ x ∷ [] else xs)
+more-mapped : (f : Order → List ℕ) (here : Bool) (xs : List Order) (x : Order) (ms : List (List ℕ)) → ms ≡ map f xs
+    → (if here then ms ++ f x ∷ [] else ms) ≡ map f (if here then xs ++ x ∷ [] else xs)
 more-mapped f true xs x ms e = ap (λ z. z ++ f x ∷ []) e ∙ sym (map-last f xs x)
 more-mapped f false xs x ms e = e
 
 requests-mapped : (f : Order → List ℕ) (g : List ℕ) (s : ℕ) (h : List Act) → requests (λ w o. f o) g s h ≡ map f (orders_given g s h)
 requests-mapped f g s [] = refl
-requests-mapped f g s (acts.Order e t k o ∷ h) = more-mapped f (is_session e t g s) (orders_given g s h) o (requests (λ w q. f q) g s h) (requests-mapped f g s h)
+requests-mapped f g s (acts.Order e t k o ∷ h) = more-mapped f (is_session e t g s) (orders_given g s h) o (requests (λ w q. f q) g s h)
+    (requests-mapped f g s h)
 requests-mapped f g s (_ ∷ h) = requests-mapped f g s h
 
 drop-map : {A : Type 0} (f : A → List ℕ) (n : ℕ) (xs : List A) → drop n (map f xs) ≡ map f (drop n xs)
@@ -46,7 +49,8 @@ where-taken : (z : Bool) (xs ys : List (List ℕ)) → xs ≡ ys → (if z then 
 where-taken z xs ys e = ap (λ l. if z then [] else l) e
 
 pub down-is : (f : Order → List ℕ) (response : List Act → Answer → List ℕ) (line : List Act → Notice → List ℕ) (g : List ℕ) (h : List Act)
-    → (pipe_of (λ w o. f o) response line g h).down ≡ (if session_taken g h == 0 then [] else map f (drop (handled g (session_taken g h) h) (orders_given g (session_taken g h) h)))
+    → (pipe_of (λ w o. f o) response line g h).down ≡ (if session_taken g h == 0 then []
+        else map f (drop (handled g (session_taken g h) h) (orders_given g (session_taken g h) h)))
 down-is f response line g h =
     let s : ℕ = session_taken g h in
     where-taken (s == 0) (drop (handled g s h) (requests (λ w o. f o) g s h)) (map f (drop (handled g s h) (orders_given g s h)))

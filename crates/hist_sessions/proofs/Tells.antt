@@ -87,13 +87,15 @@ given-tells taken g s (n ∷ ns) e = (e, given-tells taken g s ns e)
 goings-tell : (taken : List ℕ → ℕ) (g : List ℕ) (h : List Act) (es : List SadEntry) → AllTell taken (goings g h es)
 goings-tell taken g h [] = tt
 goings-tell taken g h (e ∷ es) =
-    either taken (is_reached e.hard (counts g e.name h)) (acts.Gone g e.name gone.Hard ∷ goings g h es) (goings g h es) (goings-tell taken g h es) (goings-tell taken g h es)
+    either taken (is_reached e.hard (counts g e.name h)) (acts.Gone g e.name gone.Hard ∷ goings g h es) (goings g h es)
+        (goings-tell taken g h es) (goings-tell taken g h es)
 
 expiries-tell : (taken : List ℕ → ℕ) (g : List ℕ) (h : List Act) (es : List SadEntry) → Takes taken g h → AllTell taken (expiries g h es)
 expiries-tell taken g h [] e = tt
 expiries-tell taken g h (d ∷ es) e =
     let ns : List Notice = expiry d.name (counts g d.name h) (event_of g h d) in
-    joined taken (given_by g (session_taken g h) ns) (expiries g h es) (given-tells taken g (session_taken g h) ns e) (expiries-tell taken g h es e)
+    joined taken (given_by g (session_taken g h) ns) (expiries g h es) (given-tells taken g (session_taken g h) ns e)
+        (expiries-tell taken g h es e)
 
 pub look-tells : (taken : List ℕ → ℕ) (g : List ℕ) (h : List Act) (es : List SadEntry) → Takes taken g h → AllTell taken (look g h es)
 look-tells taken g h es e = joined taken (goings g h es) (expiries g h es) (goings-tell taken g h es) (expiries-tell taken g h es e)
@@ -107,26 +109,32 @@ looks-tell taken h (p ∷ ps) e =
 
 -- ---- a packet from inside
 
-half-tells : (taken : List ℕ → ℕ) (q : ℕ) (g o : List ℕ) (h : List Act) (v : Packet) (p : SpdEntry) (found : Option SadEntry) → Takes taken g h
+half-tells : (taken : List ℕ → ℕ) (q : ℕ) (g o : List ℕ) (h : List Act) (v : Packet) (p : SpdEntry) (found : Option SadEntry)
+    → Takes taken g h
     → AllTell taken (let_by_half g q h o v p found)
-half-tells taken q g o h v p None e = unless-tells taken (does_acquire_stand g p.name h) (tells g h (notices.Acquire p.name (flow_of v))) (e, tt)
+half-tells taken q g o h v p None e = unless-tells taken (does_acquire_stand g p.name h) (tells g h (notices.Acquire p.name (flow_of v)))
+    (e, tt)
 half-tells taken q g o h v p (Some d) e =
     let n : ℕ = sent g d.name h + 1 in
     let a : Act = acts.Sent g d.name n (datagram d n v o) in
-    either taken (nat_le q (sent g d.name h)) (acts.Drop g why.SeqLimit ∷ unless (was_overflow_given g d.name h) (tells g h (notices.SeqOverflow d.name))) (send_acts g h d n (datagram d n v o))
+    either taken (nat_le q (sent g d.name h)) (acts.Drop g why.SeqLimit
+        ∷ unless (was_overflow_given g d.name h) (tells g h (notices.SeqOverflow d.name))) (send_acts g h d n (datagram d n v o))
     (unless-tells taken (was_overflow_given g d.name h) (tells g h (notices.SeqOverflow d.name)) (e, tt))
     (look-tells taken g (a ∷ h) (d ∷ []) e)
 
-action-tells : (taken : List ℕ → ℕ) (q : ℕ) (g o : List ℕ) (h : List Act) (v : Packet) (p : SpdEntry) (a : Action) → Takes taken g h → AllTell taken (let_by_action g q h o v p a)
+action-tells : (taken : List ℕ → ℕ) (q : ℕ) (g o : List ℕ) (h : List Act) (v : Packet) (p : SpdEntry) (a : Action) → Takes taken g h
+    → AllTell taken (let_by_action g q h o v p a)
 action-tells taken q g o h v p actions.Protect e = half-tells taken q g o h v p (newest p.reqid v (live g h)) e
 action-tells taken q g o h v p actions.Bypass e = tt
 action-tells taken q g o h v p actions.Discard e = tt
 
-entry-tells : (taken : List ℕ → ℕ) (q : ℕ) (g o : List ℕ) (h : List Act) (v : Packet) (p : Option SpdEntry) → Takes taken g h → AllTell taken (let_by_entry g q h o v p)
+entry-tells : (taken : List ℕ → ℕ) (q : ℕ) (g o : List ℕ) (h : List Act) (v : Packet) (p : Option SpdEntry) → Takes taken g h
+    → AllTell taken (let_by_entry g q h o v p)
 entry-tells taken q g o h v None e = tt
 entry-tells taken q g o h v (Some p) e = action-tells taken q g o h v p p.action e
 
-view-tells : (taken : List ℕ → ℕ) (q : ℕ) (g o : List ℕ) (h : List Act) (r : Result Packet NotPacket) → Takes taken g h → AllTell taken (let_by_view g q h o r)
+view-tells : (taken : List ℕ → ℕ) (q : ℕ) (g o : List ℕ) (h : List Act) (r : Result Packet NotPacket) → Takes taken g h
+    → AllTell taken (let_by_view g q h o r)
 view-tells taken q g o h (Err fault) e = tt
 view-tells taken q g o h (Ok v) e =
     either taken (nat_lt 65000 (length o)) (acts.Drop g why.TooLong ∷ []) (let_by_entry g q h o v (first_entry (force g h) Out v)) tt
@@ -149,34 +157,42 @@ answer-if : (b : Bool) (x y : Act) → IsAnswer x → IsAnswer y → IsAnswer (i
 answer-if true x y p q = p
 answer-if false x y p q = q
 
-inner-answer : (g : List ℕ) (d : SadEntry) (n next : ℕ) (p : List ℕ) (r : Result Packet NotPacket) → IsAnswer (arrive.by_inner g d n next p r)
+inner-answer : (g : List ℕ) (d : SadEntry) (n next : ℕ) (p : List ℕ) (r : Result Packet NotPacket)
+    → IsAnswer (arrive.by_inner g d n next p r)
 inner-answer g d n next p (Err fault) = tt
 inner-answer g d n next p (Ok v) =
-    answer-if (not (arrive.is_told_version next p)) (acts.Drop g why.Inner) (if holds_packet d.selector In v then acts.Gave g d.name n p else acts.Drop g why.Selector) tt
+    answer-if (not (arrive.is_told_version next p)) (acts.Drop g why.Inner) (if holds_packet d.selector In v then acts.Gave g d.name n p
+        else acts.Drop g why.Selector) tt
     (answer-if (holds_packet d.selector In v) (acts.Gave g d.name n p) (acts.Drop g why.Selector) tt tt)
 
 packet-answer : (g : List ℕ) (d : SadEntry) (n : ℕ) (p : Option esp.InnerPacket) → IsAnswer (arrive.by_packet g d n p)
 packet-answer g d n None = tt
 packet-answer g d n (Some p) =
-    answer-if (p.next == 59) (acts.Drop g why.Dummy) (arrive.by_inner g d n p.next p.octets (view_of p.octets)) tt (inner-answer g d n p.next p.octets (view_of p.octets))
+    answer-if (p.next == 59) (acts.Drop g why.Dummy) (arrive.by_inner g d n p.next p.octets (view_of p.octets)) tt
+        (inner-answer g d n p.next p.octets (view_of p.octets))
 
-use-tells : (taken : List ℕ → ℕ) (g : List ℕ) (h : List Act) (d : SadEntry) (a : Act) → IsAnswer a → Takes taken g h → AllTell taken (arrive.use_acts g h d a)
+use-tells : (taken : List ℕ → ℕ) (g : List ℕ) (h : List Act) (d : SadEntry) (a : Act) → IsAnswer a → Takes taken g h
+    → AllTell taken (arrive.use_acts g h d a)
 use-tells taken g h d (acts.Gave f x n p) i e = look-tells taken g (acts.Gave f x n p ∷ h) (d ∷ []) e
 use-tells taken g h d (acts.Pass f o) i e = look-tells taken g (acts.Pass f o ∷ h) (d ∷ []) e
 use-tells taken g h d (acts.Drop f w) i e = look-tells taken g (acts.Drop f w ∷ h) (d ∷ []) e
 use-tells taken g h d a i e = absurd i
 
-text-tells : (taken : List ℕ → ℕ) (g : List ℕ) (h : List Act) (d : SadEntry) (n : ℕ) (x : Option (List ℕ)) → Takes taken g h → AllTell taken (arrive.by_text g h d n x)
+text-tells : (taken : List ℕ → ℕ) (g : List ℕ) (h : List Act) (d : SadEntry) (n : ℕ) (x : Option (List ℕ)) → Takes taken g h
+    → AllTell taken (arrive.by_text g h d n x)
 text-tells taken g h d n None e = tt
-text-tells taken g h d n (Some x) e = use-tells taken g h d (arrive.by_packet g d n (esp.inner_packet x)) (packet-answer g d n (esp.inner_packet x)) e
+text-tells taken g h d n (Some x) e = use-tells taken g h d (arrive.by_packet g d n (esp.inner_packet x))
+    (packet-answer g d n (esp.inner_packet x)) e
 
-verdict-tells : (taken : List ℕ → ℕ) (g : List ℕ) (h : List Act) (b : List ℕ) (d : SadEntry) (n : ℕ) (v : Verdict) → Takes taken g h → AllTell taken (arrive.by_verdict g h b d n v)
+verdict-tells : (taken : List ℕ → ℕ) (g : List ℕ) (h : List Act) (b : List ℕ) (d : SadEntry) (n : ℕ) (v : Verdict) → Takes taken g h
+    → AllTell taken (arrive.by_verdict g h b d n v)
 verdict-tells taken g h b d n verdicts.Zero e = tt
 verdict-tells taken g h b d n verdicts.Old e = tt
 verdict-tells taken g h b d n verdicts.Seen e = tt
 verdict-tells taken g h b d n verdicts.Fresh e = text-tells taken g h d n (esp.opened (keying d.spi d.key) b) e
 
-found-tells : (taken : List ℕ → ℕ) (g : List ℕ) (h : List Act) (b : List ℕ) (found : Option SadEntry) → Takes taken g h → AllTell taken (arrive.arrive_by_half g h b found)
+found-tells : (taken : List ℕ → ℕ) (g : List ℕ) (h : List Act) (b : List ℕ) (found : Option SadEntry) → Takes taken g h
+    → AllTell taken (arrive.arrive_by_half g h b found)
 found-tells taken g h b None e = unless-tells taken (does_bad_spi_stand g (spi_of b) h) (tells g h (notices.BadSpi (spi_of b))) (e, tt)
 found-tells taken g h b (Some d) e =
     let n : ℕ = number_of d (numbers_taken g d.name h) b in
@@ -184,7 +200,8 @@ found-tells taken g h b (Some d) e =
 
 esp-tells : (taken : List ℕ → ℕ) (g : List ℕ) (h : List Act) (b : List ℕ) → Takes taken g h → AllTell taken (arrive.esp_acts g h b)
 esp-tells taken g h b e =
-    either taken (nat_lt (length b) 34) (arrive.drops g why.Short) (arrive.arrive_by_half g h b (by_spi (spi_of b) (live g h))) tt (found-tells taken g h b (by_spi (spi_of b) (live g h)) e)
+    either taken (nat_lt (length b) 34) (arrive.drops g why.Short) (arrive.arrive_by_half g h b (by_spi (spi_of b) (live g h))) tt
+        (found-tells taken g h b (by_spi (spi_of b) (live g h)) e)
 
 clear-action : (taken : List ℕ → ℕ) (g o : List ℕ) (a : Action) → AllTell taken (arrive.arrive_by_action g o a ∷ [])
 clear-action taken g o actions.Protect = tt
@@ -195,19 +212,23 @@ clear-tells : (taken : List ℕ → ℕ) (g o : List ℕ) (p : Option SpdEntry) 
 clear-tells taken g o None = tt
 clear-tells taken g o (Some p) = clear-action taken g o p.action
 
-arrival-tells : (taken : List ℕ → ℕ) (g : List ℕ) (own : Addr) (h : List Act) (o : List ℕ) (r : Result Packet NotPacket) → Takes taken g h → AllTell taken (arrive.arrive_by_view g own h o r)
+arrival-tells : (taken : List ℕ → ℕ) (g : List ℕ) (own : Addr) (h : List Act) (o : List ℕ) (r : Result Packet NotPacket) → Takes taken g h
+    → AllTell taken (arrive.arrive_by_view g own h o r)
 arrival-tells taken g own h o (Err fault) e = tt
 arrival-tells taken g own h o (Ok v) e =
-    either taken (arrive.is_sealed_for own v) (arrive.esp_acts g h v.payload) (arrive.arrive_by_entry g o (first_entry (force g h) In v) ∷ [])
+    either taken (arrive.is_sealed_for own v) (arrive.esp_acts g h v.payload) (arrive.arrive_by_entry g o (first_entry (force g h) In v)
+        ∷ [])
     (esp-tells taken g h v.payload e) (clear-tells taken g o (first_entry (force g h) In v))
 
-pub arrive-tells : (taken : List ℕ → ℕ) (g : List ℕ) (own : Addr) (h : List Act) (o : List ℕ) → Takes taken g h → AllTell taken (arrive.arrive_acts g own h o)
+pub arrive-tells : (taken : List ℕ → ℕ) (g : List ℕ) (own : Addr) (h : List Act) (o : List ℕ) → Takes taken g h
+    → AllTell taken (arrive.arrive_acts g own h o)
 unfolding arrive.arrive_acts
 arrive-tells taken g own h o e = arrival-tells taken g own h o (view_of o) e
 
 -- ---- a request
 
-pub handled-tells : (taken : List ℕ → ℕ) (g : List ℕ) (s k : ℕ) (r : Outcome) (a : Answer) (c : Change) → AllTell taken (change_acts g r c ++ acts.Handled g s k a ∷ [])
+pub handled-tells : (taken : List ℕ → ℕ) (g : List ℕ) (s k : ℕ) (r : Outcome) (a : Answer) (c : Change)
+    → AllTell taken (change_acts g r c ++ acts.Handled g s k a ∷ [])
 handled-tells taken g s k r a changes.Nothing = tt
 handled-tells taken g s k r a changes.Spd = tt
 handled-tells taken g s k r a (changes.Put e) = tt

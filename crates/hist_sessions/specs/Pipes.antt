@@ -8,7 +8,8 @@ use Rattle.session_pipe.specs.UnderWay.{UnderWay}
 use Rattle.session_pipe.specs.Past.{after_act, is_at}
 
 -- what the pipe is after further acts, which stand in their order after a past
-abbrev pub piped : (List Act → Order → List ℕ) → (List Act → Answer → List ℕ) → (List Act → Notice → List ℕ) → List ℕ → List Act → List Act → UnderWay → UnderWay
+abbrev pub piped : (List Act → Order → List ℕ) → (List Act → Answer → List ℕ) → (List Act → Notice → List ℕ) → List ℕ → List Act → List Act
+    → UnderWay → UnderWay
 piped request response line g h [] p = p
 piped request response line g h (a ∷ more) p =
     piped request response line g (a ∷ h) more (if is_at g a then after_act request response line a h p else p)

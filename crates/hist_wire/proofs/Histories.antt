@@ -23,14 +23,19 @@ use Rattle.hist_wire.specs.Histories.{AreBlocks, IsHistory, LastForged, NoneForg
 
 are-blocks : (header : Header) (p : Past) (es : List Event) → AreBlocks header p es (blocks (under_way header) header p es)
 are-blocks header p [] = tt
-are-blocks header p (e ∷ es) = (refl, by-forgery (is_forged_event header p e) refl (are-blocks header (past_after (under_way header) header p e) es)) where
-  by-forgery : (b : Bool) → is_forged_event header p e ≡ b → AreBlocks header (past_after (under_way header) header p e) es (blocks (under_way header) header (past_after (under_way header) header p e) es)
-      → ((is_forged_event header p e ≡ true) × (unless_last b (blocks (under_way header) header (past_after (under_way header) header p e) es) ≡ []))
-      ⊎ ((is_forged_event header p e ≡ false) × AreBlocks header (past_after (under_way header) header p e) es (unless_last b (blocks (under_way header) header (past_after (under_way header) header p e) es)))
+are-blocks header p (e ∷ es) =
+    (refl, by-forgery (is_forged_event header p e) refl (are-blocks header (past_after (under_way header) header p e) es)) where
+  by-forgery : (b : Bool) → is_forged_event header p e ≡ b → AreBlocks header (past_after (under_way header) header p e) es
+      (blocks (under_way header) header (past_after (under_way header) header p e) es)
+      → ((is_forged_event header p e ≡ true)
+          × (unless_last b (blocks (under_way header) header (past_after (under_way header) header p e) es) ≡ []))
+      ⊎ ((is_forged_event header p e ≡ false) × AreBlocks header (past_after (under_way header) header p e) es
+          (unless_last b (blocks (under_way header) header (past_after (under_way header) header p e) es)))
   by-forgery true f ih = inl (f, refl)
   by-forgery false f ih = inr (f, ih)
 
-only-blocks : (header : Header) (p : Past) (es : List Event) (bs : List (List Act)) → AreBlocks header p es bs → bs ≡ blocks (under_way header) header p es
+only-blocks : (header : Header) (p : Past) (es : List Event) (bs : List (List Act)) → AreBlocks header p es bs
+    → bs ≡ blocks (under_way header) header p es
 only-blocks header p [] [] a = refl
 only-blocks header p [] (b ∷ bs) a = absurd a
 only-blocks header p (e ∷ es) [] a = absurd a
@@ -39,19 +44,26 @@ only-blocks header p (e ∷ es) (b ∷ bs) a =
     let later = rest a.1 (only-blocks header (past_after (under_way header) header p e) es bs) in
     ap (λ (z : List Act). z ∷ bs) first ∙ ap (λ (z : List (List Act)). block (under_way header) header p e ∷ z) later
   where
-    rest : ((is_forged_event header p e ≡ true) × (bs ≡ [])) ⊎ ((is_forged_event header p e ≡ false) × AreBlocks header (past_after (under_way header) header p e) es bs)
-        → (AreBlocks header (past_after (under_way header) header p e) es bs → bs ≡ blocks (under_way header) header (past_after (under_way header) header p e) es)
+    rest : ((is_forged_event header p e ≡ true) × (bs ≡ []))
+        ⊎ ((is_forged_event header p e ≡ false) × AreBlocks header (past_after (under_way header) header p e) es bs)
+        → (AreBlocks header (past_after (under_way header) header p e) es bs
+            → bs ≡ blocks (under_way header) header (past_after (under_way header) header p e) es)
         → bs ≡ unless_last (is_forged_event header p e) (blocks (under_way header) header (past_after (under_way header) header p e) es)
-    rest (inl q) ih = q.1 ∙ ap (λ b. unless_last b (blocks (under_way header) header (past_after (under_way header) header p e) es)) (sym q.0)
-    rest (inr q) ih = ih q.1 ∙ ap (λ b. unless_last b (blocks (under_way header) header (past_after (under_way header) header p e) es)) (sym q.0)
+    rest (inl q) ih = q.1 ∙ ap (λ b. unless_last b (blocks (under_way header) header (past_after (under_way header) header p e) es))
+        (sym q.0)
+    rest (inr q) ih = ih q.1 ∙ ap (λ b. unless_last b (blocks (under_way header) header (past_after (under_way header) header p e) es))
+        (sym q.0)
 
 -- ---- histories
 
 pub history-is : (header : Header) (es : List Event) → IsHistory header es (history (under_way header) header nothing es)
-history-is header es = record { blocks = blocks (under_way header) header nothing es; each = are-blocks header nothing es; all = history-blocks (under_way header) header nothing es }
+history-is header es = record { blocks = blocks (under_way header) header nothing es; each = are-blocks header nothing es; all =
+    history-blocks (under_way header) header nothing es }
 
-pub only-history : (header : Header) (es : List Event) (h : List Act) → IsHistory header es h → h ≡ history (under_way header) header nothing es
-only-history header es h i = i.all ∙ ap joined (only-blocks header nothing es i.blocks i.each) ∙ sym (history-blocks (under_way header) header nothing es)
+pub only-history : (header : Header) (es : List Event) (h : List Act) → IsHistory header es h
+    → h ≡ history (under_way header) header nothing es
+only-history header es h i = i.all ∙ ap joined (only-blocks header nothing es i.blocks i.each)
+    ∙ sym (history-blocks (under_way header) header nothing es)
 
 pub one-history : (header : Header) (es : List Event) (h k : List Act) → IsHistory header es h → IsHistory header es k → h ≡ k
 one-history header es h k i j = only-history header es h i ∙ sym (only-history header es k j)
@@ -67,30 +79,40 @@ more-history header es e h i n =
     ∙ sym (history-more s header nothing es (e ∷ []) n) in
     subst (IsHistory header (es ++ e ∷ [])) (sym same) (history-is header (es ++ e ∷ []))
 
-pub front-history : (header : Header) (n : ℕ) (es : List Event) (h : List Act) (i : IsHistory header es h) → IsHistory header (take n es) (joined (take n i.blocks))
+pub front-history : (header : Header) (n : ℕ) (es : List Event) (h : List Act) (i : IsHistory header es h)
+    → IsHistory header (take n es) (joined (take n i.blocks))
 front-history header n es h i =
     let s : Shows = under_way header in
-    let same : take n i.blocks ≡ blocks s header nothing (take n es) = ap (take n) (only-blocks header nothing es i.blocks i.each) ∙ sym (blocks-take s header nothing n es) in
-    record { blocks = take n i.blocks; each = subst (AreBlocks header nothing (take n es)) (sym same) (are-blocks header nothing (take n es)); all = refl }
+    let same : take n i.blocks ≡ blocks s header nothing (take n es) = ap (take n) (only-blocks header nothing es i.blocks i.each)
+        ∙ sym (blocks-take s header nothing n es) in
+    record { blocks = take n i.blocks; each = subst (AreBlocks header nothing (take n es)) (sym same)
+        (are-blocks header nothing (take n es)); all = refl }
 
-pub block-count : (header : Header) (es : List Event) (h : List Act) (i : IsHistory header es h) → NoneForged header es → length i.blocks ≡ length es
-block-count header es h i n = ap length (only-blocks header nothing es i.blocks i.each) ∙ blocks-length (under_way header) header nothing es n
+pub block-count : (header : Header) (es : List Event) (h : List Act) (i : IsHistory header es h) → NoneForged header es
+    → length i.blocks ≡ length es
+block-count header es h i n = ap length (only-blocks header nothing es i.blocks i.each) ∙ blocks-length (under_way header) header nothing es
+    n
 
 -- ---- what is safe
 
-pub safe-history : (header : Header) (es : List Event) (h : List Act) → IsHeader header → AreEventsOf header es → IsHistory header es h → Safe header.gateways (after [] h)
+pub safe-history : (header : Header) (es : List Event) (h : List Act) → IsHeader header → AreEventsOf header es → IsHistory header es h
+    → Safe header.gateways (after [] h)
 safe-history header es h i k is =
     let s : Shows = under_way header in
     subst (λ (z : List Act). Safe header.gateways (after [] z)) (sym (only-history header es h is))
     (safe header.gateways (after [] (history s header nothing es)) (lawful-history s header nothing es i k (start header)))
 
-pub last-safe : (header : Header) (es : List Event) (h : List Act) → IsHeader header → AreEventsOf header es → IsHistory header es h → IsLastSafe header.gateways (after [] h)
+pub last-safe : (header : Header) (es : List Event) (h : List Act) → IsHeader header → AreEventsOf header es → IsHistory header es h
+    → IsLastSafe header.gateways (after [] h)
 last-safe header es h i k is =
-    subst (λ (z : List Act). IsLastSafe header.gateways (after [] z)) (sym (only-history header es h is)) (last-history (under_way header) header nothing es i k (start header))
+    subst (λ (z : List Act). IsLastSafe header.gateways (after [] z)) (sym (only-history header es h is))
+        (last-history (under_way header) header nothing es i k (start header))
 
-pub keeps-history : (header : Header) (es : List Event) (h : List Act) → IsHeader header → AreEventsOf header es → IsHistory header es h → KeepsSessions (after [] h)
+pub keeps-history : (header : Header) (es : List Event) (h : List Act) → IsHeader header → AreEventsOf header es → IsHistory header es h
+    → KeepsSessions (after [] h)
 keeps-history header es h i k is =
-    subst (λ (z : List Act). KeepsSessions (after [] z)) (sym (only-history header es h is)) (keep-history (under_way header) header nothing es i k (start header) tt)
+    subst (λ (z : List Act). KeepsSessions (after [] z)) (sym (only-history header es h is))
+        (keep-history (under_way header) header nothing es i k (start header) tt)
 
 -- ---- a forged arrival at the end
 

@@ -64,7 +64,8 @@ write-expire name soft l is h =
 write-event : (n : Notice) → HasGoodName n → IsTypedNotice n → IsWritable (event_data n)
 write-event (notices.Acquire policy s) is h = write-acquire policy s is h
 write-event (notices.Expire name soft l) is h = write-expire name soft l is h
-write-event (notices.SeqOverflow name) is h = write_only (codes "ipsec-sa-name") _ refl (write_text name (utf8_name name (half_octets name is)))
+write-event (notices.SeqOverflow name) is h =
+    write_only (codes "ipsec-sa-name") _ refl (write_text name (utf8_name name (half_octets name is)))
 write-event (notices.BadSpi spi) is h = write_only (codes "spi") _ refl (write_number spi (omega (arith, h)))
 
 name-ascii : (n : Notice) → are_ascii (event_name n) ≡ true

@@ -64,10 +64,12 @@ follower-silent a e = refl
 followers-silent : (xs : List Act) → are_followers xs ≡ true → are_silent xs ≡ true
 followers-silent [] e = refl
 followers-silent (a ∷ xs) e =
-    and_from (is_silent a) (are_silent xs) (follower-silent a (both-left (is_follower a) (are_followers xs) e)) (followers-silent xs (both-right (is_follower a) (are_followers xs) e))
+    and_from (is_silent a) (are_silent xs) (follower-silent a (both-left (is_follower a) (are_followers xs) e))
+        (followers-silent xs (both-right (is_follower a) (are_followers xs) e))
 
 shaped-silent : (ok : Act → Type 0) (xs : List Act) → ((a : Act) → ok a → is_silent a ≡ true) → Shaped ok xs → are_silent xs ≡ true
-shaped-silent ok xs f s = ap are_silent s.parts ∙ and_from (is_silent s.first) (are_silent s.rest) (f s.first s.fits) (followers-silent s.rest s.follow)
+shaped-silent ok xs f s = ap are_silent s.parts ∙ and_from (is_silent s.first) (are_silent s.rest) (f s.first s.fits)
+    (followers-silent s.rest s.follow)
 
 let-answer : (g : List ℕ) (a : Act) → LetAnswer g a → is_silent a ≡ true
 let-answer g (acts.Handled f s k a) e = absurd e
@@ -81,7 +83,8 @@ let-replies : (h : List Act) (o : List ℕ) (c : Option node.Gateway) → AllRep
 let-replies h o None = tt
 let-replies h o (Some c) =
     let w : List Act = acts.Let c.name o ∷ h in
-    (tt, silent w (let_acts c.name c.seq_last w o) (shaped-silent (LetAnswer c.name) (let_acts c.name c.seq_last w o) (let-answer c.name) (let-shape c.name o c.seq_last w)))
+    (tt, silent w (let_acts c.name c.seq_last w o) (shaped-silent (LetAnswer c.name) (let_acts c.name c.seq_last w o) (let-answer c.name)
+        (let-shape c.name o c.seq_last w)))
 
 arrive-replies : (h : List Act) (o : List ℕ) (c : Option node.Gateway) → AllReplies h (arrives_at h o c)
 arrive-replies h o None = tt
@@ -123,14 +126,17 @@ gateway-name : (header : Header) (g : List ℕ) (c : node.Gateway) → gateway_a
 gateway-name header g c e = name-case header g c (find (λ p. bytes_eq p.name g) header.gateways) e
 
 -- after the number of an event
-change-replies : (g : List ℕ) (s k n : ℕ) (o : Order) (h : List Act) → next_request g (acts.Took n ∷ h) ≡ Some o → (c : Change) → (reply (tree_of g (acts.Took n ∷ h)) (ask_of o)).change ≡ c
-    → AllReplies (acts.Took n ∷ h) (change_acts g (reply (tree_of g (acts.Took n ∷ h)) (ask_of o)) c ++ acts.Handled g s k (answer_of (reply (tree_of g (acts.Took n ∷ h)) (ask_of o))) ∷ [])
+change-replies : (g : List ℕ) (s k n : ℕ) (o : Order) (h : List Act) → next_request g (acts.Took n ∷ h) ≡ Some o → (c : Change)
+    → (reply (tree_of g (acts.Took n ∷ h)) (ask_of o)).change ≡ c
+    → AllReplies (acts.Took n ∷ h) (change_acts g (reply (tree_of g (acts.Took n ∷ h)) (ask_of o)) c
+        ++ acts.Handled g s k (answer_of (reply (tree_of g (acts.Took n ∷ h)) (ask_of o))) ∷ [])
 change-replies g s k n o h next changes.Nothing e = ((o, next, refl), tt)
 change-replies g s k n o h next changes.Spd e = (tt, ((o, next, refl), tt))
 change-replies g s k n o h next (changes.Put d) e = (tt, ((o, next, refl), tt))
 change-replies g s k n o h next (changes.Gone x) e = (tt, ((o, next, refl), tt))
 
-request-replies : (n : ℕ) (h : List Act) (o : Order) (c : Option node.Gateway) → ((d : node.Gateway) → c ≡ Some d → next_request d.name (acts.Took n ∷ h) ≡ Some o)
+request-replies : (n : ℕ) (h : List Act) (o : Order) (c : Option node.Gateway)
+    → ((d : node.Gateway) → c ≡ Some d → next_request d.name (acts.Took n ∷ h) ≡ Some o)
     → AllReplies (acts.Took n ∷ h) (at_gateway (acts.Took n ∷ h) (node.Handle (Ok (ask_of o))) c)
 request-replies n h o None next = tt
 request-replies n h o (Some c) next =
@@ -142,7 +148,8 @@ down-replies : (header : Header) (g : List ℕ) (n : ℕ) (h : List Act) (o : Op
     → AllReplies (acts.Took n ∷ h) (handles_at (acts.Took n ∷ h) (gateway_at header g) o)
 down-replies header g n h None e = tt
 down-replies header g n h (Some o) e =
-    request-replies n h o (gateway_at header g) (λ d at. ap (λ (z : List ℕ). next_request z (acts.Took n ∷ h)) (gateway-name header g d at) ∙ e)
+    request-replies n h o (gateway_at header g) (λ d at. ap (λ (z : List ℕ). next_request z (acts.Took n ∷ h)) (gateway-name header g d at)
+        ∙ e)
 
 -- ---- each event
 
@@ -152,18 +159,24 @@ alone h xs m = subst (AllReplies h) (sym (append-nil xs)) m
 told-replies : (header : Header) (p : Past) (xs : List ControllerAct) → AllReplies (took p.world) (all_told header.gateways xs)
 told-replies header p xs = silent (took p.world) (all_told header.gateways xs) (told-silent header.gateways xs)
 
-event-replies : (shows : Shows) (header : Header) (p : Past) (e : Event) → AllReplies (took p.world) (gateway_acts shows header (took p.world) e ++ all_told header.gateways (controller_acts header p e))
+event-replies : (shows : Shows) (header : Header) (p : Past) (e : Event)
+    → AllReplies (took p.world) (gateway_acts shows header (took p.world) e ++ all_told header.gateways (controller_acts header p e))
 event-replies shows header p (events.Let g o) = alone (took p.world) _ (let-replies (took p.world) o (gateway_at header g))
 event-replies shows header p (events.Arrive g o) = alone (took p.world) _ (arrive-replies (took p.world) o (gateway_at header g))
-event-replies shows header p (events.ArriveSent g m) = alone (took p.world) _ (arrive-replies (took p.world) (sent_at m (took p.world)) (gateway_at header g))
-event-replies shows header p (events.ArriveFlip g m offset bit) = alone (took p.world) _ (arrive-replies (took p.world) (flipped offset bit (sent_at m (took p.world))) (gateway_at header g))
-event-replies shows header p (events.ArriveTtl g m ttl) = alone (took p.world) _ (arrive-replies (took p.world) (with_ttl ttl (sent_at m (took p.world))) (gateway_at header g))
+event-replies shows header p (events.ArriveSent g m) =
+    alone (took p.world) _ (arrive-replies (took p.world) (sent_at m (took p.world)) (gateway_at header g))
+event-replies shows header p (events.ArriveFlip g m offset bit) =
+    alone (took p.world) _ (arrive-replies (took p.world) (flipped offset bit (sent_at m (took p.world))) (gateway_at header g))
+event-replies shows header p (events.ArriveTtl g m ttl) =
+    alone (took p.world) _ (arrive-replies (took p.world) (with_ttl ttl (sent_at m (took p.world))) (gateway_at header g))
 event-replies shows header p (events.Now t) =
     let w : List Act = took p.world in
     let a : Act = acts.Now (max t (clock w)) in
-    alone w (clock_block header w t) (tt, silent (a ∷ w) (raised header (a ∷ w) (nat_lt (clock w) t)) (raised-silent header (a ∷ w) (nat_lt (clock w) t)))
+    alone w (clock_block header w t) (tt, silent (a ∷ w) (raised header (a ∷ w) (nat_lt (clock w) t))
+        (raised-silent header (a ∷ w) (nat_lt (clock w) t)))
 event-replies shows header p (events.Boot g) = alone (took p.world) _ (silent (took p.world) _ (boot-silent g (gateway_at header g)))
-event-replies shows header p (events.Down g) = alone (took p.world) _ (down-replies header g (events_taken p.world + 1) p.world (next_request g (took p.world)) refl)
+event-replies shows header p (events.Down g) =
+    alone (took p.world) _ (down-replies header g (events_taken p.world + 1) p.world (next_request g (took p.world)) refl)
 event-replies shows header p (events.Wire g lane) = (tt, tt)
 event-replies shows header p (events.Open g) = told-replies header p (controller_acts header p (events.Open g))
 event-replies shows header p (events.Cut g) = told-replies header p (controller_acts header p (events.Cut g))
@@ -181,16 +194,21 @@ more-replied : (h xs : List Act) → AllReplied h → AllReplies h xs → AllRep
 more-replied h [] l m = l
 more-replied h (a ∷ xs) l m = more-replied (a ∷ h) xs (m.0, l) m.1
 
-pub block-replied : (shows : Shows) (header : Header) (p : Past) (e : Event) → AllReplied p.world → AllReplied (after p.world (block shows header p e))
+pub block-replied : (shows : Shows) (header : Header) (p : Past) (e : Event) → AllReplied p.world
+    → AllReplied (after p.world (block shows header p e))
 block-replied shows header p e l = more-replied p.world (block shows header p e) l (tt, event-replies shows header p e)
 
-pub history-replied : (shows : Shows) (header : Header) (p : Past) (es : List Event) → AllReplied p.world → AllReplied (after p.world (history shows header p es))
+pub history-replied : (shows : Shows) (header : Header) (p : Past) (es : List Event) → AllReplied p.world
+    → AllReplied (after p.world (history shows header p es))
 history-replied shows header p [] l = l
 history-replied shows header p (e ∷ es) l =
-    by-forgery (is_forged_event header p e) (history-replied shows header (past_after shows header p e) es (block-replied shows header p e l)) where
-      by-forgery : (b : Bool) → AllReplied (after (past_after shows header p e).world (history shows header (past_after shows header p e) es))
+    by-forgery (is_forged_event header p e) (history-replied shows header (past_after shows header p e) es
+        (block-replied shows header p e l)) where
+      by-forgery : (b : Bool)
+          → AllReplied (after (past_after shows header p e).world (history shows header (past_after shows header p e) es))
           → AllReplied (after p.world (block shows header p e ++ unless_forged b (history shows header (past_after shows header p e) es)))
-      by-forgery true ih = subst (λ (z : List Act). AllReplied (after p.world z)) (sym (append-nil (block shows header p e))) (block-replied shows header p e l)
+      by-forgery true ih = subst (λ (z : List Act). AllReplied (after p.world z)) (sym (append-nil (block shows header p e)))
+          (block-replied shows header p e l)
       by-forgery false ih =
           subst AllReplied (sym (after-append p.world (block shows header p e) (history shows header (past_after shows header p e) es))) ih
 

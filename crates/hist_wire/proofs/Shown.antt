@@ -28,7 +28,8 @@ unfolding address_text digits
 host-is = refl
 
 abbrev message : List ℕ → HttpMessage
-message host = record { method = codes "GET"; target = order_target asks.Read; status = 0; fields = fields_map (field (codes "Host") host ∷ []); body = [] }
+message host = record { method = codes "GET"; target = order_target asks.Read; status = 0; fields =
+    fields_map (field (codes "Host") host ∷ []); body = [] }
 
 text-is : request_text (message (codes "192.0.2.1")) ≡ request
 text-is = refl
@@ -43,7 +44,8 @@ down-is : under_way alone a lanes.Down at_request ≡ take 4096 (request_text (o
 down-is = refl
 
 shown-request : under_way alone a lanes.Down at_request ≡ request
-shown-request = down-is ∙ ap (λ (m : HttpMessage). take 4096 (request_text m ++ [])) (order-is ∙ ap message host-is) ∙ ap (λ (t : List ℕ). take 4096 (t ++ [])) text-is ∙ refl
+shown-request = down-is ∙ ap (λ (m : HttpMessage). take 4096 (request_text m ++ [])) (order-is ∙ ap message host-is)
+    ∙ ap (λ (t : List ℕ). take 4096 (t ++ [])) text-is ∙ refl
 
 -- ---- the response
 
@@ -72,7 +74,9 @@ unfolding reply
 up-is = refl
 
 shown-response : under_way alone a lanes.Up at_answer ≡ response
-shown-response = up-is ∙ ap (λ (r : Reply). take 4096 (response_text (reply_message r) ++ [])) body-is ∙ ap (λ (t : List ℕ). take 4096 (t ++ [])) written-is ∙ refl
+shown-response = up-is ∙ ap (λ (r : Reply). take 4096 (response_text (reply_message r) ++ [])) body-is
+    ∙ ap (λ (t : List ℕ). take 4096 (t ++ [])) written-is ∙ refl
 
-shown-none : under_way alone a lanes.Up (acts.Took 6 ∷ acts.Answered a 1 1 (plain 200) ∷ acts.Took 5 ∷ acts.Wire a lanes.Up response ∷ at_answer) ≡ []
+shown-none : under_way alone a lanes.Up (acts.Took 6 ∷ acts.Answered a 1 1 (plain 200) ∷ acts.Took 5 ∷ acts.Wire a lanes.Up response
+    ∷ at_answer) ≡ []
 shown-none = refl

@@ -68,7 +68,8 @@ view-version : (p : List ℕ) (v : Packet) → view_of p ≡ Ok v → ((version 
 unfolding view_of
 view-version p v e = versions p v (view_of_4 p) (view_of_6 p) (is_short p) (version p == 4) (version p == 6) e
 
-told : (n : ℕ) → ((n == 4) || (n == 6)) ≡ true → let m : ℕ = if n == 4 then 4 else 41 in (((m == 4) && (n == 4)) || ((m == 41) && (n == 6))) ≡ true
+told : (n : ℕ) → ((n == 4) || (n == 6)) ≡ true → let m : ℕ = if n == 4 then 4 else 41 in
+    (((m == 4) && (n == 4)) || ((m == 41) && (n == 6))) ≡ true
 told n e = grind (arith, e)
 
 next-is : (m n : ℕ) → (((m == 4) && (n == 4)) || ((m == 41) && (n == 6))) ≡ true → m ≡ (if n == 4 then 4 else 41)
@@ -85,8 +86,10 @@ record ToUs (gs : List Peer) (g o : List ℕ) (v : Packet) : Type 0 where
 pub esp-is : (o : List ℕ) (v : Packet) → view_of o ≡ Ok v → esp_of o ≡ v.payload
 esp-is o v e = ap payload_of e
 
-comes-to : (gs : List Peer) (g o : List ℕ) (h : List Act) (v : Packet) (e : SadEntry) → ToUs gs g o v → by_spi (spi_of v.payload) (live g h) ≡ Some e
-    → verdict_over e.window (numbers_taken g e.name h) (number_of e (numbers_taken g e.name h) v.payload) ≡ verdicts.Fresh → ComesTo gs g o e h
+comes-to : (gs : List Peer) (g o : List ℕ) (h : List Act) (v : Packet) (e : SadEntry) → ToUs gs g o v
+    → by_spi (spi_of v.payload) (live g h) ≡ Some e
+    → verdict_over e.window (numbers_taken g e.name h) (number_of e (numbers_taken g e.name h) v.payload) ≡ verdicts.Fresh
+        → ComesTo gs g o e h
 comes-to gs g o h v e t found fresh =
     let b = esp-is o v t.view in
     record {
@@ -98,14 +101,16 @@ comes-to gs g o h v e t found fresh =
       fresh = ap (λ (z : List ℕ). verdict_over e.window (numbers_taken g e.name h) (number_of e (numbers_taken g e.name h) z)) b ∙ fresh;
     }
 
-opens-at : (k : Keying) (b x : List ℕ) (found : Option (List ℕ)) → MatchOption found (esp.NoText k b) (EspOpens k b) → found ≡ Some x → EspOpens k b x
+opens-at : (k : Keying) (b x : List ℕ) (found : Option (List ℕ)) → MatchOption found (esp.NoText k b) (EspOpens k b) → found ≡ Some x
+    → EspOpens k b x
 opens-at k b x None m e = cc
 opens-at k b x (Some y) m e = let s : y ≡ x = grind (arith, e) in subst (EspOpens k b) s m
 
 opens-to : (k : Keying) (b x : List ℕ) → esp.opened k b ≡ Some x → EspOpens k b x
 opens-to k b x e = opens-at k b x (esp.opened k b) (opened_is k b) e
 
-inner-at : (x : List ℕ) (p : esp.InnerPacket) (found : Option esp.InnerPacket) → MatchOption found (NoInner x) (λ q. Inner x q.next q.octets) → found ≡ Some p → Inner x p.next p.octets
+inner-at : (x : List ℕ) (p : esp.InnerPacket) (found : Option esp.InnerPacket)
+    → MatchOption found (NoInner x) (λ q. Inner x q.next q.octets) → found ≡ Some p → Inner x p.next p.octets
 inner-at x p None m e = cc
 inner-at x p (Some q) m e = let s : q ≡ p = grind (arith, e) in subst (λ (z : esp.InnerPacket). Inner x z.next z.octets) s m
 
@@ -120,19 +125,26 @@ long b l = grind (arith, l)
 genuine-of : (f d s : Bool) → (f && (d && not s)) ≡ false → f ≡ true → d ≡ true → s ≡ true
 genuine-of f d s e p q = grind (arith, e, p, q)
 
-pub genuine : (gs : List Peer) (g o : List ℕ) (own : Addr) (h : List Act) → address_of gs g ≡ Some own → is_forged g own h o ≡ false → IsGenuine gs g o h
+pub genuine : (gs : List Peer) (g o : List ℕ) (own : Addr) (h : List Act) → address_of gs g ≡ Some own → is_forged g own h o ≡ false
+    → IsGenuine gs g o h
 genuine gs g o own h at no-forgery = λ half text c opens.
     let b = esp-is o c.packet c.view in
     let same : own ≡ c.packet.dst = let s : Some own ≡ Some c.packet.dst = sym at ∙ c.own in grind (arith, s) in
-    let ours : is_sealed_for own c.packet ≡ true = and_from (c.packet.proto == 50) (is_same_address c.packet.dst own) (grind (arith, c.proto)) (subst (λ (z : Addr). is_same_address z own ≡ true) same (own-address own)) in
-    let v1 : is_view_forged g own h (Ok c.packet) ≡ false = subst (λ (r : Result Packet NotPacket). is_view_forged g own h r ≡ false) c.view no-forgery in
+    let ours : is_sealed_for own c.packet ≡ true = and_from (c.packet.proto == 50) (is_same_address c.packet.dst own)
+        (grind (arith, c.proto)) (subst (λ (z : Addr). is_same_address z own ≡ true) same (own-address own)) in
+    let v1 : is_view_forged g own h (Ok c.packet) ≡ false = subst (λ (r : Result Packet NotPacket). is_view_forged g own h r ≡ false) c.view
+        no-forgery in
     let v2 : is_esp_forged g h c.packet.payload ≡ false = subst (λ (t : Bool). (t && is_esp_forged g h c.packet.payload) ≡ false) ours v1 in
     let v3 : is_esp_forged g h (esp_of o) ≡ false = subst (λ (z : List ℕ). is_esp_forged g h z ≡ false) (sym b) v2 in
     let v4 : is_half_forged g h (esp_of o) (by_spi (spi_of (esp_of o)) (live g h)) ≡ false =
-    subst (λ (t : Bool). (not t && is_half_forged g h (esp_of o) (by_spi (spi_of (esp_of o)) (live g h))) ≡ false) (long (esp_of o) opens.0) v3 in
-    let v5 : is_half_forged g h (esp_of o) (Some half) ≡ false = subst (λ (z : Option SadEntry). is_half_forged g h (esp_of o) z ≡ false) c.found v4 in
-    let fresh : is_fresh (verdict_over half.window (numbers_taken g half.name h) (number_of half (numbers_taken g half.name h) (esp_of o))) ≡ true = ap is_fresh c.fresh in
-    let opens_here : does_open (esp.opened (keying half.spi half.key) (esp_of o)) ≡ true = ap does_open (opened_finds (keying half.spi half.key) (esp_of o) text opens) in
+    subst (λ (t : Bool). (not t && is_half_forged g h (esp_of o) (by_spi (spi_of (esp_of o)) (live g h))) ≡ false) (long (esp_of o) opens.0)
+        v3 in
+    let v5 : is_half_forged g h (esp_of o) (Some half) ≡ false = subst (λ (z : Option SadEntry). is_half_forged g h (esp_of o) z ≡ false)
+        c.found v4 in
+    let fresh : is_fresh (verdict_over half.window (numbers_taken g half.name h) (number_of half (numbers_taken g half.name h) (esp_of o)))
+        ≡ true = ap is_fresh c.fresh in
+    let opens_here : does_open (esp.opened (keying half.spi half.key) (esp_of o)) ≡ true =
+        ap does_open (opened_finds (keying half.spi half.key) (esp_of o) text opens) in
     genuine-of (is_fresh (verdict_over half.window (numbers_taken g half.name h) (number_of half (numbers_taken g half.name h) (esp_of o))))
     (does_open (esp.opened (keying half.spi half.key) (esp_of o))) (is_sealed (other_half half.name) (esp_of o) h) v5 fresh opens_here
 
@@ -147,10 +159,12 @@ to-delivery gs c o x n p h at d =
     let e : SadEntry = d.half in
     record {
       view = d.comes.view;
-      own = and_from (v.proto == 50) (is_same_address v.dst c.address) (grind (arith, d.comes.proto)) (subst (λ (z : Addr). is_same_address z c.address ≡ true) same (own-address c.address));
+      own = and_from (v.proto == 50) (is_same_address v.dst c.address) (grind (arith, d.comes.proto))
+          (subst (λ (z : Addr). is_same_address z c.address ≡ true) same (own-address c.address));
       whole = subst (λ (z : List ℕ). nat_lt (length z) 34 ≡ false) b (long (esp_of o) d.opens.0);
       spi = ap (λ (z : List ℕ). by_spi (spi_of z) (live c.name h)) (sym b) ∙ d.comes.found;
-      fresh = ap (λ (z : List ℕ). verdict_over e.window (numbers_taken c.name e.name h) (number_of e (numbers_taken c.name e.name h) z)) (sym b) ∙ d.comes.fresh;
+      fresh = ap (λ (z : List ℕ). verdict_over e.window (numbers_taken c.name e.name h) (number_of e (numbers_taken c.name e.name h) z))
+          (sym b) ∙ d.comes.fresh;
       opened = ap (λ (z : List ℕ). esp.opened (keying e.spi e.key) z) (sym b) ∙ opened_finds (keying e.spi e.key) (esp_of o) d.text d.opens;
       packet = packet_finds d.text p (next_header p) d.inner;
       inner_view = d.view;
@@ -169,7 +183,8 @@ dst-is : (v : Packet) (own : Addr) → is_sealed_for own v ≡ true → own ≡ 
 dst-is v own e = sym (same-address v.dst own (both-right (v.proto == 50) (is_same_address v.dst own) e))
 
 -- an arrival that opens comes to a half
-opens-comes : (gs : List Peer) (c : Gateway) (o : List ℕ) (h : List Act) → address_of gs c.name ≡ Some c.address → (a : OpensArrival c (acts.Arrived c.name o ∷ h) c.name)
+opens-comes : (gs : List Peer) (c : Gateway) (o : List ℕ) (h : List Act) → address_of gs c.name ≡ Some c.address
+    → (a : OpensArrival c (acts.Arrived c.name o ∷ h) c.name)
     → ComesTo gs c.name o a.half h × EspOpens (keying_of a.half) (esp_of o) a.text
 opens-comes gs c o h at a =
     let s = same-arrival c.name c.name o a.octets h a.older a.before in
@@ -210,10 +225,12 @@ ArriveAnswer g (acts.Pass f o) = f ≡ g
 ArriveAnswer g (acts.Drop f w) = f ≡ g
 ArriveAnswer g _ = ⊥
 
-inner-answer : (g : List ℕ) (e : SadEntry) (n next : ℕ) (p : List ℕ) (r : Result Packet NotPacket) → ArriveAnswer g (by_inner g e n next p r)
+inner-answer : (g : List ℕ) (e : SadEntry) (n next : ℕ) (p : List ℕ) (r : Result Packet NotPacket)
+    → ArriveAnswer g (by_inner g e n next p r)
 inner-answer g e n next p (Err fault) = refl
 inner-answer g e n next p (Ok v) = told-answer (is_told_version next p) (holds_packet e.selector In v) where
-  told-answer : (t b : Bool) → ArriveAnswer g (if not t then acts.Drop g why.Inner else if b then acts.Gave g e.name n p else acts.Drop g why.Selector)
+  told-answer : (t b : Bool) → ArriveAnswer g (if not t then acts.Drop g why.Inner else if b then acts.Gave g e.name n p
+      else acts.Drop g why.Selector)
   told-answer true true = refl
   told-answer true false = refl
   told-answer false b = refl
@@ -221,7 +238,8 @@ inner-answer g e n next p (Ok v) = told-answer (is_told_version next p) (holds_p
 packet-answer : (g : List ℕ) (e : SadEntry) (n : ℕ) (found : Option esp.InnerPacket) → ArriveAnswer g (by_packet g e n found)
 packet-answer g e n None = refl
 packet-answer g e n (Some p) = dummy-answer (p.next == 59) (inner-answer g e n p.next p.octets (view_of p.octets)) where
-  dummy-answer : (b : Bool) → ArriveAnswer g (by_inner g e n p.next p.octets (view_of p.octets)) → ArriveAnswer g (if b then acts.Drop g why.Dummy else by_inner g e n p.next p.octets (view_of p.octets))
+  dummy-answer : (b : Bool) → ArriveAnswer g (by_inner g e n p.next p.octets (view_of p.octets))
+      → ArriveAnswer g (if b then acts.Drop g why.Dummy else by_inner g e n p.next p.octets (view_of p.octets))
   dummy-answer true a = refl
   dummy-answer false a = a
 
@@ -231,7 +249,8 @@ text-shape g h e n (Some x) =
     let a : Act = by_packet g e n (esp.inner_packet x) in
     shaped (ArriveAnswer g) a (look g (a ∷ h) (e ∷ [])) (packet-answer g e n (esp.inner_packet x)) (look-follows g (a ∷ h) (e ∷ []))
 
-verdict-shape : (g : List ℕ) (h : List Act) (b : List ℕ) (e : SadEntry) (n : ℕ) (v : Verdict) → Shaped (ArriveAnswer g) (by_verdict g h b e n v)
+verdict-shape : (g : List ℕ) (h : List Act) (b : List ℕ) (e : SadEntry) (n : ℕ) (v : Verdict)
+    → Shaped (ArriveAnswer g) (by_verdict g h b e n v)
 verdict-shape g h b e n verdicts.Zero = shaped (ArriveAnswer g) (acts.Drop g why.Zero) [] refl refl
 verdict-shape g h b e n verdicts.Old = shaped (ArriveAnswer g) (acts.Drop g why.Old) [] refl refl
 verdict-shape g h b e n verdicts.Seen = shaped (ArriveAnswer g) (acts.Drop g why.Seen) [] refl refl
@@ -240,7 +259,8 @@ verdict-shape g h b e n verdicts.Fresh = text-shape g h e n (esp.opened (keying 
 half-shape : (g : List ℕ) (h : List Act) (b : List ℕ) (found : Option SadEntry) → Shaped (ArriveAnswer g) (arrive_by_half g h b found)
 half-shape g h b None =
     let told : List Act = tells g h (notices.BadSpi (spi_of b)) in
-    shaped (ArriveAnswer g) (acts.Drop g why.BadSpi) (unless (does_bad_spi_stand g (spi_of b) h) told) refl (unless-follows (does_bad_spi_stand g (spi_of b) h) told refl)
+    shaped (ArriveAnswer g) (acts.Drop g why.BadSpi) (unless (does_bad_spi_stand g (spi_of b) h) told) refl
+        (unless-follows (does_bad_spi_stand g (spi_of b) h) told refl)
 half-shape g h b (Some e) =
     let n : ℕ = number_of e (numbers_taken g e.name h) b in
     verdict-shape g h b e n (verdict_over e.window (numbers_taken g e.name h) n)
@@ -259,11 +279,13 @@ entry-shape : (g o : List ℕ) (found : Option SpdEntry) → ArriveAnswer g (arr
 entry-shape g o None = refl
 entry-shape g o (Some p) = action-shape g o p.action
 
-view-shape : (g : List ℕ) (own : Addr) (h : List Act) (o : List ℕ) (r : Result Packet NotPacket) → Shaped (ArriveAnswer g) (arrive_by_view g own h o r)
+view-shape : (g : List ℕ) (own : Addr) (h : List Act) (o : List ℕ) (r : Result Packet NotPacket)
+    → Shaped (ArriveAnswer g) (arrive_by_view g own h o r)
 view-shape g own h o (Err fault) = shaped (ArriveAnswer g) (acts.Drop g (fault_why fault)) [] refl refl
 view-shape g own h o (Ok v) =
     shaped-if (ArriveAnswer g) (is_sealed_for own v) (esp_acts g h v.payload) (arrive_by_entry g o (first_entry (force g h) In v) ∷ [])
-    (esp-shape g h v.payload) (shaped (ArriveAnswer g) (arrive_by_entry g o (first_entry (force g h) In v)) [] (entry-shape g o (first_entry (force g h) In v)) refl)
+    (esp-shape g h v.payload) (shaped (ArriveAnswer g) (arrive_by_entry g o (first_entry (force g h) In v)) []
+        (entry-shape g o (first_entry (force g h) In v)) refl)
 
 pub arrive-shape : (g : List ℕ) (own : Addr) (h : List Act) (o : List ℕ) → Shaped (ArriveAnswer g) (arrive_acts g own h o)
 unfolding arrive_acts
@@ -278,14 +300,17 @@ rest-is : (a b : Act) (xs ys : List Act) → a ∷ xs ≡ b ∷ ys → xs ≡ ys
 rest-is a b xs ys e = grind (arith, e)
 
 -- what has a packet is given
-given-first : (gs : List Peer) (c : Gateway) (o x : List ℕ) (n : ℕ) (p : List ℕ) (h : List Act) (a : Act) (rest : List Act) → address_of gs c.name ≡ Some c.address
-    → arrive_acts c.name c.address (acts.Arrived c.name o ∷ h) o ≡ a ∷ rest → Delivers gs c.name o x n p h → (m : ℕ) × (y : List ℕ) × (a ≡ acts.Gave c.name y m p)
+given-first : (gs : List Peer) (c : Gateway) (o x : List ℕ) (n : ℕ) (p : List ℕ) (h : List Act) (a : Act) (rest : List Act)
+    → address_of gs c.name ≡ Some c.address
+    → arrive_acts c.name c.address (acts.Arrived c.name o ∷ h) o ≡ a ∷ rest → Delivers gs c.name o x n p h → (m : ℕ) × (y : List ℕ)
+        × (a ≡ acts.Gave c.name y m p)
 given-first gs c o x n p h a rest at parts d =
     let e : SadEntry = d.half in
     let m : ℕ = number_of e (numbers_taken c.name e.name h) d.comes.packet.payload in
     let g : Act = acts.Gave c.name e.name m p in
     let w = delivers-is c h o d.comes.packet d.packet e d.text p (next_header p) (to-delivery gs c o x n p h at d) in
-    let after_it = rest-is (acts.Arrived c.name o) (acts.Arrived c.name o) (arrive_acts c.name c.address (acts.Arrived c.name o ∷ h) o) (use_acts c.name (acts.Arrived c.name o ∷ h) e g) w in
+    let after_it = rest-is (acts.Arrived c.name o) (acts.Arrived c.name o) (arrive_acts c.name c.address (acts.Arrived c.name o ∷ h) o)
+        (use_acts c.name (acts.Arrived c.name o ∷ h) e g) w in
     (m, e.name, first-is a g rest (look c.name (g ∷ acts.Arrived c.name o ∷ h) (e ∷ [])) (sym parts ∙ after_it))
 
 drop-not : (f g x : List ℕ) (w : DropWhy) (n : ℕ) (p : List ℕ) → acts.Drop f w ≡ acts.Gave g x n p → ⊥
@@ -294,28 +319,36 @@ drop-not f g x w n p e = grind (arith, e)
 pass-not : (f o g x : List ℕ) (n : ℕ) (p : List ℕ) → acts.Pass f o ≡ acts.Gave g x n p → ⊥
 pass-not f o g x n p e = grind (arith, e)
 
-opened-drop : (gs : List Peer) (c : Gateway) (o : List ℕ) (h : List Act) (b : Bool) → address_of gs c.name ≡ Some c.address → GatewayMayDrop c (acts.Arrived c.name o ∷ h) c.name b → b ≡ true → IsOpened gs c.name o h
+opened-drop : (gs : List Peer) (c : Gateway) (o : List ℕ) (h : List Act) (b : Bool) → address_of gs c.name ≡ Some c.address
+    → GatewayMayDrop c (acts.Arrived c.name o ∷ h) c.name b → b ≡ true → IsOpened gs c.name o h
 opened-drop gs c o h true at m e = let q = opens-comes gs c o h at m in (m.half, m.text, q.0, q.1)
 opened-drop gs c o h false at m e = absurd (no e)
 
-answer-may : (gs : List Peer) (c : Gateway) (o : List ℕ) (h : List Act) (a : Act) (rest : List Act) → address_of gs c.name ≡ Some c.address → IsGenuine gs c.name o h
-    → arrive_acts c.name c.address (acts.Arrived c.name o ∷ h) o ≡ a ∷ rest → ArriveAnswer c.name a → GatewayMayAct c (acts.Arrived c.name o ∷ h) a
+answer-may : (gs : List Peer) (c : Gateway) (o : List ℕ) (h : List Act) (a : Act) (rest : List Act) → address_of gs c.name ≡ Some c.address
+    → IsGenuine gs c.name o h
+    → arrive_acts c.name c.address (acts.Arrived c.name o ∷ h) o ≡ a ∷ rest → ArriveAnswer c.name a
+        → GatewayMayAct c (acts.Arrived c.name o ∷ h) a
     → MayHappen gs a (acts.Arrived c.name o ∷ h) × (is_ready (a ∷ acts.Arrived c.name o ∷ h) ≡ true)
 answer-may gs c o h (acts.Gave f x n p) rest at real parts fits m =
-    let m2 : IsOpenedArrival c (acts.Arrived c.name o ∷ h) c.name x n p = subst (λ (z : List ℕ). IsOpenedArrival c (acts.Arrived c.name o ∷ h) z x n p) fits m in
+    let m2 : IsOpenedArrival c (acts.Arrived c.name o ∷ h) c.name x n p =
+        subst (λ (z : List ℕ). IsOpenedArrival c (acts.Arrived c.name o ∷ h) z x n p) fits m in
     let P : List ℕ → Type 0 = λ z. (c.name ≡ z) × IsGenuine gs z o h × Delivers gs z o x n p h in
     (subst P (sym fits) (refl, real, gives gs c o x n p h at m2), refl)
 answer-may gs c o h (acts.Pass f q) rest at real parts fits m =
     let P : List ℕ → Type 0 = λ z. (c.name ≡ z) × IsGenuine gs z o h × IsUndelivered gs z o h in
-    (subst P (sym fits) (refl, real, λ x n p d. let g = given-first gs c o x n p h (acts.Pass f q) rest at parts d in pass-not f q c.name g.1 g.0 p g.2), refl)
+    (subst P (sym fits) (refl, real, λ x n p d. let g = given-first gs c o x n p h (acts.Pass f q) rest at parts d in
+        pass-not f q c.name g.1 g.0 p g.2), refl)
 answer-may gs c o h (acts.Drop f w) rest at real parts fits m =
-    let m2 : GatewayMayDrop c (acts.Arrived c.name o ∷ h) c.name (is_opened w) = subst (λ (z : List ℕ). GatewayMayDrop c (acts.Arrived c.name o ∷ h) z (is_opened w)) fits m in
+    let m2 : GatewayMayDrop c (acts.Arrived c.name o ∷ h) c.name (is_opened w) =
+        subst (λ (z : List ℕ). GatewayMayDrop c (acts.Arrived c.name o ∷ h) z (is_opened w)) fits m in
     let P : List ℕ → Type 0 = λ z. (c.name ≡ z) × IsGenuine gs z o h × IsUndelivered gs z o h × (is_opened w ≡ true → IsOpened gs z o h) in
-    (subst P (sym fits) (refl, real, (λ x n p d. let g = given-first gs c o x n p h (acts.Drop f w) rest at parts d in drop-not f c.name g.1 w g.0 p g.2), opened-drop gs c o h (is_opened w) at m2), refl)
+    (subst P (sym fits) (refl, real, (λ x n p d. let g = given-first gs c o x n p h (acts.Drop f w) rest at parts d in
+        drop-not f c.name g.1 w g.0 p g.2), opened-drop gs c o h (is_opened w) at m2), refl)
 answer-may gs c o h a rest at real parts fits m = absurd fits
 
 -- the answer to a datagram that isn't forged, and what follows it
-pub arrive-may : (gs : List Peer) (c : Gateway) (o : List ℕ) (h : List Act) → address_of gs c.name ≡ Some c.address → IsGenuine gs c.name o h
+pub arrive-may : (gs : List Peer) (c : Gateway) (o : List ℕ) (h : List Act) → address_of gs c.name ≡ Some c.address
+    → IsGenuine gs c.name o h
     → GatewayMayActAll c (acts.Arrived c.name o ∷ h) (arrive_acts c.name c.address (acts.Arrived c.name o ∷ h) o)
     → AllMayHappen gs (acts.Arrived c.name o ∷ h) (arrive_acts c.name c.address (acts.Arrived c.name o ∷ h) o)
     × (is_ready (after (acts.Arrived c.name o ∷ h) (arrive_acts c.name c.address (acts.Arrived c.name o ∷ h) o)) ≡ true)

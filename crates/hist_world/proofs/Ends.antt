@@ -41,17 +41,23 @@ sent-not true false d s e = ap (λ z. false) e
 sent-not false f d s e = ap (λ z. false) e
 
 -- what must be given was sent, so it is not forged
-not-forged : (gs : List Peer) (g o t p : List ℕ) (half : SadEntry) (own : Addr) (h : List Act) → IsLawful gs h → MustGive gs g o t p half h → is_forged g own h o ≡ false
+not-forged : (gs : List Peer) (g o t p : List ℕ) (half : SadEntry) (own : Addr) (h : List Act) → IsLawful gs h → MustGive gs g o t p half h
+    → is_forged g own h o ≡ false
 not-forged gs g o t p half own h l m =
     let d = delivered gs g o t p half h l m in
     let sealed = last-genuine gs g o t p half h l m d.half d.text d.comes d.opens in
     let b = esp-is o d.comes.packet d.comes.view in
     let e : SadEntry = d.half in
-    let v5 : is_half_forged g h (esp_of o) (Some e) ≡ false = sent-not true (is_fresh (verdict_over e.window (numbers_taken g e.name h) (number_of e (numbers_taken g e.name h) (esp_of o)))) (does_open (opened (keying e.spi e.key) (esp_of o))) (is_sealed (other_half e.name) (esp_of o) h) sealed in
-    let v4 : is_half_forged g h (esp_of o) (by_spi (spi_of (esp_of o)) (live g h)) ≡ false = subst (λ (z : Option SadEntry). is_half_forged g h (esp_of o) z ≡ false) (sym d.comes.found) v5 in
-    let v3 : is_esp_forged g h (esp_of o) ≡ false = and_right (not (nat_lt (length (esp_of o)) 34)) (is_half_forged g h (esp_of o) (by_spi (spi_of (esp_of o)) (live g h))) v4 in
+    let v5 : is_half_forged g h (esp_of o) (Some e) ≡ false =
+        sent-not true (is_fresh (verdict_over e.window (numbers_taken g e.name h) (number_of e (numbers_taken g e.name h) (esp_of o))))
+        (does_open (opened (keying e.spi e.key) (esp_of o))) (is_sealed (other_half e.name) (esp_of o) h) sealed in
+    let v4 : is_half_forged g h (esp_of o) (by_spi (spi_of (esp_of o)) (live g h)) ≡ false =
+        subst (λ (z : Option SadEntry). is_half_forged g h (esp_of o) z ≡ false) (sym d.comes.found) v5 in
+    let v3 : is_esp_forged g h (esp_of o) ≡ false =
+        and_right (not (nat_lt (length (esp_of o)) 34)) (is_half_forged g h (esp_of o) (by_spi (spi_of (esp_of o)) (live g h))) v4 in
     let v2 : is_esp_forged g h d.comes.packet.payload ≡ false = subst (λ (z : List ℕ). is_esp_forged g h z ≡ false) b v3 in
-    let v1 : is_view_forged g own h (Ok d.comes.packet) ≡ false = and_right (is_sealed_for own d.comes.packet) (is_esp_forged g h d.comes.packet.payload) v2 in
+    let v1 : is_view_forged g own h (Ok d.comes.packet) ≡ false =
+        and_right (is_sealed_for own d.comes.packet) (is_esp_forged g h d.comes.packet.payload) v2 in
     subst (λ (r : Result Packet NotPacket). is_view_forged g own h r ≡ false) (sym d.comes.view) v1
 
 -- where no question is open, none is at the end
@@ -60,32 +66,46 @@ ready-last gs [] r = tt
 ready-last gs (acts.Arrived g o ∷ h) r = absurd (no r)
 ready-last gs (a ∷ h) r = tt
 
-forged-case : (gs : List Peer) (w : List Act) (o : List ℕ) (c : node.Gateway) (b : Bool) → is_forged c.name c.address w o ≡ b → b ≡ true → IsLawful gs w → IsLastSafe gs (after w (if b then acts.Arrived c.name o ∷ [] else node.gw_block c w (node.Arrive o)))
+forged-case : (gs : List Peer) (w : List Act) (o : List ℕ) (c : node.Gateway) (b : Bool) → is_forged c.name c.address w o ≡ b → b ≡ true
+    → IsLawful gs w → IsLastSafe gs (after w (if b then acts.Arrived c.name o ∷ [] else node.gw_block c w (node.Arrive o)))
 forged-case gs w o c true e f l = λ t p half m. no (sym (not-forged gs c.name o t p half c.address w l m) ∙ e)
 forged-case gs w o c false e f l = absurd (no f)
 
-forged-last : (gs : List Peer) (w : List Act) (o : List ℕ) (c : Option node.Gateway) → is_forgery w o c ≡ true → IsLawful gs w → IsLastSafe gs (after w (arrives_at w o c))
+forged-last : (gs : List Peer) (w : List Act) (o : List ℕ) (c : Option node.Gateway) → is_forgery w o c ≡ true → IsLawful gs w
+    → IsLastSafe gs (after w (arrives_at w o c))
 forged-last gs w o None e l = absurd (no e)
 forged-last gs w o (Some c) e l = forged-case gs w o c (is_forged c.name c.address w o) refl e l
 
-forged-end : (header : Header) (p : Past) (o : List ℕ) (c : Option node.Gateway) → is_forgery (took p.world) o c ≡ true → Stands header p → IsLastSafe header.gateways (after p.world (acts.Took (events_taken p.world + 1) ∷ (arrives_at (took p.world) o c ++ [])))
-forged-end header p o c e s = subst (λ z. IsLastSafe header.gateways (after (took p.world) z)) (sym (append-nil (arrives_at (took p.world) o c))) (forged-last header.gateways (took p.world) o c e (s.ready, s.lawful))
+forged-end : (header : Header) (p : Past) (o : List ℕ) (c : Option node.Gateway) → is_forgery (took p.world) o c ≡ true → Stands header p
+    → IsLastSafe header.gateways (after p.world (acts.Took (events_taken p.world + 1) ∷ (arrives_at (took p.world) o c ++ [])))
+forged-end header p o c e s = subst (λ z. IsLastSafe header.gateways (after (took p.world) z))
+    (sym (append-nil (arrives_at (took p.world) o c))) (forged-last header.gateways (took p.world) o c e (s.ready, s.lawful))
 
-forged-block : (shows : Shows) (header : Header) (p : Past) (e : Event) → Stands header p → is_forged_event header p e ≡ true → IsLastSafe header.gateways (after p.world (block shows header p e))
+forged-block : (shows : Shows) (header : Header) (p : Past) (e : Event) → Stands header p → is_forged_event header p e ≡ true
+    → IsLastSafe header.gateways (after p.world (block shows header p e))
 forged-block shows header p (events.Arrive g o) s f = forged-end header p o (gateway_at header g) f s
 forged-block shows header p (events.ArriveSent g m) s f = forged-end header p (sent_at m (took p.world)) (gateway_at header g) f s
-forged-block shows header p (events.ArriveFlip g m offset bit) s f = forged-end header p (flipped offset bit (sent_at m (took p.world))) (gateway_at header g) f s
-forged-block shows header p (events.ArriveTtl g m ttl) s f = forged-end header p (with_ttl ttl (sent_at m (took p.world))) (gateway_at header g) f s
+forged-block shows header p (events.ArriveFlip g m offset bit) s f = forged-end header p (flipped offset bit (sent_at m (took p.world)))
+    (gateway_at header g) f s
+forged-block shows header p (events.ArriveTtl g m ttl) s f = forged-end header p (with_ttl ttl (sent_at m (took p.world)))
+    (gateway_at header g) f s
 forged-block shows header p e s f = absurd (no f)
 
-pub last-history : (shows : Shows) (header : Header) (p : Past) (es : List Event) → IsHeader header → AreEventsOf header es → Stands header p
+pub last-history : (shows : Shows) (header : Header) (p : Past) (es : List Event) → IsHeader header → AreEventsOf header es
+    → Stands header p
     → IsLastSafe header.gateways (after p.world (history shows header p es))
 last-history shows header p [] i k s = ready-last header.gateways p.world s.ready
-last-history shows header p (e ∷ es) i k s = last-case (is_forged_event header p e) refl (λ t. last-history shows header (past_after shows header p e) es i k.1 t) where
+last-history shows header p (e ∷ es) i k s =
+    last-case (is_forged_event header p e) refl (λ t. last-history shows header (past_after shows header p e) es i k.1 t) where
   last-case : (b : Bool) → is_forged_event header p e ≡ b
-      → (Stands header (past_after shows header p e) → IsLastSafe header.gateways (after (past_after shows header p e).world (history shows header (past_after shows header p e) es)))
-      → IsLastSafe header.gateways (after p.world (block shows header p e ++ unless_forged b (history shows header (past_after shows header p e) es)))
+      → (Stands header (past_after shows header p e)
+          → IsLastSafe header.gateways (after (past_after shows header p e).world (history shows header (past_after shows header p e) es)))
+      → IsLastSafe header.gateways
+          (after p.world (block shows header p e ++ unless_forged b (history shows header (past_after shows header p e) es)))
   last-case true f ih =
-      subst (λ z. IsLastSafe header.gateways (after p.world z)) (sym (append-nil (block shows header p e))) (forged-block shows header p e s f)
+      subst (λ z. IsLastSafe header.gateways (after p.world z)) (sym (append-nil (block shows header p e)))
+          (forged-block shows header p e s f)
   last-case false f ih =
-      subst (IsLastSafe header.gateways) (sym (after-append p.world (block shows header p e) (history shows header (past_after shows header p e) es))) (ih (step shows header p e i k.0 s f).stands)
+      subst (IsLastSafe header.gateways)
+          (sym (after-append p.world (block shows header p e) (history shows header (past_after shows header p e) es)))
+          (ih (step shows header p e i k.0 s f).stands)

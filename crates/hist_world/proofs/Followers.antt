@@ -28,12 +28,14 @@ is_follower _ = false
 abbrev pub are_followers : List Act → Bool
 are_followers xs = list_all is_follower xs
 
-hard-may : (gs : List Peer) (f x : List ℕ) (w : GoneWhy) (h : List Act) → is_ready h ≡ true → is_hard w ≡ true → MayHappen gs (acts.Gone f x w) h × (is_ready (acts.Gone f x w ∷ h) ≡ true)
+hard-may : (gs : List Peer) (f x : List ℕ) (w : GoneWhy) (h : List Act) → is_ready h ≡ true → is_hard w ≡ true
+    → MayHappen gs (acts.Gone f x w) h × (is_ready (acts.Gone f x w ∷ h) ≡ true)
 hard-may gs f x gone.Removed h r p = absurd (no p)
 hard-may gs f x gone.Hard h r p = (r, refl)
 
 -- they may happen, and leave no question
-pub follow : (gs : List Peer) (h xs : List Act) → is_ready h ≡ true → are_followers xs ≡ true → AllMayHappen gs h xs × (is_ready (after h xs) ≡ true)
+pub follow : (gs : List Peer) (h xs : List Act) → is_ready h ≡ true → are_followers xs ≡ true → AllMayHappen gs h xs
+    × (is_ready (after h xs) ≡ true)
 follow gs h [] r p = (tt, r)
 follow gs h (acts.Gone f x w ∷ xs) r p =
     let a = hard-may gs f x w h r (both-left (is_hard w) (are_followers xs) p) in
@@ -44,7 +46,8 @@ follow gs h (a ∷ xs) r p = absurd (no p)
 
 pub joined : (xs ys : List Act) → are_followers xs ≡ true → are_followers ys ≡ true → are_followers (xs ++ ys) ≡ true
 joined [] ys p q = q
-joined (a ∷ xs) ys p q = and_from (is_follower a) (are_followers (xs ++ ys)) (both-left (is_follower a) (are_followers xs) p) (joined xs ys (both-right (is_follower a) (are_followers xs) p) q)
+joined (a ∷ xs) ys p q = and_from (is_follower a) (are_followers (xs ++ ys)) (both-left (is_follower a) (are_followers xs) p)
+    (joined xs ys (both-right (is_follower a) (are_followers xs) p) q)
 
 pub either : (b : Bool) (xs ys : List Act) → are_followers xs ≡ true → are_followers ys ≡ true → are_followers (if b then xs else ys) ≡ true
 either true xs ys p q = p
@@ -61,13 +64,15 @@ given-follows g s (n ∷ ns) = given-follows g s ns
 goings-follow : (g : List ℕ) (h : List Act) (es : List SadEntry) → are_followers (goings g h es) ≡ true
 goings-follow g h [] = refl
 goings-follow g h (e ∷ es) =
-    either (is_reached e.hard (counts g e.name h)) (acts.Gone g e.name gone.Hard ∷ goings g h es) (goings g h es) (goings-follow g h es) (goings-follow g h es)
+    either (is_reached e.hard (counts g e.name h)) (acts.Gone g e.name gone.Hard ∷ goings g h es) (goings g h es) (goings-follow g h es)
+        (goings-follow g h es)
 
 expiries-follow : (g : List ℕ) (h : List Act) (es : List SadEntry) → are_followers (expiries g h es) ≡ true
 expiries-follow g h [] = refl
 expiries-follow g h (e ∷ es) =
     let ns : List Notice = expiry e.name (counts g e.name h) (event_of g h e) in
-    joined (given_by g (sessions.session_taken g h) ns) (expiries g h es) (given-follows g (sessions.session_taken g h) ns) (expiries-follow g h es)
+    joined (given_by g (sessions.session_taken g h) ns) (expiries g h es) (given-follows g (sessions.session_taken g h) ns)
+        (expiries-follow g h es)
 
 pub look-follows : (g : List ℕ) (h : List Act) (es : List SadEntry) → are_followers (look g h es) ≡ true
 look-follows g h es = joined (goings g h es) (expiries g h es) (goings-follow g h es) (expiries-follow g h es)

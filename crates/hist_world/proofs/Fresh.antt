@@ -29,7 +29,8 @@ use Rattle.hist_safety.proofs.Sessions.{next-is}
 
 -- ---- the name
 
-pub name-free : (gs : List Peer) (g f : List ℕ) (e : SadEntry) (h : List Act) → IsLawful gs h → is_ready h ≡ true → next_request f h ≡ Some (asks.Put e) → is_live g e.name h ≡ false
+pub name-free : (gs : List Peer) (g f : List ℕ) (e : SadEntry) (h : List Act) → IsLawful gs h → is_ready h ≡ true
+    → next_request f h ≡ Some (asks.Put e) → is_live g e.name h ≡ false
 name-free gs g f e h l r n = false_from_ne_true (is_live g e.name h) (λ q. no (sym (put-once gs g f e h l r n) ∙ live-was g e.name h q))
 
 -- ---- the SPI
@@ -46,7 +47,8 @@ spi-row g h spi (d ∷ es) q =
     (λ b. let t = spi-row g h spi es b in (t.0, inr t.1, t.2, t.3)) q
 
 -- two inbound halves with one SPI have one name, and that of the put is free
-spi-not : (gs : List Peer) (g : List ℕ) (e : SadEntry) (h : List Act) → IsLawful gs h → is_ready h ≡ true → next_request g h ≡ Some (asks.Put e) → is_inbound e.name ≡ true
+spi-not : (gs : List Peer) (g : List ℕ) (e : SadEntry) (h : List Act) → IsLawful gs h → is_ready h ≡ true
+    → next_request g h ≡ Some (asks.Put e) → is_inbound e.name ≡ true
     → IsTaken e.spi (live g h) → ⊥
 spi-not gs g e h l r n b t =
     let st = stands gs g t.0 h l t.1 in
@@ -60,7 +62,8 @@ spi-not gs g e h l r n b t =
     let name : t.0.name ≡ e.name = u.1 ∙ ap in_half same ∙ sym v.1 in
     no (sym (put-once gs g g e h l r n) ∙ put-was g e.name t.0 h (subst (λ (z : List ℕ). put_of g z h ≡ Some t.0) name st.0))
 
-pub spi-free : (gs : List Peer) (g : List ℕ) (e : SadEntry) (h : List Act) → IsLawful gs h → is_ready h ≡ true → next_request g h ≡ Some (asks.Put e)
+pub spi-free : (gs : List Peer) (g : List ℕ) (e : SadEntry) (h : List Act) → IsLawful gs h → is_ready h ≡ true
+    → next_request g h ≡ Some (asks.Put e)
     → (is_inbound e.name && has_spi e.spi (tree_of g h).sad) ≡ false
 spi-free gs g e h l r n =
     false_from_ne_true (is_inbound e.name && has_spi e.spi (tree_of g h).sad) (λ q.

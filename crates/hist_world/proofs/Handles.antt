@@ -42,7 +42,8 @@ plus-if false n p q = q
 idle : (gs : List Peer) (g : List ℕ) (h : List Act) → IsLawful gs h → handled g 0 h ≡ 0
 idle gs g [] l = refl
 idle gs g (acts.Handled f t k a ∷ h) l =
-    let some : t ≡ 0 → ⊥ = λ z. no-request (session_taken f h) (order_at f (session_taken f h) (handled f (session_taken f h) h + 1) h) l.0.2.0 (sym l.0.0 ∙ z) l.0.2.1 in
+    let some : t ≡ 0 → ⊥ = λ z. no-request (session_taken f h) (order_at f (session_taken f h) (handled f (session_taken f h) h + 1) h)
+        l.0.2.0 (sym l.0.0 ∙ z) l.0.2.1 in
     plus-if (is_session f t g 0) (handled g 0 h) (idle-not (bytes_eq f g) (t == 0) (λ e. some (eq-nat t 0 e))) (idle gs g h l.1)
 idle gs g (a ∷ h) l = idle gs g h l.1
 
@@ -67,7 +68,8 @@ row-is-live g x h = rows-have g x h (live g h) ∙ live-is g x h
 abbrev pub Goes : List Peer → List Act → List Act → Type 0
 Goes gs w xs = AllMayHappen gs w xs × (is_ready (after w xs) ≡ true)
 
-goes-if : (gs : List Peer) (w : List Act) (b : Bool) (F : Outcome → List Act) (x y : Outcome) → (b ≡ true → Goes gs w (F x)) → (b ≡ false → Goes gs w (F y)) → Goes gs w (F (if b then x else y))
+goes-if : (gs : List Peer) (w : List Act) (b : Bool) (F : Outcome → List Act) (x y : Outcome) → (b ≡ true → Goes gs w (F x))
+    → (b ≡ false → Goes gs w (F y)) → Goes gs w (F (if b then x else y))
 goes-if gs w true F x y p q = p refl
 goes-if gs w false F x y p q = q refl
 
@@ -77,11 +79,13 @@ record IsHandled (g : List ℕ) (s k : ℕ) (o : Order) (w : List Act) : Type 0 
   pub number : k ≡ handled g s w + 1
   pub request : next_request g w ≡ Some o
 
-put-refused : (gs : List Peer) (g : List ℕ) (s k n : ℕ) (e : SadEntry) (t : Tree) (h : List Act) (r : Outcome) → IsHandled g s k (asks.Put e) (acts.Took n ∷ h) → 400 ≤ r.status
+put-refused : (gs : List Peer) (g : List ℕ) (s k n : ℕ) (e : SadEntry) (t : Tree) (h : List Act) (r : Outcome)
+    → IsHandled g s k (asks.Put e) (acts.Took n ∷ h) → 400 ≤ r.status
     → Goes gs (acts.Took n ∷ h) (acts.Handled g s k (answer_of r) ∷ [])
 put-refused gs g s k n e t h r i low = (((i.session, i.number, (asks.Put e, i.request, (refl, low))), tt), refl)
 
-put-goes : (gs : List Peer) (g : List ℕ) (s k n : ℕ) (e : SadEntry) (t : Tree) (h : List Act) → IsHandled g s k (asks.Put e) (acts.Took n ∷ h)
+put-goes : (gs : List Peer) (g : List ℕ) (s k n : ℕ) (e : SadEntry) (t : Tree) (h : List Act)
+    → IsHandled g s k (asks.Put e) (acts.Took n ∷ h)
     → Goes gs (acts.Took n ∷ h) (reply_acts g s k (post_sad t e))
 put-goes gs g s k n e t h i =
     let w : List Act = acts.Took n ∷ h in
@@ -106,13 +110,16 @@ handle-goes : (gs : List Peer) (g : List ℕ) (s k n : ℕ) (o : Order) (h : Lis
     → Goes gs (acts.Took n ∷ h) (reply_acts g s k (reply (tree_of g (acts.Took n ∷ h)) (ask_of o)))
 unfolding reply
 handle-goes gs g s k n asks.Read h i = (((i.session, i.number, (asks.Read, i.request, (refl, tt))), tt), refl)
-handle-goes gs g s k n (asks.Policy list) h i = (((refl, i.request), ((i.session, i.number, (asks.Policy list, i.request, refl)), tt)), refl)
+handle-goes gs g s k n (asks.Policy list) h i =
+    (((refl, i.request), ((i.session, i.number, (asks.Policy list, i.request, refl)), tt)), refl)
 handle-goes gs g s k n (asks.Put e) h i = put-goes gs g s k n e (tree_of g (acts.Took n ∷ h)) h i
 handle-goes gs g s k n (asks.Remove x) h i = remove-goes gs g s k n x h i
 
 -- the answer to the next request
-pub handle-may : (gs : List Peer) (g : List ℕ) (n : ℕ) (o : Order) (h : List Act) → IsLawful gs (acts.Took n ∷ h) → next_request g (acts.Took n ∷ h) ≡ Some o
-    → Goes gs (acts.Took n ∷ h) (handle_acts g (session_taken g (acts.Took n ∷ h)) (requests g (acts.Took n ∷ h) + 1) (acts.Took n ∷ h) (Ok (ask_of o)))
+pub handle-may : (gs : List Peer) (g : List ℕ) (n : ℕ) (o : Order) (h : List Act) → IsLawful gs (acts.Took n ∷ h)
+    → next_request g (acts.Took n ∷ h) ≡ Some o
+    → Goes gs (acts.Took n ∷ h) (handle_acts g (session_taken g (acts.Took n ∷ h)) (requests g (acts.Took n ∷ h) + 1) (acts.Took n ∷ h)
+        (Ok (ask_of o)))
 handle-may gs g n o h l next =
     let w : List Act = acts.Took n ∷ h in
     let m : requests g w + 1 ≡ handled g (session_taken g w) w + 1 = ap (λ (z : ℕ). z + 1) (requests-are g w (numbered gs g w l)) in

@@ -51,11 +51,13 @@ live-ends gs g e h l p = let o = put-order gs g e.name e h l p in ends gs e.name
 abbrev IsNewest : ℕ → Packet → List SadEntry → SadEntry → Type 0
 IsNewest r v es e = IsOneOf e es × (may_seal r v e ≡ true)
 
-newest-last : (r : ℕ) (v : Packet) (d e : SadEntry) (es : List SadEntry) (b : Bool) → may_seal r v d ≡ b → (if b then Some d else None) ≡ Some e → IsNewest r v (d ∷ es) e
+newest-last : (r : ℕ) (v : Packet) (d e : SadEntry) (es : List SadEntry) (b : Bool) → may_seal r v d ≡ b
+    → (if b then Some d else None) ≡ Some e → IsNewest r v (d ∷ es) e
 newest-last r v d e es true q p = let s = some-is d e p in (inl s, subst (λ (z : SadEntry). may_seal r v z ≡ true) s q)
 newest-last r v d e es false q p = cc
 
-newest-case : (r : ℕ) (v : Packet) (d e : SadEntry) (es : List SadEntry) (found : Option SadEntry) → (found ≡ Some e → IsNewest r v es e) → newer r v d found ≡ Some e → IsNewest r v (d ∷ es) e
+newest-case : (r : ℕ) (v : Packet) (d e : SadEntry) (es : List SadEntry) (found : Option SadEntry) → (found ≡ Some e → IsNewest r v es e)
+    → newer r v d found ≡ Some e → IsNewest r v (d ∷ es) e
 newest-case r v d e es (Some x) ih p = let t = ih p in (inr t.0, t.1)
 newest-case r v d e es None ih p = newest-last r v d e es (may_seal r v d) refl p
 
@@ -65,7 +67,8 @@ newest-is r v (d ∷ es) e p = newest-case r v d e es (newest r v es) (newest-is
 
 -- ---- the datagram that is sent
 
-pub datagram-esp : (e : SadEntry) (n : ℕ) (v : Packet) (o : List ℕ) → OneFamily e → esp_of (datagram e n v o) ≡ esp (keying_of e) n (next_header o) o
+pub datagram-esp : (e : SadEntry) (n : ℕ) (v : Packet) (o : List ℕ) → OneFamily e
+    → esp_of (datagram e n v o) ≡ esp (keying_of e) n (next_header o) o
 unfolding datagram outer_header
 datagram-esp e n v o family =
     let b : List ℕ = esp (keying e.spi e.key) n (next_header o) o in
@@ -129,31 +132,39 @@ pub shaped-if : (ok : Act → Type 0) (b : Bool) (xs ys : List Act) → Shaped o
 shaped-if ok true xs ys p q = p
 shaped-if ok false xs ys p q = q
 
-let-half : (g o : List ℕ) (q : ℕ) (h : List Act) (v : Packet) (p : SpdEntry) (found : Option SadEntry) → Shaped (LetAnswer g) (let_by_half g q h o v p found)
+let-half : (g o : List ℕ) (q : ℕ) (h : List Act) (v : Packet) (p : SpdEntry) (found : Option SadEntry)
+    → Shaped (LetAnswer g) (let_by_half g q h o v p found)
 let-half g o q h v p None =
     let told : List Act = tells g h (notices.Acquire p.name (flow_of v)) in
-    shaped (LetAnswer g) (acts.Drop g why.NoSa) (unless (does_acquire_stand g p.name h) told) refl (unless-follows (does_acquire_stand g p.name h) told refl)
+    shaped (LetAnswer g) (acts.Drop g why.NoSa) (unless (does_acquire_stand g p.name h) told) refl
+        (unless-follows (does_acquire_stand g p.name h) told refl)
 let-half g o q h v p (Some e) =
     let told : List Act = tells g h (notices.SeqOverflow e.name) in
     let n : ℕ = sent g e.name h + 1 in
     let d : List ℕ = datagram e n v o in
-    shaped-if (LetAnswer g) (nat_le q (sent g e.name h)) (acts.Drop g why.SeqLimit ∷ unless (was_overflow_given g e.name h) told) (send_acts g h e n d)
-    (shaped (LetAnswer g) (acts.Drop g why.SeqLimit) (unless (was_overflow_given g e.name h) told) refl (unless-follows (was_overflow_given g e.name h) told refl))
-    (shaped (LetAnswer g) (acts.Sent g e.name n d) (look g (acts.Sent g e.name n d ∷ h) (e ∷ [])) refl (look-follows g (acts.Sent g e.name n d ∷ h) (e ∷ [])))
+    shaped-if (LetAnswer g) (nat_le q (sent g e.name h)) (acts.Drop g why.SeqLimit ∷ unless (was_overflow_given g e.name h) told)
+        (send_acts g h e n d)
+    (shaped (LetAnswer g) (acts.Drop g why.SeqLimit) (unless (was_overflow_given g e.name h) told) refl
+        (unless-follows (was_overflow_given g e.name h) told refl))
+    (shaped (LetAnswer g) (acts.Sent g e.name n d) (look g (acts.Sent g e.name n d ∷ h) (e ∷ [])) refl
+        (look-follows g (acts.Sent g e.name n d ∷ h) (e ∷ [])))
 
-let-action : (g o : List ℕ) (q : ℕ) (h : List Act) (v : Packet) (p : SpdEntry) (a : Action) → Shaped (LetAnswer g) (let_by_action g q h o v p a)
+let-action : (g o : List ℕ) (q : ℕ) (h : List Act) (v : Packet) (p : SpdEntry) (a : Action)
+    → Shaped (LetAnswer g) (let_by_action g q h o v p a)
 let-action g o q h v p actions.Protect = let-half g o q h v p (newest p.reqid v (live g h))
 let-action g o q h v p actions.Bypass = shaped (LetAnswer g) (acts.Clear g o) [] refl refl
 let-action g o q h v p actions.Discard = shaped (LetAnswer g) (acts.Drop g why.Discard) [] refl refl
 
-let-entry : (g o : List ℕ) (q : ℕ) (h : List Act) (v : Packet) (found : Option SpdEntry) → Shaped (LetAnswer g) (let_by_entry g q h o v found)
+let-entry : (g o : List ℕ) (q : ℕ) (h : List Act) (v : Packet) (found : Option SpdEntry)
+    → Shaped (LetAnswer g) (let_by_entry g q h o v found)
 let-entry g o q h v None = shaped (LetAnswer g) (acts.Drop g why.NoPolicy) [] refl refl
 let-entry g o q h v (Some p) = let-action g o q h v p p.action
 
 let-view : (g o : List ℕ) (q : ℕ) (h : List Act) (r : Result Packet NotPacket) → Shaped (LetAnswer g) (let_by_view g q h o r)
 let-view g o q h (Err fault) = shaped (LetAnswer g) (acts.Drop g (fault_why fault)) [] refl refl
 let-view g o q h (Ok v) =
-    shaped-if (LetAnswer g) (nat_lt 65000 (length o)) (acts.Drop g why.TooLong ∷ []) (let_by_entry g q h o v (first_entry (force g h) Out v))
+    shaped-if (LetAnswer g) (nat_lt 65000 (length o)) (acts.Drop g why.TooLong ∷ [])
+        (let_by_entry g q h o v (first_entry (force g h) Out v))
     (shaped (LetAnswer g) (acts.Drop g why.TooLong) [] refl refl) (let-entry g o q h v (first_entry (force g h) Out v))
 
 pub let-shape : (g o : List ℕ) (q : ℕ) (h : List Act) → Shaped (LetAnswer g) (let_acts g q h o)
@@ -164,7 +175,8 @@ clear-may : (h : List Act) (f o : List ℕ) → IsLetOut h f o → ClearIsLet h 
 clear-may h f o s = record {
   older = s.let_before.older;
   let_before = s.let_before.before;
-  bypass = record { packet = s.packet; entry = s.entry; view = s.let_before.view; first = s.let_before.first; action = s.let_before.action };
+  bypass = record { packet = s.packet; entry = s.entry; view = s.let_before.view; first = s.let_before.first; action =
+      s.let_before.action };
 }
 
 answer-may : (gs : List Peer) (c : Gateway) (g o : List ℕ) (h : List Act) (a : Act) → IsLawful gs h → c.seq_last < 2 ^ 32
@@ -179,7 +191,8 @@ answer-may gs c g o h a l low fits m = absurd fits
 -- the answer to a packet and what follows it
 pub let-may : (gs : List Peer) (c : Gateway) (g o : List ℕ) (h : List Act) → IsLawful gs h → c.seq_last < 2 ^ 32
     → GatewayMayActAll c (acts.Let g o ∷ h) (let_acts g c.seq_last (acts.Let g o ∷ h) o)
-    → AllMayHappen gs (acts.Let g o ∷ h) (let_acts g c.seq_last (acts.Let g o ∷ h) o) × (is_ready (after (acts.Let g o ∷ h) (let_acts g c.seq_last (acts.Let g o ∷ h) o)) ≡ true)
+    → AllMayHappen gs (acts.Let g o ∷ h) (let_acts g c.seq_last (acts.Let g o ∷ h) o)
+        × (is_ready (after (acts.Let g o ∷ h) (let_acts g c.seq_last (acts.Let g o ∷ h) o)) ≡ true)
 let-may gs c g o h l low all =
     let w : List Act = acts.Let g o ∷ h in
     let s = let-shape g o c.seq_last w in

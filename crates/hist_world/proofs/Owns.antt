@@ -52,7 +52,8 @@ follower-own a e = absurd (no e)
 
 pub followers-own : (xs : List Act) → are_followers xs ≡ true → are_own xs ≡ true
 followers-own [] e = refl
-followers-own (a ∷ xs) e = and_from (is_own a) (are_own xs) (follower-own a (both-left (is_follower a) (are_followers xs) e)) (followers-own xs (both-right (is_follower a) (are_followers xs) e))
+followers-own (a ∷ xs) e = and_from (is_own a) (are_own xs) (follower-own a (both-left (is_follower a) (are_followers xs) e))
+    (followers-own xs (both-right (is_follower a) (are_followers xs) e))
 
 let-own : (g : List ℕ) (a : Act) → LetAnswer g a → is_own a ≡ true
 let-own g (acts.Clear f o) e = refl
@@ -75,7 +76,8 @@ lets-own g o q h = shaped-own (LetAnswer g) (let_acts g q h o) (let-own g) (let-
 pub arrivals-own : (g : List ℕ) (own : Addr) (h : List Act) (o : List ℕ) → are_own (arrive_acts g own h o) ≡ true
 arrivals-own g own h o = shaped-own (ArriveAnswer g) (arrive_acts g own h o) (arrive-own g) (arrive-shape g own h o)
 
-pub changes-own : (g : List ℕ) (s k : ℕ) (r : Outcome) (a : Answer) (c : Change) → are_own (change_acts g r c ++ acts.Handled g s k a ∷ []) ≡ true
+pub changes-own : (g : List ℕ) (s k : ℕ) (r : Outcome) (a : Answer) (c : Change) → are_own (change_acts g r c ++ acts.Handled g s k a ∷ [])
+    ≡ true
 changes-own g s k r a changes.Nothing = refl
 changes-own g s k r a changes.Spd = refl
 changes-own g s k r a (changes.Put e) = refl

@@ -50,14 +50,17 @@ record IsGateway (header : Header) (g : List ℕ) (c : node.Gateway) : Type 0 wh
   pub address : address_of header.gateways g ≡ Some c.address
   pub numbers : c.seq_last ≡ header.seq_last
 
-gateway-case : (header : Header) (g : List ℕ) (c : node.Gateway) (p : Option Peer) → with_peer header g p ≡ Some c → (c.name ≡ g) × (address_in p ≡ Some c.address) × (c.seq_last ≡ header.seq_last)
+gateway-case : (header : Header) (g : List ℕ) (c : node.Gateway) (p : Option Peer) → with_peer header g p ≡ Some c → (c.name ≡ g)
+    × (address_in p ≡ Some c.address) × (c.seq_last ≡ header.seq_last)
 gateway-case header g c None e = cc
 gateway-case header g c (Some p) e =
     let w : record { name = g; address = p.address; seq_last = header.seq_last } ≡ c = some-is _ c e in
-    (sym (ap (λ (z : node.Gateway). z.name) w), ap Some (ap (λ (z : node.Gateway). z.address) w), sym (ap (λ (z : node.Gateway). z.seq_last) w))
+    (sym (ap (λ (z : node.Gateway). z.name) w), ap Some (ap (λ (z : node.Gateway). z.address) w), sym
+        (ap (λ (z : node.Gateway). z.seq_last) w))
 
 gateway-is : (header : Header) (g : List ℕ) (c : node.Gateway) → gateway_at header g ≡ Some c → IsGateway header g c
-gateway-is header g c e = let q = gateway-case header g c (find (λ p. bytes_eq p.name g) header.gateways) e in record { name = q.0; address = q.1; numbers = q.2 }
+gateway-is header g c e = let q = gateway-case header g c (find (λ p. bytes_eq p.name g) header.gateways) e in
+    record { name = q.0; address = q.1; numbers = q.2 }
 
 -- ---- acts of gateways
 
@@ -70,7 +73,8 @@ record Fits (gs : List Peer) (w xs : List Act) : Type 0 where
 none-fits : (gs : List Peer) (w : List Act) → is_ready w ≡ true → Fits gs w []
 none-fits gs w r = record { may = tt; ready = r; own = refl }
 
-let-fits : (header : Header) (g o : List ℕ) (w : List Act) (c : Option node.Gateway) → gateway_at header g ≡ c → IsHeader header → IsLawful header.gateways w → is_ready w ≡ true
+let-fits : (header : Header) (g o : List ℕ) (w : List Act) (c : Option node.Gateway) → gateway_at header g ≡ c → IsHeader header
+    → IsLawful header.gateways w → is_ready w ≡ true
     → Fits header.gateways w (at_gateway w (node.Let o) c)
 let-fits header g o w None e i l r = none-fits header.gateways w r
 let-fits header g o w (Some c) e i l r =
@@ -79,21 +83,24 @@ let-fits header g o w (Some c) e i l r =
     let m = let-may header.gateways c c.name o w l low (may-let c c.name o w) in
     record { may = (r, m.0); ready = m.1; own = lets-own c.name o c.seq_last (acts.Let c.name o ∷ w) }
 
-arrive-case : (gs : List Peer) (c : node.Gateway) (o : List ℕ) (w : List Act) (b : Bool) → is_forged c.name c.address w o ≡ b → b ≡ false → address_of gs c.name ≡ Some c.address → is_ready w ≡ true
+arrive-case : (gs : List Peer) (c : node.Gateway) (o : List ℕ) (w : List Act) (b : Bool) → is_forged c.name c.address w o ≡ b → b ≡ false
+    → address_of gs c.name ≡ Some c.address → is_ready w ≡ true
     → Fits gs w (if b then acts.Arrived c.name o ∷ [] else node.gw_block c w (node.Arrive o))
 arrive-case gs c o w true e n at r = absurd (no (sym n))
 arrive-case gs c o w false e n at r =
     let m = arrive-may gs c o w at (genuine gs c.name o c.address w at e) (may-arrive c c.name o w) in
     record { may = (r, m.0); ready = m.1; own = arrivals-own c.name c.address (acts.Arrived c.name o ∷ w) o }
 
-arrive-fits : (header : Header) (g o : List ℕ) (w : List Act) (c : Option node.Gateway) → gateway_at header g ≡ c → is_forgery w o c ≡ false → is_ready w ≡ true
+arrive-fits : (header : Header) (g o : List ℕ) (w : List Act) (c : Option node.Gateway) → gateway_at header g ≡ c → is_forgery w o c ≡ false
+    → is_ready w ≡ true
     → Fits header.gateways w (arrives_at w o c)
 arrive-fits header g o w None e n r = none-fits header.gateways w r
 arrive-fits header g o w (Some c) e n r =
     let is = gateway-is header g c e in
     arrive-case header.gateways c o w (is_forged c.name c.address w o) refl n (ap (address_of header.gateways) is.name ∙ is.address) r
 
-request-fits : (header : Header) (g : List ℕ) (n : ℕ) (o : Order) (h : List Act) (c : Option node.Gateway) → gateway_at header g ≡ c → IsLawful header.gateways (acts.Took n ∷ h) → next_request g (acts.Took n ∷ h) ≡ Some o
+request-fits : (header : Header) (g : List ℕ) (n : ℕ) (o : Order) (h : List Act) (c : Option node.Gateway) → gateway_at header g ≡ c
+    → IsLawful header.gateways (acts.Took n ∷ h) → next_request g (acts.Took n ∷ h) ≡ Some o
     → Fits header.gateways (acts.Took n ∷ h) (at_gateway (acts.Took n ∷ h) (node.Handle (Ok (ask_of o))) c)
 request-fits header g n o h None e l next = none-fits header.gateways (acts.Took n ∷ h) refl
 request-fits header g n o h (Some c) e l next =
@@ -104,7 +111,8 @@ request-fits header g n o h (Some c) e l next =
     let r = reply (tree_of c.name w) (ask_of o) in
     record { may = m.0; ready = m.1; own = changes-own c.name (session_taken c.name w) (requests c.name w + 1) r (answer_of r) r.change }
 
-handle-fits : (header : Header) (g : List ℕ) (n : ℕ) (h : List Act) (o : Option Order) → IsLawful header.gateways (acts.Took n ∷ h) → next_request g (acts.Took n ∷ h) ≡ o
+handle-fits : (header : Header) (g : List ℕ) (n : ℕ) (h : List Act) (o : Option Order) → IsLawful header.gateways (acts.Took n ∷ h)
+    → next_request g (acts.Took n ∷ h) ≡ o
     → Fits header.gateways (acts.Took n ∷ h) (handles_at (acts.Took n ∷ h) (gateway_at header g) o)
 handle-fits header g n h None l e = none-fits header.gateways (acts.Took n ∷ h) refl
 handle-fits header g n h (Some o) l e = request-fits header g n o h (gateway_at header g) refl l e
@@ -135,12 +143,14 @@ pub record Step (header : Header) (p : Past) (xs : List Act) (cs : List controll
 took-meet : (header : Header) (p : Past) → Stands header p → Meet header.gateways (took p.world) p.controller
 took-meet header p s = record { part = s.meet.part; past = s.meet.past; fit = s.meet.fit }
 
-of-gateways : (header : Header) (p : Past) (xs : List Act) → Stands header p → Fits header.gateways (took p.world) xs → Step header p (acts.Took (events_taken p.world + 1) ∷ (xs ++ [])) []
+of-gateways : (header : Header) (p : Past) (xs : List Act) → Stands header p → Fits header.gateways (took p.world) xs
+    → Step header p (acts.Took (events_taken p.world + 1) ∷ (xs ++ [])) []
 of-gateways header p xs s f =
     let w : List Act = took p.world in
     let e = append-nil xs in
     let may : AllMayHappen header.gateways w (xs ++ []) = subst (AllMayHappen header.gateways w) (sym e) f.may in
-    let part : controllers_part (after w (xs ++ [])) ≡ controllers_part w = ap (λ z. controllers_part (after w z)) e ∙ own-part w xs f.own in
+    let part : controllers_part (after w (xs ++ [])) ≡ controllers_part w = ap (λ z. controllers_part (after w z)) e
+        ∙ own-part w xs f.own in
     record {
       may = (s.ready, may);
       stands = record {
@@ -151,12 +161,15 @@ of-gateways header p xs s f =
       };
     }
 
-of-controller : (header : Header) (p : Past) (e : controller.ControllerEvent) → IsHeader header → Stands header p → Told_all header.gateways (took p.world) p.controller (by_event header.gateways p.controller (Some e))
-    → Step header p (acts.Took (events_taken p.world + 1) ∷ all_told header.gateways (by_event header.gateways p.controller (Some e))) (by_event header.gateways p.controller (Some e))
+of-controller : (header : Header) (p : Past) (e : controller.ControllerEvent) → IsHeader header → Stands header p
+    → Told_all header.gateways (took p.world) p.controller (by_event header.gateways p.controller (Some e))
+    → Step header p (acts.Took (events_taken p.world + 1) ∷ all_told header.gateways (by_event header.gateways p.controller (Some e)))
+        (by_event header.gateways p.controller (Some e))
 of-controller header p e i s t = record {
   may = (s.ready, t.0);
   stands = record {
-    lawful = lawful-after header.gateways (took p.world) (all_told header.gateways (by_event header.gateways p.controller (Some e))) (s.ready, s.lawful) t.0;
+    lawful = lawful-after header.gateways (took p.world) (all_told header.gateways (by_event header.gateways p.controller (Some e)))
+        (s.ready, s.lawful) t.0;
     ready = t.1;
     meet = t.2;
     not_idle = idle-block header.gateways p.controller e s.meet.past s.not_idle;
@@ -174,7 +187,8 @@ minus-one n = grind arith
 pub name-number : (g : List ℕ) (ps : List Peer) → peer_number g ps < length ps → peer_name ps (peer_number g ps) ≡ g
 name-number g [] i = absurd (omega (arith, i))
 name-number g (p ∷ ps) i = name-case (bytes_eq p.name g) g p ps (name-is p.name g) (name-number g ps) i where
-  name-case : (b : Bool) (g : List ℕ) (p : Peer) (ps : List Peer) → (b ≡ true → p.name ≡ g) → (peer_number g ps < length ps → peer_name ps (peer_number g ps) ≡ g)
+  name-case : (b : Bool) (g : List ℕ) (p : Peer) (ps : List Peer) → (b ≡ true → p.name ≡ g)
+      → (peer_number g ps < length ps → peer_name ps (peer_number g ps) ≡ g)
       → (if b then 0 else peer_number g ps + 1) < suc (length ps) → peer_name (p ∷ ps) (if b then 0 else peer_number g ps + 1) ≡ g
   name-case true g p ps e ih i = e refl
   name-case false g p ps e ih i =
@@ -185,45 +199,70 @@ name-number g (p ∷ ps) i = name-case (bytes_eq p.name g) g p ps (name-is p.nam
 
 -- ---- each event
 
-answer-event : (header : Header) (p : Past) (g : List ℕ) (a : Option Answer) → IsHeader header → IsKnown header g → Stands header p → next_answer g p.world ≡ a
-    → Step header p (acts.Took (events_taken p.world + 1) ∷ all_told header.gateways (by_event header.gateways p.controller (Rattle.hist_world.specs.Block.answer_event (peer_number g header.gateways) a))) (by_event header.gateways p.controller (Rattle.hist_world.specs.Block.answer_event (peer_number g header.gateways) a))
+answer-event : (header : Header) (p : Past) (g : List ℕ) (a : Option Answer) → IsHeader header → IsKnown header g → Stands header p
+    → next_answer g p.world ≡ a
+    → Step header p (acts.Took (events_taken p.world + 1)
+        ∷ all_told header.gateways
+        (by_event header.gateways p.controller (Rattle.hist_world.specs.Block.answer_event (peer_number g header.gateways) a)))
+        (by_event header.gateways p.controller (Rattle.hist_world.specs.Block.answer_event (peer_number g header.gateways) a))
 answer-event header p g None i k s e = nothing-done header p s
 answer-event header p g (Some a) i k s e =
     let n : ℕ = peer_number g header.gateways in
-    let next : next_answer (peer_name header.gateways n) (took p.world) ≡ Some a = ap (λ (z : List ℕ). next_answer z p.world) (name-number g header.gateways k) ∙ e in
-    of-controller header p (controller.Answers n a) i s (block-goes header.gateways (took p.world) p.controller (controller.Answers n a) i.named i.family refl (took-meet header p s) k next)
+    let next : next_answer (peer_name header.gateways n) (took p.world) ≡ Some a =
+        ap (λ (z : List ℕ). next_answer z p.world) (name-number g header.gateways k) ∙ e in
+    of-controller header p (controller.Answers n a) i s (block-goes header.gateways (took p.world) p.controller (controller.Answers n a)
+        i.named i.family refl (took-meet header p s) k next)
 
 notice-event : (header : Header) (p : Past) (g : List ℕ) (t : Option Notice) → IsHeader header → IsKnown header g → Stands header p
-    → Step header p (acts.Took (events_taken p.world + 1) ∷ all_told header.gateways (by_event header.gateways p.controller (Rattle.hist_world.specs.Block.hears (peer_number g header.gateways) t))) (by_event header.gateways p.controller (Rattle.hist_world.specs.Block.hears (peer_number g header.gateways) t))
+    → Step header p (acts.Took (events_taken p.world + 1)
+        ∷ all_told header.gateways
+        (by_event header.gateways p.controller (Rattle.hist_world.specs.Block.hears (peer_number g header.gateways) t)))
+        (by_event header.gateways p.controller (Rattle.hist_world.specs.Block.hears (peer_number g header.gateways) t))
 notice-event header p g None i k s = nothing-done header p s
 notice-event header p g (Some t) i k s =
     let n : ℕ = peer_number g header.gateways in
-    of-controller header p (controller.Notices n t) i s (block-goes header.gateways (took p.world) p.controller (controller.Notices n t) i.named i.family refl (took-meet header p s) k tt)
+    of-controller header p (controller.Notices n t) i s (block-goes header.gateways (took p.world) p.controller (controller.Notices n t)
+        i.named i.family refl (took-meet header p s) k tt)
 
 told-event : (header : Header) (p : Past) (c : _) → IsHeader header → Stands header p
-    → Step header p (acts.Took (events_taken p.world + 1) ∷ all_told header.gateways (by_event header.gateways p.controller (Some (controller.Told c)))) (by_event header.gateways p.controller (Some (controller.Told c)))
-told-event header p c i s = of-controller header p (controller.Told c) i s (block-goes header.gateways (took p.world) p.controller (controller.Told c) i.named i.family refl (took-meet header p s) tt tt)
+    → Step header p (acts.Took (events_taken p.world + 1)
+        ∷ all_told header.gateways (by_event header.gateways p.controller (Some (controller.Told c))))
+        (by_event header.gateways p.controller (Some (controller.Told c)))
+told-event header p c i s = of-controller header p (controller.Told c) i s (block-goes header.gateways (took p.world) p.controller
+    (controller.Told c) i.named i.family refl (took-meet header p s) tt tt)
 
-pub step : (shows : Shows) (header : Header) (p : Past) (e : Event) → IsHeader header → IsEventOf header e → Stands header p → is_forged_event header p e ≡ false
+pub step : (shows : Shows) (header : Header) (p : Past) (e : Event) → IsHeader header → IsEventOf header e → Stands header p
+    → is_forged_event header p e ≡ false
     → Step header p (block shows header p e) (controller_acts header p e)
-step shows header p (events.Let g o) i k s n = of-gateways header p _ s (let-fits header g o (took p.world) (gateway_at header g) refl i (s.ready, s.lawful) refl)
-step shows header p (events.Arrive g o) i k s n = of-gateways header p _ s (arrive-fits header g o (took p.world) (gateway_at header g) refl n refl)
-step shows header p (events.ArriveSent g m) i k s n = of-gateways header p _ s (arrive-fits header g (sent_at m (took p.world)) (took p.world) (gateway_at header g) refl n refl)
-step shows header p (events.ArriveFlip g m offset bit) i k s n = of-gateways header p _ s (arrive-fits header g (flipped offset bit (sent_at m (took p.world))) (took p.world) (gateway_at header g) refl n refl)
-step shows header p (events.ArriveTtl g m ttl) i k s n = of-gateways header p _ s (arrive-fits header g (with_ttl ttl (sent_at m (took p.world))) (took p.world) (gateway_at header g) refl n refl)
+step shows header p (events.Let g o) i k s n =
+    of-gateways header p _ s (let-fits header g o (took p.world) (gateway_at header g) refl i (s.ready, s.lawful) refl)
+step shows header p (events.Arrive g o) i k s n =
+    of-gateways header p _ s (arrive-fits header g o (took p.world) (gateway_at header g) refl n refl)
+step shows header p (events.ArriveSent g m) i k s n =
+    of-gateways header p _ s (arrive-fits header g (sent_at m (took p.world)) (took p.world) (gateway_at header g) refl n refl)
+step shows header p (events.ArriveFlip g m offset bit) i k s n =
+    of-gateways header p _ s (arrive-fits header g (flipped offset bit (sent_at m (took p.world))) (took p.world) (gateway_at header g) refl
+    n refl)
+step shows header p (events.ArriveTtl g m ttl) i k s n =
+    of-gateways header p _ s (arrive-fits header g (with_ttl ttl (sent_at m (took p.world))) (took p.world) (gateway_at header g) refl n
+    refl)
 step shows header p (events.Now t) i k s n = of-gateways header p _ s (clock-fits header t (took p.world) refl)
 step shows header p (events.Boot g) i k s n = of-gateways header p _ s (boot-fits header g (took p.world) (gateway_at header g) refl)
-step shows header p (events.Down g) i k s n = of-gateways header p _ s (handle-fits header g (events_taken p.world + 1) p.world (next_request g (took p.world)) (s.ready, s.lawful) refl)
+step shows header p (events.Down g) i k s n =
+    of-gateways header p _ s (handle-fits header g (events_taken p.world + 1) p.world (next_request g (took p.world)) (s.ready, s.lawful)
+    refl)
 step shows header p (events.Wire g lane) i k s n =
     let xs : List Act = acts.Wire g lane (shows g lane (took p.world)) ∷ [] in
     let may : AllMayHappen header.gateways (took p.world) xs = (refl, tt) in
     of-gateways header p xs s (record { may = may; ready = refl; own = refl })
 step shows header p (events.Open g) i k s n =
     let m : ℕ = peer_number g header.gateways in
-    of-controller header p (controller.Opens m) i s (block-goes header.gateways (took p.world) p.controller (controller.Opens m) i.named i.family refl (took-meet header p s) k tt)
+    of-controller header p (controller.Opens m) i s (block-goes header.gateways (took p.world) p.controller (controller.Opens m) i.named
+        i.family refl (took-meet header p s) k tt)
 step shows header p (events.Cut g) i k s n =
     let m : ℕ = peer_number g header.gateways in
-    of-controller header p (controller.Cuts m) i s (block-goes header.gateways (took p.world) p.controller (controller.Cuts m) i.named i.family refl (took-meet header p s) k tt)
+    of-controller header p (controller.Cuts m) i s (block-goes header.gateways (took p.world) p.controller (controller.Cuts m) i.named
+        i.family refl (took-meet header p s) k tt)
 step shows header p (events.Up g) i k s n = answer-event header p g (next_answer g p.world) i k s refl
 step shows header p (events.Note g) i k s n = notice-event header p g (next_notice g p.world) i k s
 step shows header p (events.Policy g list) i k s n = told-event header p (commands.Policy g list) i s
@@ -234,21 +273,31 @@ step shows header p (events.Keys key) i k s n = told-event header p (commands.Ke
 
 -- ---- a forged arrival
 
-forged-at : (gs : List Peer) (w : List Act) (o : List ℕ) (c : Option node.Gateway) → is_forgery w o c ≡ true → is_ready w ≡ true → AllMayHappen gs w (arrives_at w o c)
+forged-at : (gs : List Peer) (w : List Act) (o : List ℕ) (c : Option node.Gateway) → is_forgery w o c ≡ true → is_ready w ≡ true
+    → AllMayHappen gs w (arrives_at w o c)
 forged-at gs w o None e r = absurd (no e)
 forged-at gs w o (Some c) e r = forged-case gs c w o (is_forged c.name c.address w o) e r where
-  forged-case : (gs : List Peer) (c : node.Gateway) (w : List Act) (o : List ℕ) (b : Bool) → b ≡ true → is_ready w ≡ true → AllMayHappen gs w (if b then acts.Arrived c.name o ∷ [] else node.gw_block c w (node.Arrive o))
+  forged-case : (gs : List Peer) (c : node.Gateway) (w : List Act) (o : List ℕ) (b : Bool) → b ≡ true → is_ready w ≡ true
+      → AllMayHappen gs w (if b then acts.Arrived c.name o ∷ [] else node.gw_block c w (node.Arrive o))
   forged-case gs c w o true e r = (r, tt)
   forged-case gs c w o false e r = absurd (no e)
 
-forged-block : (header : Header) (p : Past) (xs : List Act) → Stands header p → AllMayHappen header.gateways (took p.world) xs → AllMayHappen header.gateways p.world (acts.Took (events_taken p.world + 1) ∷ (xs ++ []))
+forged-block : (header : Header) (p : Past) (xs : List Act) → Stands header p → AllMayHappen header.gateways (took p.world) xs
+    → AllMayHappen header.gateways p.world (acts.Took (events_taken p.world + 1) ∷ (xs ++ []))
 forged-block header p xs s m = (s.ready, subst (AllMayHappen header.gateways (took p.world)) (sym (append-nil xs)) m)
 
-forged-step : (shows : Shows) (header : Header) (p : Past) (e : Event) → Stands header p → is_forged_event header p e ≡ true → AllMayHappen header.gateways p.world (block shows header p e)
-forged-step shows header p (events.Arrive g o) s f = forged-block header p _ s (forged-at header.gateways (took p.world) o (gateway_at header g) f refl)
-forged-step shows header p (events.ArriveSent g m) s f = forged-block header p _ s (forged-at header.gateways (took p.world) (sent_at m (took p.world)) (gateway_at header g) f refl)
-forged-step shows header p (events.ArriveFlip g m offset bit) s f = forged-block header p _ s (forged-at header.gateways (took p.world) (flipped offset bit (sent_at m (took p.world))) (gateway_at header g) f refl)
-forged-step shows header p (events.ArriveTtl g m ttl) s f = forged-block header p _ s (forged-at header.gateways (took p.world) (with_ttl ttl (sent_at m (took p.world))) (gateway_at header g) f refl)
+forged-step : (shows : Shows) (header : Header) (p : Past) (e : Event) → Stands header p → is_forged_event header p e ≡ true
+    → AllMayHappen header.gateways p.world (block shows header p e)
+forged-step shows header p (events.Arrive g o) s f =
+    forged-block header p _ s (forged-at header.gateways (took p.world) o (gateway_at header g) f refl)
+forged-step shows header p (events.ArriveSent g m) s f =
+    forged-block header p _ s (forged-at header.gateways (took p.world) (sent_at m (took p.world)) (gateway_at header g) f refl)
+forged-step shows header p (events.ArriveFlip g m offset bit) s f =
+    forged-block header p _ s (forged-at header.gateways (took p.world) (flipped offset bit (sent_at m (took p.world)))
+    (gateway_at header g) f refl)
+forged-step shows header p (events.ArriveTtl g m ttl) s f =
+    forged-block header p _ s (forged-at header.gateways (took p.world) (with_ttl ttl (sent_at m (took p.world))) (gateway_at header g) f
+    refl)
 forged-step shows header p e s f = absurd (no f)
 
 -- ---- all events
@@ -260,13 +309,17 @@ after-append h (x ∷ xs) ys = after-append (x ∷ h) xs ys
 pub start : (header : Header) → Stands header nothing
 start header = record { lawful = tt; ready = refl; meet = record { part = refl; past = tt; fit = tt }; not_idle = λ d i f. absurd i }
 
-pub lawful-history : (shows : Shows) (header : Header) (p : Past) (es : List Event) → IsHeader header → AreEventsOf header es → Stands header p
+pub lawful-history : (shows : Shows) (header : Header) (p : Past) (es : List Event) → IsHeader header → AreEventsOf header es
+    → Stands header p
     → IsLawful header.gateways (after p.world (history shows header p es))
 lawful-history shows header p [] i k s = s.lawful
-lawful-history shows header p (e ∷ es) i k s = lawful-case (is_forged_event header p e) refl (λ t. lawful-history shows header (past_after shows header p e) es i k.1 t) where
+lawful-history shows header p (e ∷ es) i k s =
+    lawful-case (is_forged_event header p e) refl (λ t. lawful-history shows header (past_after shows header p e) es i k.1 t) where
   lawful-case : (b : Bool) → is_forged_event header p e ≡ b
-      → (Stands header (past_after shows header p e) → IsLawful header.gateways (after (past_after shows header p e).world (history shows header (past_after shows header p e) es)))
-      → IsLawful header.gateways (after p.world (block shows header p e ++ unless_forged b (history shows header (past_after shows header p e) es)))
+      → (Stands header (past_after shows header p e)
+          → IsLawful header.gateways (after (past_after shows header p e).world (history shows header (past_after shows header p e) es)))
+      → IsLawful header.gateways
+          (after p.world (block shows header p e ++ unless_forged b (history shows header (past_after shows header p e) es)))
   lawful-case true f ih =
       let xs : List Act = block shows header p e in
       let l = lawful-after header.gateways p.world xs s.lawful (forged-step shows header p e s f) in
@@ -276,14 +329,18 @@ lawful-history shows header p (e ∷ es) i k s = lawful-case (is_forged_event he
       let t = step shows header p e i k.0 s f in
       subst (IsLawful header.gateways) (sym (after-append p.world xs (history shows header (past_after shows header p e) es))) (ih t.stands)
 
-pub stands-at : (shows : Shows) (header : Header) (p : Past) (es : List Event) → IsHeader header → AreEventsOf header es → AreGenuine shows header p es → Stands header p
+pub stands-at : (shows : Shows) (header : Header) (p : Past) (es : List Event) → IsHeader header → AreEventsOf header es
+    → AreGenuine shows header p es → Stands header p
     → Stands header (past_at shows header p es)
 stands-at shows header p [] i k g s = s
-stands-at shows header p (e ∷ es) i k g s = stands-at shows header (past_after shows header p e) es i k.1 g.1 (step shows header p e i k.0 s g.0).stands
+stands-at shows header p (e ∷ es) i k g s = stands-at shows header (past_after shows header p e) es i k.1 g.1
+    (step shows header p e i k.0 s g.0).stands
 
-pub history-at : (shows : Shows) (header : Header) (p : Past) (es : List Event) → AreGenuine shows header p es → after p.world (history shows header p es) ≡ (past_at shows header p es).world
+pub history-at : (shows : Shows) (header : Header) (p : Past) (es : List Event) → AreGenuine shows header p es
+    → after p.world (history shows header p es) ≡ (past_at shows header p es).world
 history-at shows header p [] g = refl
 history-at shows header p (e ∷ es) g =
     let xs : List Act = block shows header p e in
     let more : List Act = history shows header (past_after shows header p e) es in
-    ap (λ b. after p.world (xs ++ unless_forged b more)) g.0 ∙ after-append p.world xs more ∙ history-at shows header (past_after shows header p e) es g.1
+    ap (λ b. after p.world (xs ++ unless_forged b more)) g.0 ∙ after-append p.world xs more
+        ∙ history-at shows header (past_after shows header p e) es g.1

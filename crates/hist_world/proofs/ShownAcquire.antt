@@ -33,16 +33,19 @@ list_4 = protects ten_one ten_two
 
 -- a UDP packet from 10.1.0.5 to 10.2.0.9
 abbrev pub packet_4 : List ℕ
-packet_4 = 69 ∷ 0 ∷ 0 ∷ 32 ∷ 0 ∷ 0 ∷ 64 ∷ 0 ∷ 64 ∷ 17 ∷ 38 ∷ 189 ∷ 10 ∷ 1 ∷ 0 ∷ 5 ∷ 10 ∷ 2 ∷ 0 ∷ 9 ∷ 18 ∷ 52 ∷ 0 ∷ 53 ∷ 0 ∷ 12 ∷ 0 ∷ 0 ∷ 97 ∷ 98 ∷ 99 ∷ 100 ∷ []
+packet_4 = 69 ∷ 0 ∷ 0 ∷ 32 ∷ 0 ∷ 0 ∷ 64 ∷ 0 ∷ 64 ∷ 17 ∷ 38 ∷ 189 ∷ 10 ∷ 1 ∷ 0 ∷ 5 ∷ 10 ∷ 2 ∷ 0 ∷ 9 ∷ 18 ∷ 52 ∷ 0 ∷ 53 ∷ 0 ∷ 12 ∷ 0 ∷ 0 ∷ 97
+    ∷ 98 ∷ 99 ∷ 100 ∷ []
 
 abbrev pub view_4 : Packet
-view_4 = record { src = V4 (10 ∷ 1 ∷ 0 ∷ 5 ∷ []); dst = V4 (10 ∷ 2 ∷ 0 ∷ 9 ∷ []); proto = 17; ports = Some (4660, 53); df = true; payload = 18 ∷ 52 ∷ 0 ∷ 53 ∷ 0 ∷ 12 ∷ 0 ∷ 0 ∷ 97 ∷ 98 ∷ 99 ∷ 100 ∷ [] }
+view_4 = record { src = V4 (10 ∷ 1 ∷ 0 ∷ 5 ∷ []); dst = V4 (10 ∷ 2 ∷ 0 ∷ 9 ∷ []); proto = 17; ports = Some (4660, 53); df = true; payload =
+    18 ∷ 52 ∷ 0 ∷ 53 ∷ 0 ∷ 12 ∷ 0 ∷ 0 ∷ 97 ∷ 98 ∷ 99 ∷ 100 ∷ [] }
 
 -- what the acquire tells of it: 10.1.0.5/32, 10.2.0.9/32, UDP, and the two ports
 abbrev pub flow : Selector
 flow = flow_of view_4
 
-flow_says : (flow.local.addr ≡ V4 (10 ∷ 1 ∷ 0 ∷ 5 ∷ [])) × (flow.local.len ≡ 32) × (flow.remote.addr ≡ V4 (10 ∷ 2 ∷ 0 ∷ 9 ∷ [])) × (flow.remote.len ≡ 32) × (flow.proto ≡ Some 17)
+flow_says : (flow.local.addr ≡ V4 (10 ∷ 1 ∷ 0 ∷ 5 ∷ [])) × (flow.local.len ≡ 32) × (flow.remote.addr ≡ V4 (10 ∷ 2 ∷ 0 ∷ 9 ∷ []))
+    × (flow.remote.len ≡ 32) × (flow.proto ≡ Some 17)
     × (flow.local_ports ≡ record { start = 4660; end = 4660 } ∷ []) × (flow.remote_ports ≡ record { start = 53; end = 53 } ∷ [])
 unfolding whole
 flow_says = (refl, refl, refl, refl, refl, refl, refl)

@@ -74,22 +74,26 @@ carries3 = record { view = refl; long = refl; spi = refl; number = refl }
 
 -- ---- their outer header, SPI, number and IV, in octets
 
-pub begins1 : take 36 (sent out1 1) ≡ 69 ∷ 0 ∷ 0 ∷ 108 ∷ 0 ∷ 1 ∷ 64 ∷ 0 ∷ 64 ∷ 50 ∷ 78 ∷ 41 ∷ 192 ∷ 0 ∷ 2 ∷ 1 ∷ 198 ∷ 51 ∷ 100 ∷ 1 ∷ 0 ∷ 0 ∷ 1 ∷ 1 ∷ 0 ∷ 0 ∷ 0 ∷ 1 ∷ 0 ∷ 0 ∷ 0 ∷ 0 ∷ 0 ∷ 0 ∷ 0 ∷ 1 ∷ []
+pub begins1 : take 36 (sent out1 1) ≡ 69 ∷ 0 ∷ 0 ∷ 108 ∷ 0 ∷ 1 ∷ 64 ∷ 0 ∷ 64 ∷ 50 ∷ 78 ∷ 41 ∷ 192 ∷ 0 ∷ 2 ∷ 1 ∷ 198 ∷ 51 ∷ 100 ∷ 1 ∷ 0 ∷ 0
+    ∷ 1 ∷ 1 ∷ 0 ∷ 0 ∷ 0 ∷ 1 ∷ 0 ∷ 0 ∷ 0 ∷ 0 ∷ 0 ∷ 0 ∷ 0 ∷ 1 ∷ []
 unfolding datagram outer_header esp sealed tag_of keying packet_6
 begins1 = refl
 
-pub begins2 : take 36 (sent out1 2) ≡ 69 ∷ 0 ∷ 0 ∷ 108 ∷ 0 ∷ 2 ∷ 64 ∷ 0 ∷ 64 ∷ 50 ∷ 78 ∷ 40 ∷ 192 ∷ 0 ∷ 2 ∷ 1 ∷ 198 ∷ 51 ∷ 100 ∷ 1 ∷ 0 ∷ 0 ∷ 1 ∷ 1 ∷ 0 ∷ 0 ∷ 0 ∷ 2 ∷ 0 ∷ 0 ∷ 0 ∷ 0 ∷ 0 ∷ 0 ∷ 0 ∷ 2 ∷ []
+pub begins2 : take 36 (sent out1 2) ≡ 69 ∷ 0 ∷ 0 ∷ 108 ∷ 0 ∷ 2 ∷ 64 ∷ 0 ∷ 64 ∷ 50 ∷ 78 ∷ 40 ∷ 192 ∷ 0 ∷ 2 ∷ 1 ∷ 198 ∷ 51 ∷ 100 ∷ 1 ∷ 0 ∷ 0
+    ∷ 1 ∷ 1 ∷ 0 ∷ 0 ∷ 0 ∷ 2 ∷ 0 ∷ 0 ∷ 0 ∷ 0 ∷ 0 ∷ 0 ∷ 0 ∷ 2 ∷ []
 unfolding datagram outer_header esp sealed tag_of keying packet_6
 begins2 = refl
 
-pub begins3 : take 36 (sent out3 1) ≡ 69 ∷ 0 ∷ 0 ∷ 108 ∷ 0 ∷ 1 ∷ 64 ∷ 0 ∷ 64 ∷ 50 ∷ 78 ∷ 41 ∷ 192 ∷ 0 ∷ 2 ∷ 1 ∷ 198 ∷ 51 ∷ 100 ∷ 1 ∷ 0 ∷ 0 ∷ 1 ∷ 3 ∷ 0 ∷ 0 ∷ 0 ∷ 1 ∷ 0 ∷ 0 ∷ 0 ∷ 0 ∷ 0 ∷ 0 ∷ 0 ∷ 1 ∷ []
+pub begins3 : take 36 (sent out3 1) ≡ 69 ∷ 0 ∷ 0 ∷ 108 ∷ 0 ∷ 1 ∷ 64 ∷ 0 ∷ 64 ∷ 50 ∷ 78 ∷ 41 ∷ 192 ∷ 0 ∷ 2 ∷ 1 ∷ 198 ∷ 51 ∷ 100 ∷ 1 ∷ 0 ∷ 0
+    ∷ 1 ∷ 3 ∷ 0 ∷ 0 ∷ 0 ∷ 1 ∷ 0 ∷ 0 ∷ 0 ∷ 0 ∷ 0 ∷ 0 ∷ 0 ∷ 1 ∷ []
 unfolding datagram outer_header esp sealed tag_of keying packet_6
 begins3 = refl
 
 -- ---- what answers them
 
 -- the octets of what was sent are among those that were sent
-pub was-sealed : (e : SadEntry) (n m : ℕ) (o x f : List ℕ) (h : List Act) → Carries o e n → is_sealed x (octets e n) (acts.Sent f x m o ∷ h) ≡ true
+pub was-sealed : (e : SadEntry) (n m : ℕ) (o x f : List ℕ) (h : List Act) → Carries o e n → is_sealed x (octets e n) (acts.Sent f x m o ∷ h)
+    ≡ true
 was-sealed e n m o x f h c =
     let same : esp_of o ≡ octets e n = ap payload_of c.view in
     or_left (bytes_eq x x && bytes_eq (esp_of o) (octets e n)) (is_sealed x (octets e n) h)
@@ -101,39 +105,51 @@ pub record At (e d : SadEntry) (n : ℕ) (h : List Act) : Type 0 where
   pub key : keying d.spi d.key ≡ keying e.spi e.key
   pub sealed : is_sealed (other_half d.name) (octets e n) h ≡ true
 
-pub found-at : (e d : SadEntry) (n : ℕ) (o : List ℕ) (h : List Act) → Carries o e n → by_spi e.spi (live b h) ≡ Some d → by_spi (spi_of (octets e n)) (live b h) ≡ Some d
+pub found-at : (e d : SadEntry) (n : ℕ) (o : List ℕ) (h : List Act) → Carries o e n → by_spi e.spi (live b h) ≡ Some d
+    → by_spi (spi_of (octets e n)) (live b h) ≡ Some d
 found-at e d n o h c f = ap (λ (z : ℕ). by_spi z (live b h)) c.spi ∙ f
 
 pub opens-at : (e d : SadEntry) (n : ℕ) → keying d.spi d.key ≡ keying e.spi e.key → opened (keying d.spi d.key) (octets e n) ≡ Some text
-opens-at e d n k = ap (λ (z : Keying). opened z (octets e n)) k ∙ opened_finds (keying e.spi e.key) (octets e n) text (sealed_opens (keying e.spi e.key) n 41 packet_6)
+opens-at e d n k = ap (λ (z : Keying). opened z (octets e n)) k ∙ opened_finds (keying e.spi e.key) (octets e n) text
+    (sealed_opens (keying e.spi e.key) n 41 packet_6)
 
 -- it is fresh: it opens, and what was sealed is looked at
-pub gives : (shows : Shows) (p : Past) (v : Event) (o : List ℕ) (e d : SadEntry) (n : ℕ) (xs : List Act) → Comes shows (two greatest) p v gateway_b o → Carries o e n → At e d n (took p.world)
-    → verdict_over d.window (numbers_taken b d.name (acts.Arrived b o ∷ took p.world)) n ≡ Fresh → by_text b (acts.Arrived b o ∷ took p.world) d n (Some text) ≡ xs
-    → Goes shows (two greatest) p (v ∷ []) (acts.Took (events_taken p.world + 1) ∷ acts.Arrived b o ∷ xs) (arrived p (acts.Arrived b o ∷ xs))
+pub gives : (shows : Shows) (p : Past) (v : Event) (o : List ℕ) (e d : SadEntry) (n : ℕ) (xs : List Act)
+    → Comes shows (two greatest) p v gateway_b o → Carries o e n → At e d n (took p.world)
+    → verdict_over d.window (numbers_taken b d.name (acts.Arrived b o ∷ took p.world)) n ≡ Fresh
+        → by_text b (acts.Arrived b o ∷ took p.world) d n (Some text) ≡ xs
+    → Goes shows (two greatest) p (v ∷ []) (acts.Took (events_taken p.world + 1) ∷ acts.Arrived b o ∷ xs)
+        (arrived p (acts.Arrived b o ∷ xs))
 gives shows p v o e d n xs m c i fresh w =
     let h : List Act = took p.world in
     let found = found-at e d n o h c i.found in
     let genuine = genuine-sent b own_b h o (carrier (octets e n)) d c.view found i.sealed in
-    let answer = answers-text b own_b (acts.Arrived b o ∷ h) o (carrier (octets e n)) d n (Some text) c.view refl c.long found c.number fresh (opens-at e d n i.key) in
+    let answer = answers-text b own_b (acts.Arrived b o ∷ h) o (carrier (octets e n)) d n (Some text) c.view refl c.long found c.number
+        fresh (opens-at e d n i.key) in
     arrives shows (two greatest) p v gateway_b o (acts.Arrived b o ∷ xs) m genuine (ap (λ z. acts.Arrived b o ∷ z) (answer ∙ w))
 
 -- its number was taken
-pub repeats : (shows : Shows) (p : Past) (v : Event) (o : List ℕ) (e d : SadEntry) (n : ℕ) → Comes shows (two greatest) p v gateway_b o → Carries o e n → At e d n (took p.world)
+pub repeats : (shows : Shows) (p : Past) (v : Event) (o : List ℕ) (e d : SadEntry) (n : ℕ) → Comes shows (two greatest) p v gateway_b o
+    → Carries o e n → At e d n (took p.world)
     → verdict_over d.window (numbers_taken b d.name (acts.Arrived b o ∷ took p.world)) n ≡ Seen
-    → Goes shows (two greatest) p (v ∷ []) (acts.Took (events_taken p.world + 1) ∷ acts.Arrived b o ∷ acts.Drop b why.Seen ∷ []) (arrived p (acts.Arrived b o ∷ acts.Drop b why.Seen ∷ []))
+    → Goes shows (two greatest) p (v ∷ []) (acts.Took (events_taken p.world + 1) ∷ acts.Arrived b o ∷ acts.Drop b why.Seen ∷ [])
+        (arrived p (acts.Arrived b o ∷ acts.Drop b why.Seen ∷ []))
 repeats shows p v o e d n m c i seen =
     let h : List Act = took p.world in
     let found = found-at e d n o h c i.found in
     let genuine = genuine-sent b own_b h o (carrier (octets e n)) d c.view found i.sealed in
     let answer = answers-seen b own_b (acts.Arrived b o ∷ h) o (carrier (octets e n)) d n c.view refl c.long found c.number seen in
-    arrives shows (two greatest) p v gateway_b o (acts.Arrived b o ∷ acts.Drop b why.Seen ∷ []) m genuine (ap (λ z. acts.Arrived b o ∷ z) answer)
+    arrives shows (two greatest) p v gateway_b o (acts.Arrived b o ∷ acts.Drop b why.Seen ∷ []) m genuine
+        (ap (λ z. acts.Arrived b o ∷ z) answer)
 
 -- no half has its SPI
-pub comes-to-none : (shows : Shows) (p : Past) (v : Event) (o : List ℕ) (e : SadEntry) (n : ℕ) (xs : List Act) → Comes shows (two greatest) p v gateway_b o → Carries o e n
+pub comes-to-none : (shows : Shows) (p : Past) (v : Event) (o : List ℕ) (e : SadEntry) (n : ℕ) (xs : List Act)
+    → Comes shows (two greatest) p v gateway_b o → Carries o e n
     → by_spi e.spi (live b (took p.world)) ≡ None
-    → acts.Drop b why.BadSpi ∷ unless (does_bad_spi_stand b e.spi (acts.Arrived b o ∷ took p.world)) (tells b (acts.Arrived b o ∷ took p.world) (notices.BadSpi e.spi)) ≡ xs
-    → Goes shows (two greatest) p (v ∷ []) (acts.Took (events_taken p.world + 1) ∷ acts.Arrived b o ∷ xs) (arrived p (acts.Arrived b o ∷ xs))
+    → acts.Drop b why.BadSpi ∷ unless (does_bad_spi_stand b e.spi (acts.Arrived b o ∷ took p.world))
+        (tells b (acts.Arrived b o ∷ took p.world) (notices.BadSpi e.spi)) ≡ xs
+    → Goes shows (two greatest) p (v ∷ []) (acts.Took (events_taken p.world + 1) ∷ acts.Arrived b o ∷ xs)
+        (arrived p (acts.Arrived b o ∷ xs))
 comes-to-none shows p v o e n xs m c f w =
     let h : List Act = took p.world in
     let found : by_spi (spi_of (octets e n)) (live b h) ≡ None = ap (λ (z : ℕ). by_spi z (live b h)) c.spi ∙ f in

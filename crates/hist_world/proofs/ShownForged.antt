@@ -36,7 +36,8 @@ forged =
     ap (is_view_forged b own_b h) carries1.view
     ∙ ap (λ (z : Bool). not z && is_half_forged b h o (by_spi (spi_of o) (live b h))) carries1.long
     ∙ ap (is_half_forged b h o) (found-at out1 in1 1 (sent out1 1) h carries1 refl)
-    ∙ ap (λ (z : ℕ). is_fresh (verdict_over 64 [] z) && (does_open (opened (keying in1.spi in1.key) o) && true)) (number-field in1 0 o ∙ carries1.number)
+    ∙ ap (λ (z : ℕ). is_fresh (verdict_over 64 [] z) && (does_open (opened (keying in1.spi in1.key) o) && true)) (number-field in1 0 o
+        ∙ carries1.number)
     ∙ ap (λ z. does_open z && true) (opens-at out1 in1 1 refl)
 
 abbrev pub invented : Event
@@ -47,7 +48,8 @@ invented_acts =
     acts.Took 24 ∷ acts.Arrived b (sent out1 1) ∷ []
 
 -- whatever events come after it
-pub shown-invented : (shows : Shows) (more : List Event) → history shows (two greatest) nothing (keyed ++ invented ∷ more) ≡ keyed_acts ++ invented_acts
+pub shown-invented : (shows : Shows) (more : List Event) → history shows (two greatest) nothing (keyed ++ invented ∷ more) ≡ keyed_acts
+    ++ invented_acts
 shown-invented shows more =
     let h : List Act = took after_second_outbound.world in
     let o : List ℕ = sent out1 1 in
@@ -82,7 +84,8 @@ shown-turned_away shows = (and-then (keyed-goes shows greatest) (elsewhere-goes 
 
 -- another packet with a number that was taken
 abbrev pub late : List ℕ
-late = (69 ∷ 0 ∷ 0 ∷ 108 ∷ 0 ∷ 1 ∷ 64 ∷ 0 ∷ 64 ∷ 50 ∷ 78 ∷ 41 ∷ 192 ∷ 0 ∷ 2 ∷ 1 ∷ 198 ∷ 51 ∷ 100 ∷ 1 ∷ []) ++ esp (keying out1.spi out1.key) 1 41 (flipped 51 0 packet_6)
+late = (69 ∷ 0 ∷ 0 ∷ 108 ∷ 0 ∷ 1 ∷ 64 ∷ 0 ∷ 64 ∷ 50 ∷ 78 ∷ 41 ∷ 192 ∷ 0 ∷ 2 ∷ 1 ∷ 198 ∷ 51 ∷ 100 ∷ 1 ∷ [])
+    ++ esp (keying out1.spi out1.key) 1 41 (flipped 51 0 packet_6)
 
 abbrev pub too_late : List Event
 too_late = events.Arrive b late ∷ []

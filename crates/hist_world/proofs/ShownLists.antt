@@ -27,10 +27,12 @@ abbrev pub any_4 : Prefix
 any_4 = record { addr = V4 (0 ∷ 0 ∷ 0 ∷ 0 ∷ []); len = 0; in_range = lit≤ tt; cleared = refl }
 
 abbrev pub discarding : SpdEntry
-discarding = record { name = codes "d1"; direction = directions.Out; reqid = 0; window = 64; selector = between ten_one any_4; action = actions.Discard }
+discarding = record { name = codes "d1"; direction = directions.Out; reqid = 0; window = 64; selector = between ten_one any_4; action =
+    actions.Discard }
 
 abbrev pub bypassing : SpdEntry
-bypassing = record { name = codes "p1"; direction = directions.Out; reqid = 1; window = 64; selector = between ten_one ten_two; action = actions.Bypass }
+bypassing = record { name = codes "p1"; direction = directions.Out; reqid = 1; window = 64; selector = between ten_one ten_two; action =
+    actions.Bypass }
 
 abbrev pub bypasses : List SpdEntry
 bypasses = bypassing ∷ []
@@ -84,13 +86,15 @@ shown-lost shows = refl
 
 -- ---- both lists of the first history were put in force, in the order in which they were commanded
 
-pub shown-in-order : (commanded a replaced ≡ discards_first ∷ bypasses_first ∷ []) × (put_in_force a (after [] replaced_acts) ≡ discards_first ∷ bypasses_first ∷ [])
+pub shown-in-order : (commanded a replaced ≡ discards_first ∷ bypasses_first ∷ [])
+    × (put_in_force a (after [] replaced_acts) ≡ discards_first ∷ bypasses_first ∷ [])
 shown-in-order = (refl, refl)
 
 -- the other order would go back
 place-two : (i : ℕ) (l m x : List SpdEntry) → place i (l ∷ m ∷ []) ≡ Some x → ((i ≡ 0) × (l ≡ x)) ⊎ ((i ≡ 1) × (m ≡ x))
 place-two i l m x e = by (i == 0) refl (i - 1 == 0) refl e where
-  by : (b : Bool) → (i == 0) ≡ b → (c : Bool) → (i - 1 == 0) ≡ c → (if b then Some l else if c then Some m else None) ≡ Some x → ((i ≡ 0) × (l ≡ x)) ⊎ ((i ≡ 1) × (m ≡ x))
+  by : (b : Bool) → (i == 0) ≡ b → (c : Bool) → (i - 1 == 0) ≡ c → (if b then Some l else if c then Some m else None) ≡ Some x
+      → ((i ≡ 0) × (l ≡ x)) ⊎ ((i ≡ 1) × (m ≡ x))
   by true p c q e = inl (eq-nat i 0 p, some-is l x e)
   by false p true q e = inr (grind (arith, p, q), some-is m x e)
   by false p false q e = cc
@@ -103,10 +107,12 @@ lists-differ : discards_first ≡ bypasses_first → ⊥
 unfolding first_reqid
 lists-differ e = let w : 0 ≡ 1 = ap first_reqid e in omega (arith, w)
 
-no-way-back : (i j : ℕ) → i ≤ j → ((i ≡ 0) × (discards_first ≡ bypasses_first)) ⊎ ((i ≡ 1) × (bypasses_first ≡ bypasses_first)) → ((j ≡ 0) × (discards_first ≡ discards_first)) ⊎ ((j ≡ 1) × (bypasses_first ≡ discards_first)) → ⊥
+no-way-back : (i j : ℕ) → i ≤ j → ((i ≡ 0) × (discards_first ≡ bypasses_first)) ⊎ ((i ≡ 1) × (bypasses_first ≡ bypasses_first))
+    → ((j ≡ 0) × (discards_first ≡ discards_first)) ⊎ ((j ≡ 1) × (bypasses_first ≡ discards_first)) → ⊥
 no-way-back i j low (inl p) q = lists-differ p.1
 no-way-back i j low (inr p) (inl q) = let a = p.0 in let b = q.0 in omega (arith, low, a, b)
 no-way-back i j low (inr p) (inr q) = lists-differ (sym q.1)
 
 pub shown-back : NeverBack (discards_first ∷ bypasses_first ∷ []) (bypasses_first ∷ discards_first ∷ []) → ⊥
-shown-back w = no-way-back w.0 w.3.0 w.3.1 (place-two w.0 discards_first bypasses_first bypasses_first w.2) (place-two w.3.0 discards_first bypasses_first discards_first w.3.2)
+shown-back w = no-way-back w.0 w.3.0 w.3.1 (place-two w.0 discards_first bypasses_first bypasses_first w.2)
+    (place-two w.3.0 discards_first bypasses_first discards_first w.3.2)

@@ -137,8 +137,10 @@ after_new_given = record { world = after after_retired.world new_given_acts; con
 pub new_given-goes : (shows : Shows) → Goes shows (two greatest) after_retired new_given new_given_acts after_new_given
 unfolding view_of upper_of holds_packet inner_packet packet_6 behind_a behind_b
 new_given-goes shows =
-    gives shows after_retired (events.ArriveSent b 3) (sent out3 1) out3 in3 1 (acts.Gave b (codes "in/3") 1 packet_6 ∷ []) (record { acts = refl; none = refl; test = refl }) carries3
-    (record { found = refl; key = refl; sealed = was-sealed out3 1 1 (sent out3 1) (codes "out/3") a (acts.Let a packet_6 ∷ acts.Took 33 ∷ after_renewed.world) carries3 }) refl refl
+    gives shows after_retired (events.ArriveSent b 3) (sent out3 1) out3 in3 1 (acts.Gave b (codes "in/3") 1 packet_6 ∷ [])
+        (record { acts = refl; none = refl; test = refl }) carries3
+    (record { found = refl; key = refl; sealed = was-sealed out3 1 1 (sent out3 1) (codes "out/3") a (acts.Let a packet_6 ∷ acts.Took 33
+        ∷ after_renewed.world) carries3 }) refl refl
 
 abbrev pub old_given : List Event
 old_given = events.ArriveSent b 2 ∷ []
@@ -153,8 +155,10 @@ after_old_given = record { world = after after_new_given.world old_given_acts; c
 pub old_given-goes : (shows : Shows) → Goes shows (two greatest) after_new_given old_given old_given_acts after_old_given
 unfolding view_of upper_of holds_packet inner_packet packet_6 behind_a behind_b
 old_given-goes shows =
-    gives shows after_new_given (events.ArriveSent b 2) (sent out1 2) out1 in1 2 (acts.Gave b (codes "in/1") 2 packet_6 ∷ []) (record { acts = refl; none = refl; test = refl }) carries2
-    (record { found = refl; key = refl; sealed = was-sealed out1 2 2 (sent out1 2) (codes "out/1") a (acts.Let a packet_6 ∷ acts.Took 31 ∷ after_expired.world) carries2 }) refl refl
+    gives shows after_new_given (events.ArriveSent b 2) (sent out1 2) out1 in1 2 (acts.Gave b (codes "in/1") 2 packet_6 ∷ [])
+        (record { acts = refl; none = refl; test = refl }) carries2
+    (record { found = refl; key = refl; sealed = was-sealed out1 2 2 (sent out1 2) (codes "out/1") a (acts.Let a packet_6 ∷ acts.Took 31
+        ∷ after_expired.world) carries2 }) refl refl
 
 -- the old halves are removed, the outbound one first
 abbrev pub removed : List Event
@@ -184,7 +188,8 @@ abbrev pub rekeyed : List Event
 rekeyed = delivered ++ expired ++ old_sent ++ renewed ++ new_sent ++ retired ++ new_given ++ old_given ++ removed
 
 abbrev pub rekeyed_acts : List Act
-rekeyed_acts = delivered_acts ++ expired_acts ++ old_sent_acts ++ renewed_acts ++ new_sent_acts ++ retired_acts ++ new_given_acts ++ old_given_acts ++ removed_acts
+rekeyed_acts = delivered_acts ++ expired_acts ++ old_sent_acts ++ renewed_acts ++ new_sent_acts ++ retired_acts ++ new_given_acts
+    ++ old_given_acts ++ removed_acts
 
 pub rekeyed-goes : (shows : Shows) → Goes shows (two greatest) nothing rekeyed rekeyed_acts after_removed
 rekeyed-goes shows =

@@ -46,7 +46,8 @@ abbrev pub after_lost_one : Past
 after_lost_one = record { world = after after_booted.world lost_one_acts; controller = after_booted.controller }
 
 pub lost_one-goes : (shows : Shows) → Goes shows (two greatest) after_booted lost_one lost_one_acts after_lost_one
-lost_one-goes shows = comes-to-none shows after_booted (events.ArriveSent b 1) (sent out1 1) out1 1 (acts.Drop b why.BadSpi ∷ acts.Notice b 0 (notices.BadSpi 257) ∷ []) (record { acts = refl; none = refl; test = refl }) carries1 refl refl
+lost_one-goes shows = comes-to-none shows after_booted (events.ArriveSent b 1) (sent out1 1) out1 1 (acts.Drop b why.BadSpi
+    ∷ acts.Notice b 0 (notices.BadSpi 257) ∷ []) (record { acts = refl; none = refl; test = refl }) carries1 refl refl
 
 abbrev pub reopened : List Event
 reopened =
@@ -83,7 +84,8 @@ abbrev pub after_lost_again : Past
 after_lost_again = record { world = after after_reopened.world lost_again_acts; controller = after_reopened.controller }
 
 pub lost_again-goes : (shows : Shows) → Goes shows (two greatest) after_reopened lost_again lost_again_acts after_lost_again
-lost_again-goes shows = comes-to-none shows after_reopened (events.ArriveSent b 1) (sent out1 1) out1 1 (acts.Drop b why.BadSpi ∷ acts.Notice b 2 (notices.BadSpi 257) ∷ []) (record { acts = refl; none = refl; test = refl }) carries1 refl refl
+lost_again-goes shows = comes-to-none shows after_reopened (events.ArriveSent b 1) (sent out1 1) out1 1 (acts.Drop b why.BadSpi
+    ∷ acts.Notice b 2 (notices.BadSpi 257) ∷ []) (record { acts = refl; none = refl; test = refl }) carries1 refl refl
 
 -- the reading shows none of its halves; the other direction waits for a key
 abbrev pub recovered : List Event
@@ -102,7 +104,8 @@ recovered_own =
     ∷ own.Heard 1 2 (notices.BadSpi 257) ∷ own.Ordered 1 2 4 own.Read ∷ []
 
 abbrev pub after_recovered : Past
-after_recovered = record { world = after after_lost_again.world recovered_acts; controller = after after_lost_again.controller recovered_own }
+after_recovered = record { world = after after_lost_again.world recovered_acts; controller =
+    after after_lost_again.controller recovered_own }
 
 pub recovered-goes : (shows : Shows) → Goes shows (two greatest) after_lost_again recovered recovered_acts after_recovered
 unfolding reply in_name out_name digits

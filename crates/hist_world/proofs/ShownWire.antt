@@ -18,10 +18,12 @@ abbrev pub at_request : List Act
 at_request = acts.Took 2 ∷ acts.Order a 1 1 asks.Read ∷ acts.Opened a 1 ∷ acts.Took 1 ∷ []
 
 abbrev pub at_answer : Shows → List Act
-at_answer shows = acts.Took 4 ∷ acts.Handled a 1 1 (plain 200) ∷ acts.Took 3 ∷ acts.Wire a lanes.Down (shows a lanes.Down at_request) ∷ at_request
+at_answer shows = acts.Took 4 ∷ acts.Handled a 1 1 (plain 200) ∷ acts.Took 3 ∷ acts.Wire a lanes.Down (shows a lanes.Down at_request)
+    ∷ at_request
 
 abbrev pub at_end : Shows → List Act
-at_end shows = acts.Took 6 ∷ acts.Answered a 1 1 (plain 200) ∷ acts.Took 5 ∷ acts.Wire a lanes.Up (shows a lanes.Up (at_answer shows)) ∷ at_answer shows
+at_end shows = acts.Took 6 ∷ acts.Answered a 1 1 (plain 200) ∷ acts.Took 5 ∷ acts.Wire a lanes.Up (shows a lanes.Up (at_answer shows))
+    ∷ at_answer shows
 
 pub shown-watched : (shows : Shows) → history shows alone nothing watched ≡
     acts.Took 1 ∷ acts.Opened a 1 ∷ acts.Order a 1 1 asks.Read

@@ -56,11 +56,13 @@ one-silent a h e m = m
 
 silent-made : (h xs : List Act) → are_silent xs ≡ true → AllCreated h → AllCreated (after h xs)
 silent-made h [] e m = m
-silent-made h (a ∷ xs) e m = silent-made (a ∷ h) xs (both-right (is_silent a) (are_silent xs) e) (one-silent a h (both-left (is_silent a) (are_silent xs) e) m)
+silent-made h (a ∷ xs) e m = silent-made (a ∷ h) xs (both-right (is_silent a) (are_silent xs) e)
+    (one-silent a h (both-left (is_silent a) (are_silent xs) e) m)
 
 joined : (xs ys : List Act) → are_silent xs ≡ true → are_silent ys ≡ true → are_silent (xs ++ ys) ≡ true
 joined [] ys p q = q
-joined (a ∷ xs) ys p q = and_from (is_silent a) (are_silent (xs ++ ys)) (both-left (is_silent a) (are_silent xs) p) (joined xs ys (both-right (is_silent a) (are_silent xs) p) q)
+joined (a ∷ xs) ys p q = and_from (is_silent a) (are_silent (xs ++ ys)) (both-left (is_silent a) (are_silent xs) p)
+    (joined xs ys (both-right (is_silent a) (are_silent xs) p) q)
 
 follower-silent : (a : Act) → is_follower a ≡ true → is_silent a ≡ true
 follower-silent (acts.Handled f s k a) e = absurd (no e)
@@ -69,7 +71,8 @@ follower-silent a e = refl
 followers-silent : (xs : List Act) → are_followers xs ≡ true → are_silent xs ≡ true
 followers-silent [] e = refl
 followers-silent (a ∷ xs) e =
-    and_from (is_silent a) (are_silent xs) (follower-silent a (both-left (is_follower a) (are_followers xs) e)) (followers-silent xs (both-right (is_follower a) (are_followers xs) e))
+    and_from (is_silent a) (are_silent xs) (follower-silent a (both-left (is_follower a) (are_followers xs) e))
+        (followers-silent xs (both-right (is_follower a) (are_followers xs) e))
 
 let-silent : (g : List ℕ) (a : Act) → LetAnswer g a → is_silent a ≡ true
 let-silent g (acts.Handled f s k a) e = absurd e
@@ -80,16 +83,20 @@ arrive-silent g (acts.Handled f s k a) e = absurd e
 arrive-silent g a e = refl
 
 shaped-silent : (ok : Act → Type 0) (xs : List Act) → ((a : Act) → ok a → is_silent a ≡ true) → Shaped ok xs → are_silent xs ≡ true
-shaped-silent ok xs f s = ap are_silent s.parts ∙ and_from (is_silent s.first) (are_silent s.rest) (f s.first s.fits) (followers-silent s.rest s.follow)
+shaped-silent ok xs f s = ap are_silent s.parts ∙ and_from (is_silent s.first) (are_silent s.rest) (f s.first s.fits)
+    (followers-silent s.rest s.follow)
 
 lets-silent : (o : List ℕ) (w : List Act) (c : Option node.Gateway) → are_silent (at_gateway w (node.Let o) c) ≡ true
 lets-silent o w None = refl
-lets-silent o w (Some c) = shaped-silent (LetAnswer c.name) (let_acts c.name c.seq_last (acts.Let c.name o ∷ w) o) (let-silent c.name) (let-shape c.name o c.seq_last (acts.Let c.name o ∷ w))
+lets-silent o w (Some c) = shaped-silent (LetAnswer c.name) (let_acts c.name c.seq_last (acts.Let c.name o ∷ w) o) (let-silent c.name)
+    (let-shape c.name o c.seq_last (acts.Let c.name o ∷ w))
 
-forged-silent : (c : node.Gateway) (w : List Act) (o : List ℕ) (b : Bool) → are_silent (if b then acts.Arrived c.name o ∷ [] else node.gw_block c w (node.Arrive o)) ≡ true
+forged-silent : (c : node.Gateway) (w : List Act) (o : List ℕ) (b : Bool)
+    → are_silent (if b then acts.Arrived c.name o ∷ [] else node.gw_block c w (node.Arrive o)) ≡ true
 forged-silent c w o true = refl
 forged-silent c w o false =
-    shaped-silent (ArriveAnswer c.name) (arrive_acts c.name c.address (acts.Arrived c.name o ∷ w) o) (arrive-silent c.name) (arrive-shape c.name c.address (acts.Arrived c.name o ∷ w) o)
+    shaped-silent (ArriveAnswer c.name) (arrive_acts c.name c.address (acts.Arrived c.name o ∷ w) o) (arrive-silent c.name)
+        (arrive-shape c.name c.address (acts.Arrived c.name o ∷ w) o)
 
 arrives-silent : (w : List Act) (o : List ℕ) (c : Option node.Gateway) → are_silent (arrives_at w o c) ≡ true
 arrives-silent w o None = refl
@@ -122,70 +129,91 @@ told-silent ps (a ∷ xs) = joined (told ps a) (all_told ps xs) (one-told ps a) 
 
 -- ---- each event
 
-silent-block : (shows : Shows) (header : Header) (p : Past) (e : Event) → are_silent (gateway_acts shows header (took p.world) e) ≡ true → AllCreated p.world → AllCreated (after p.world (block shows header p e))
+silent-block : (shows : Shows) (header : Header) (p : Past) (e : Event) → are_silent (gateway_acts shows header (took p.world) e) ≡ true
+    → AllCreated p.world → AllCreated (after p.world (block shows header p e))
 silent-block shows header p e s m =
     let xs : List Act = gateway_acts shows header (took p.world) e in
     let ys : List Act = all_told header.gateways (controller_acts header p e) in
     silent-made (took p.world) (xs ++ ys) (joined xs ys s (told-silent header.gateways (controller_acts header p e))) m
 
-handles-made : (header : Header) (p : Past) (g : List ℕ) (o : Option Order) (q : Option Peer) → IsHeader header → Stands header p → AllCreated p.world → next_request g (took p.world) ≡ o
+handles-made : (header : Header) (p : Past) (g : List ℕ) (o : Option Order) (q : Option Peer) → IsHeader header → Stands header p
+    → AllCreated p.world → next_request g (took p.world) ≡ o
     → AllCreated (after (took p.world) (handles_at (took p.world) (with_peer header g q) o))
 handles-made header p g None q i s m e = m
 handles-made header p g (Some o) None i s m e = m
 handles-made header p g (Some o) (Some x) i s m e =
     let w : List Act = took p.world in
     let r = reply (tree_of g w) (ask_of o) in
-    let made = next-made header.gateways w p.controller g o (s.ready, s.lawful) (record { part = s.meet.part; past = s.meet.past; fit = s.meet.fit }) i.named m refl e in
+    let made = next-made header.gateways w p.controller g o (s.ready, s.lawful) (record { part = s.meet.part; past = s.meet.past; fit =
+        s.meet.fit }) i.named m refl e in
     reply-made g (session_taken g w) (requests g w + 1) r (answer_of r) r.change w made m
 
-down-made : (shows : Shows) (header : Header) (p : Past) (g : List ℕ) → IsHeader header → Stands header p → AllCreated p.world → AllCreated (after p.world (block shows header p (events.Down g)))
+down-made : (shows : Shows) (header : Header) (p : Past) (g : List ℕ) → IsHeader header → Stands header p → AllCreated p.world
+    → AllCreated (after p.world (block shows header p (events.Down g)))
 down-made shows header p g i s m =
     let w : List Act = took p.world in
     let xs : List Act = handles_at w (gateway_at header g) (next_request g w) in
-    subst (λ (z : List Act). AllCreated (after w z)) (sym (append-nil xs)) (handles-made header p g (next_request g w) (find (λ x. bytes_eq x.name g) header.gateways) i s m refl)
+    subst (λ (z : List Act). AllCreated (after w z)) (sym (append-nil xs))
+        (handles-made header p g (next_request g w) (find (λ x. bytes_eq x.name g) header.gateways) i s m refl)
 
-step-made : (shows : Shows) (header : Header) (p : Past) (e : Event) → IsHeader header → Stands header p → AllCreated p.world → AllCreated (after p.world (block shows header p e))
+step-made : (shows : Shows) (header : Header) (p : Past) (e : Event) → IsHeader header → Stands header p → AllCreated p.world
+    → AllCreated (after p.world (block shows header p e))
 step-made shows header p (events.Down g) i s m = down-made shows header p g i s m
-step-made shows header p (events.Let g o) i s m = silent-block shows header p (events.Let g o) (lets-silent o (took p.world) (gateway_at header g)) m
+step-made shows header p (events.Let g o) i s m =
+    silent-block shows header p (events.Let g o) (lets-silent o (took p.world) (gateway_at header g)) m
 step-made shows header p (events.Now t) i s m =
-    silent-block shows header p (events.Now t) (raised-silent header (acts.Now (max t (clock (took p.world))) ∷ took p.world) (nat_lt (clock (took p.world)) t)) m
+    silent-block shows header p (events.Now t) (raised-silent header (acts.Now (max t (clock (took p.world))) ∷ took p.world)
+        (nat_lt (clock (took p.world)) t)) m
 step-made shows header p (events.Boot g) i s m = silent-block shows header p (events.Boot g) (boots-silent g (gateway_at header g)) m
 step-made shows header p (events.Wire g lane) i s m = silent-block shows header p (events.Wire g lane) refl m
 step-made shows header p e i s m = silent-block shows header p e (arrival-silent header (took p.world) (arrival_of (took p.world) e)) m
 
 -- ---- all events
 
-made-history : (shows : Shows) (header : Header) (p : Past) (es : List Event) → IsHeader header → AreEventsOf header es → Stands header p → AllCreated p.world
+made-history : (shows : Shows) (header : Header) (p : Past) (es : List Event) → IsHeader header → AreEventsOf header es → Stands header p
+    → AllCreated p.world
     → AllCreated (after p.world (history shows header p es))
 made-history shows header p [] i k s m = m
-made-history shows header p (e ∷ es) i k s m = made-case (is_forged_event header p e) refl (λ t. made-history shows header (past_after shows header p e) es i k.1 t (step-made shows header p e i s m)) where
+made-history shows header p (e ∷ es) i k s m =
+    made-case (is_forged_event header p e) refl (λ t. made-history shows header (past_after shows header p e) es i k.1 t
+    (step-made shows header p e i s m)) where
   made-case : (b : Bool) → is_forged_event header p e ≡ b
-      → (Stands header (past_after shows header p e) → AllCreated (after (past_after shows header p e).world (history shows header (past_after shows header p e) es)))
+      → (Stands header (past_after shows header p e)
+          → AllCreated (after (past_after shows header p e).world (history shows header (past_after shows header p e) es)))
       → AllCreated (after p.world (block shows header p e ++ unless_forged b (history shows header (past_after shows header p e) es)))
-  made-case true f ih = subst (λ (z : List Act). AllCreated (after p.world z)) (sym (append-nil (block shows header p e))) (step-made shows header p e i s m)
-  made-case false f ih = subst AllCreated (sym (after-append p.world (block shows header p e) (history shows header (past_after shows header p e) es))) (ih (step shows header p e i k.0 s f).stands)
+  made-case true f ih = subst (λ (z : List Act). AllCreated (after p.world z)) (sym (append-nil (block shows header p e)))
+      (step-made shows header p e i s m)
+  made-case false f ih =
+      subst AllCreated (sym (after-append p.world (block shows header p e) (history shows header (past_after shows header p e) es)))
+      (ih (step shows header p e i k.0 s f).stands)
 
-pub unrefused : (shows : Shows) (header : Header) (es : List Event) → IsHeader header → AreEventsOf header es → NoneRefused (after [] (history shows header nothing es))
+pub unrefused : (shows : Shows) (header : Header) (es : List Event) → IsHeader header → AreEventsOf header es
+    → NoneRefused (after [] (history shows header nothing es))
 unrefused shows header es i k =
-    none-refused header.gateways (after [] (history shows header nothing es)) (lawful-history shows header nothing es i k (start header)) (made-history shows header nothing es i k (start header) tt)
+    none-refused header.gateways (after [] (history shows header nothing es)) (lawful-history shows header nothing es i k (start header))
+        (made-history shows header nothing es i k (start header) tt)
 
 -- ---- so few halves are live
 
 -- each put was answered with 201 or refused, for the controller
-pub plain-at : (shows : Shows) (header : Header) (es : List Event) → IsHeader header → AreEventsOf header es → AreGenuine shows header nothing es
+pub plain-at : (shows : Shows) (header : Header) (es : List Event) → IsHeader header → AreEventsOf header es
+    → AreGenuine shows header nothing es
     → PlainAnswers (past_at shows header nothing es).controller
 plain-at shows header es i k g =
     let p : Past = past_at shows header nothing es in
     let s = stands-at shows header nothing es i k g (start header) in
-    plain header.gateways p.world p.controller s.lawful s.meet i.named (subst AllCreated (history-at shows header nothing es g) (made-history shows header nothing es i k (start header) tt))
+    plain header.gateways p.world p.controller s.lawful s.meet i.named (subst AllCreated (history-at shows header nothing es g)
+        (made-history shows header nothing es i k (start header) tt))
 
-pub left-at : (shows : Shows) (header : Header) (es : List Event) → IsHeader header → AreEventsOf header es → AreGenuine shows header nothing es
+pub left-at : (shows : Shows) (header : Header) (es : List Event) → IsHeader header → AreEventsOf header es
+    → AreGenuine shows header nothing es
     → (d : Way) → length (left d (past_at shows header nothing es).controller) ≤ 2
 left-at shows header es i k g d =
     let s = stands-at shows header nothing es i k g (start header) in
     few-left (length header.gateways) (past_at shows header nothing es).controller s.meet.past (plain-at shows header es i k g) d
 
-pub live-at : (shows : Shows) (header : Header) (es : List Event) → IsHeader header → AreEventsOf header es → AreGenuine shows header nothing es
+pub live-at : (shows : Shows) (header : Header) (es : List Event) → IsHeader header → AreEventsOf header es
+    → AreGenuine shows header nothing es
     → (g : List ℕ) → length (live g (past_at shows header nothing es).world) ≤ 4096
 live-at shows header es i k g f =
     let p : Past = past_at shows header nothing es in

@@ -13,7 +13,8 @@ use Rattle.ikeless_tree.specs.declared.fault.Feature.TheVariants as features
 
 -- letters, digits, dot, underscore and dash
 abbrev pub is_word_octet : ℕ → Bool
-is_word_octet b = (nat_le 65 b && nat_le b 90) || (nat_le 97 b && nat_le b 122) || (nat_le 48 b && nat_le b 57) || (b == 46) || (b == 95) || (b == 45)
+is_word_octet b = (nat_le 65 b && nat_le b 90) || (nat_le 97 b && nat_le b 122) || (nat_le 48 b && nat_le b 57) || (b == 46) || (b == 95)
+    || (b == 45)
 
 -- letters, digits, dot, underscore, dash and slash
 abbrev pub is_path_octet : ℕ → Bool
@@ -29,7 +30,8 @@ is_serial text = nat_le 1 (length text) && nat_le (length text) 60 && list_all i
 
 -- the name is this direction with its slash, and then a serial
 abbrev pub has_front : List ℕ → List ℕ → Bool
-has_front front name = nat_le (length front) (length name) && (bytes_eq (take (length front) name) front && is_serial (drop (length front) name))
+has_front front name = nat_le (length front) (length name)
+    && (bytes_eq (take (length front) name) front && is_serial (drop (length front) name))
 
 -- the name of an association: its direction, a slash and a serial
 abbrev pub is_sad_name : List ℕ → Bool

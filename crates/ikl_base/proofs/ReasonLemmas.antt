@@ -7,7 +7,8 @@ use Rattle.ikl_base.specs.declared.status.LineFault.TheVariants as faults
 use Rattle.ikl_base.specs.Reasons.{all_reasons, reason_of, reason_text}
 
 -- a value that is found by its word has that word
-pub word_of-found : {A : Type 0} (text : A → List ℕ) (all : List A) (w : List ℕ) (x : A) → find (λ y. bytes_eq (text y) w) all ≡ Some x → w ≡ text x
+pub word_of-found : {A : Type 0} (text : A → List ℕ) (all : List A) (w : List ℕ) (x : A) → find (λ y. bytes_eq (text y) w) all ≡ Some x
+    → w ≡ text x
 word_of-found text [] w x e = absurd (let no : ⊥ = cc in no)
 word_of-found {A} text (y ∷ ys) w x e = by_test (bytes_eq (text y) w) refl e (word_of-found text ys w x)
   where

@@ -25,7 +25,8 @@ upper_of-step next (x ∷ o) =
     let shorter = length-drop (extension_length all) all in
     ap (upper_step next all) (upper_within-same (length o) (length rest) (slice_index all 0) rest (omega arith) (omega arith))
 
-pub upper_of-more : (next : ℕ) (o : List ℕ) → is_extension next ≡ true → 8 ≤ length o → extension_length o ≤ length o → upper_of next o ≡ upper_of (slice_index o 0) (drop (extension_length o) o)
+pub upper_of-more : (next : ℕ) (o : List ℕ) → is_extension next ≡ true → 8 ≤ length o → extension_length o ≤ length o
+    → upper_of next o ≡ upper_of (slice_index o 0) (drop (extension_length o) o)
 upper_of-more next o is all whole = rw (upper_of-step next o) (grind (arith, nat_tests))
 
 pub upper_of-short : (next : ℕ) (o : List ℕ) → is_extension next ≡ true → length o < 8 → upper_of next o ≡ Err faults.Length

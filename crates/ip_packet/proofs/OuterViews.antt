@@ -21,7 +21,8 @@ abbrev by_tests : Bool → Bool → Bool → Packet → Result Packet NotPacket
 by_tests length sum fragment p =
     if length then Err faults.Length else if sum then Err faults.HeaderSum else if fragment then Err faults.Fragment else Ok p
 
-view_of-good_4 : (o : List ℕ) (p : Packet) → (version o == 4) ≡ true → is_short o ≡ false → is_length_wrong o ≡ false → is_sum_wrong o ≡ false → is_fragment o ≡ false → packet_4 o ≡ p → view_of o ≡ Ok p
+view_of-good_4 : (o : List ℕ) (p : Packet) → (version o == 4) ≡ true → is_short o ≡ false → is_length_wrong o ≡ false
+    → is_sum_wrong o ≡ false → is_fragment o ≡ false → packet_4 o ≡ p → view_of o ≡ Ok p
 view_of-good_4 o p four long length sum fragment e =
     view_of-4 o four
     ∙ ap (λ b. if b then Err faults.Short else view_of_4 o) long
@@ -30,7 +31,9 @@ view_of-good_4 o p four long length sum fragment e =
     ∙ ap (λ b. by_tests false false b (packet_4 o)) fragment
     ∙ ap Ok e
 
-view_of-good_6 : (o : List ℕ) (p : Packet) (proto : ℕ) (payload : List ℕ) → (version o == 6) ≡ true → is_short o ≡ false → is_payload_wrong o ≡ false → upper_of (slice_index o 6) (drop 40 o) ≡ Ok (proto, payload) → packet_6 o proto payload ≡ p → view_of o ≡ Ok p
+view_of-good_6 : (o : List ℕ) (p : Packet) (proto : ℕ) (payload : List ℕ) → (version o == 6) ≡ true → is_short o ≡ false
+    → is_payload_wrong o ≡ false → upper_of (slice_index o 6) (drop 40 o) ≡ Ok (proto, payload) → packet_6 o proto payload ≡ p
+    → view_of o ≡ Ok p
 view_of-good_6 o p proto payload six long length upper e =
     view_of-6 o six
     ∙ ap (λ b. if b then Err faults.Short else view_of_6 o) long
@@ -43,7 +46,8 @@ take-first : (a b c : List ℕ) (n : ℕ) → length a ≡ n → take n (a ++ b 
 take-first a b c n size = ap (take n) (append_assoc a b c) ∙ take_at a (b ++ c) n size
 
 take-second : (a b c : List ℕ) (n m : ℕ) → length a ≡ n → length b ≡ m → take m (drop n (a ++ b ++ c)) ≡ b
-take-second a b c n m size other = ap (λ l. take m (drop n l)) (append_assoc a b c) ∙ ap (take m) (drop_at a (b ++ c) n size) ∙ take_at b c m other
+take-second a b c n m size other = ap (λ l. take m (drop n l)) (append_assoc a b c) ∙ ap (take m) (drop_at a (b ++ c) n size)
+    ∙ take_at b c m other
 
 length-both : (a b : List ℕ) (n m : ℕ) → length a ≡ n → length b ≡ m → length (a ++ b) ≡ n + m
 length-both a b n m size other = omega (arith, length-append a b)
@@ -65,7 +69,8 @@ packet src dst df payload = record { src = V4 src; dst = V4 dst; proto = 50; por
 abbrev packet_of_6 : List ℕ → List ℕ → List ℕ → Packet
 packet_of_6 src dst payload = record { src = V6 src; dst = V6 dst; proto = 50; ports = None; df = true; payload = payload }
 
-sealed-4 : (o : Outer) (src dst payload : List ℕ) → length src ≡ 4 → length dst ≡ 4 → length payload ≡ o.payload → view_of (header_between o (V4 src) (V4 dst) ++ payload) ≡ Ok (packet src dst o.df payload)
+sealed-4 : (o : Outer) (src dst payload : List ℕ) → length src ≡ 4 → length dst ≡ 4 → length payload ≡ o.payload
+    → view_of (header_between o (V4 src) (V4 dst) ++ payload) ≡ Ok (packet src dst o.df payload)
 sealed-4 o src dst payload ls ld told =
     let n : ℕ = o.payload + 20 in
     let sum : ℕ = sum_for (header_4 o (src ++ dst) 0) in
@@ -90,7 +95,8 @@ sealed-4 o src dst payload ls ld told =
 no_fragment : (next : ℕ) → next ≡ 50 → next ≢ 44
 no_fragment next e h = absurd (omega arith)
 
-sealed-6 : (o : Outer) (src dst payload : List ℕ) → length src ≡ 16 → length dst ≡ 16 → length payload ≡ o.payload → view_of (header_between o (V6 src) (V6 dst) ++ payload) ≡ Ok (packet_of_6 src dst payload)
+sealed-6 : (o : Outer) (src dst payload : List ℕ) → length src ≡ 16 → length dst ≡ 16 → length payload ≡ o.payload
+    → view_of (header_between o (V6 src) (V6 dst) ++ payload) ≡ Ok (packet_of_6 src dst payload)
 sealed-6 o src dst payload ls ld told =
     let rest : List ℕ = src ++ dst ++ payload in
     let all : List ℕ = header_between o (V6 src) (V6 dst) ++ payload in
@@ -99,14 +105,17 @@ sealed-6 o src dst payload ls ld told =
     let long : is_short all ≡ false = grind (arith, nat_tests) in
     let whole : is_payload_wrong all ≡ false = grind (arith, nat_tests) in
     let behind : drop 40 all ≡ payload = drop_at (src ++ dst) payload 32 both in
-    let upper : upper_of 50 (drop 40 all) ≡ Ok (50, payload) = ap (upper_of 50) behind ∙ upper_of-end 50 payload refl (no_fragment 50 refl) in
+    let upper : upper_of 50 (drop 40 all) ≡ Ok (50, payload) = ap (upper_of 50) behind ∙ upper_of-end 50 payload refl (no_fragment 50 refl)
+        in
     let says : packet_6 all 50 payload ≡ packet_of_6 src dst payload =
     ap (λ x. packet_of_6 x (take 16 (drop 16 rest)) payload) (take-first src dst payload 16 ls)
     ∙ ap (λ x. packet_of_6 src x payload) (take-second src dst payload 16 16 ls ld) in
     view_of-good_6 all (packet_of_6 src dst payload) 50 payload refl long whole upper says
 
 -- a header between these addresses, and what it says with its payload
-pub sealed : (o : Outer) (src dst : Addr) (payload : List ℕ) → AreOneFamily src dst → length payload ≡ o.payload → view_of (header_between o src dst ++ payload) ≡ Ok (record { src = src; dst = dst; proto = 50; ports = None; df = keeps_whole src o.df; payload = payload })
+pub sealed : (o : Outer) (src dst : Addr) (payload : List ℕ) → AreOneFamily src dst → length payload ≡ o.payload
+    → view_of (header_between o src dst ++ payload) ≡ Ok (record { src = src; dst = dst; proto = 50; ports = None; df =
+    keeps_whole src o.df; payload = payload })
 sealed o (V4 src) (V4 dst) payload are told = sealed-4 o src dst payload are.0 are.1 told
 sealed o (V4 src) (V6 dst) payload are told = absurd are
 sealed o (V6 src) (V4 dst) payload are told = absurd are
@@ -118,7 +127,8 @@ sealed-size o (V4 src) (V6 dst) are = absurd are
 sealed-size o (V6 src) (V4 dst) are = absurd are
 sealed-size o (V6 src) (V6 dst) are = let both = length-both src dst 16 16 are.0 are.1 in omega arith
 
-pub sealed-id : (o : Outer) (src dst rest : List ℕ) → o.src ≡ V4 src → o.dst ≡ V4 dst → number_at (header_between o o.src o.dst ++ rest) 4 ≡ o.id
+pub sealed-id : (o : Outer) (src dst rest : List ℕ) → o.src ≡ V4 src → o.dst ≡ V4 dst → number_at (header_between o o.src o.dst ++ rest) 4 ≡
+    o.id
 sealed-id o src dst rest es ed =
     let split : 256 * (o.id / 256) + o.id % 256 ≡ o.id = omega arith in
     ap (λ a. number_at (header_between o a o.dst ++ rest) 4) es ∙ ap (λ a. number_at (header_between o (V4 src) a ++ rest) 4) ed ∙ split

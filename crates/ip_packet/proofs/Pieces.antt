@@ -3,14 +3,16 @@ use Rattle.std.proofs.Common.{◌≡◌, ℕ, ◌+◌, List, ◌++◌, length, t
 use Rattle.std.proofs.Math.Seq.{drop-append-add}
 use Rattle.std.proofs.lemmas.List.{take_at, drop-drop}
 
-drop-behind : (front old piece : List ℕ) (n : ℕ) → length front ≡ n → drop (n + length piece) (front ++ drop n old) ≡ drop (n + length piece) old
+drop-behind : (front old piece : List ℕ) (n : ℕ) → length front ≡ n → drop (n + length piece) (front ++ drop n old) ≡ drop
+    (n + length piece) old
 drop-behind front old piece n e =
     ap (λ k. drop (k + length piece) (front ++ drop n old)) (sym e)
     ∙ drop-append-add front (drop n old) (length piece)
     ∙ drop-drop (length piece) n old
 
 -- a piece behind those written so far
-pub piece-next : (front piece old out new : List ℕ) (n m : ℕ) → out ≡ front ++ drop n old → length front ≡ n → n + length piece ≡ m → new ≡ take n out ++ (piece ++ drop (n + length piece) out) → new ≡ front ++ piece ++ drop m old
+pub piece-next : (front piece old out new : List ℕ) (n m : ℕ) → out ≡ front ++ drop n old → length front ≡ n → n + length piece ≡ m
+    → new ≡ take n out ++ (piece ++ drop (n + length piece) out) → new ≡ front ++ piece ++ drop m old
 piece-next front piece old out new n m e size end is =
     let place : n + length piece ≡ m = end in
     is

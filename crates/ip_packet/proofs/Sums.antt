@@ -8,7 +8,8 @@ complement : (w : ℕ) → (w + (65535 - w % 65535) % 65535) % 65535 ≡ 0
 complement w = omega arith
 
 -- a header whose sixth word is the sum for the others
-pub words_sum-complete : (a b c d e f g h i j : ℕ) (rest : List ℕ) → let sum = sum_for (a ∷ b ∷ c ∷ d ∷ e ∷ f ∷ g ∷ h ∷ i ∷ j ∷ 0 ∷ 0 ∷ rest) in words_sum (a ∷ b ∷ c ∷ d ∷ e ∷ f ∷ g ∷ h ∷ i ∷ j ∷ (sum / 256) ∷ (sum % 256) ∷ rest) % 65535 ≡ 0
+pub words_sum-complete : (a b c d e f g h i j : ℕ) (rest : List ℕ) → let sum = sum_for (a ∷ b ∷ c ∷ d ∷ e ∷ f ∷ g ∷ h ∷ i ∷ j ∷ 0 ∷ 0
+    ∷ rest) in words_sum (a ∷ b ∷ c ∷ d ∷ e ∷ f ∷ g ∷ h ∷ i ∷ j ∷ (sum / 256) ∷ (sum % 256) ∷ rest) % 65535 ≡ 0
 words_sum-complete a b c d e f g h i j rest =
     let empty : ℕ = words_sum (a ∷ b ∷ c ∷ d ∷ e ∷ f ∷ g ∷ h ∷ i ∷ j ∷ 0 ∷ 0 ∷ rest) in
     let sum : ℕ = sum_for (a ∷ b ∷ c ∷ d ∷ e ∷ f ∷ g ∷ h ∷ i ∷ j ∷ 0 ∷ 0 ∷ rest) in

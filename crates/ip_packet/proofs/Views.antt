@@ -12,24 +12,28 @@ use Rattle.ip_packet.specs.Ttl.{without_sum, with_ttl_4, with_ttl}
 use Rattle.ip_packet.proofs.Sums.{words_sum-complete}
 
 -- no fault was found here
-passed : (fault : Bool) (e : NotPacket) (r : Result Packet NotPacket) → is_ok (if fault then Err e else r) ≡ true → (fault ≡ false) × (is_ok r ≡ true)
+passed : (fault : Bool) (e : NotPacket) (r : Result Packet NotPacket) → is_ok (if fault then Err e else r) ≡ true → (fault ≡ false)
+    × (is_ok r ≡ true)
 passed true e r h = absurd (false≢true h)
 passed false e r h = (refl, h)
 
 -- the first of two answers, where it was chosen
-chosen : (test : Bool) (first second : Result Packet NotPacket) → test ≡ true → is_ok (if test then first else second) ≡ true → is_ok first ≡ true
+chosen : (test : Bool) (first second : Result Packet NotPacket) → test ≡ true → is_ok (if test then first else second) ≡ true
+    → is_ok first ≡ true
 chosen true first second is h = h
 chosen false first second is h = absurd (false≢true is)
 
 -- the second of three answers, where the first wasn't chosen and the last is none
-chosen_last : (test next : Bool) (first second : Result Packet NotPacket) → test ≡ false → is_ok (if test then first else if next then second else Err faults.Version) ≡ true → next ≡ true
+chosen_last : (test next : Bool) (first second : Result Packet NotPacket) → test ≡ false
+    → is_ok (if test then first else if next then second else Err faults.Version) ≡ true → next ≡ true
 chosen_last true next first second other h = absurd (false≢true (sym other))
 chosen_last false true first second other h = refl
 chosen_last false false first second other h = absurd (false≢true h)
 
 -- a view by the tests that choose it
 abbrev answer : List ℕ → Bool → Bool → Result Packet NotPacket → Bool → Result Packet NotPacket
-answer o short six view_4 four = if short then Err faults.Short else if four then view_4 else if six then view_of_6 o else Err faults.Version
+answer o short six view_4 four = if short then Err faults.Short else if four then view_4 else if six then view_of_6 o
+    else Err faults.Version
 
 pub view_of-whole : (o : List ℕ) → is_ok (view_of o) ≡ true → 20 ≤ length o
 unfolding view_of
@@ -80,8 +84,10 @@ view_of_4-with_ttl ttl (a ∷ b ∷ c ∷ d ∷ e ∷ f ∷ g ∷ h ∷ i ∷ j 
     let sum : ℕ = sum_for (take size (without_sum ttl old)) in
     let tail : List ℕ = take (size - 12) rest in
     let enough : 12 ≤ size = omega arith in
-    let empty : take size (without_sum ttl old) ≡ a ∷ b ∷ c ∷ d ∷ e ∷ f ∷ g ∷ h ∷ ttl ∷ j ∷ 0 ∷ 0 ∷ tail = take-behind size (a ∷ b ∷ c ∷ d ∷ e ∷ f ∷ g ∷ h ∷ ttl ∷ j ∷ 0 ∷ 0 ∷ []) rest enough in
-    let header : take size new ≡ a ∷ b ∷ c ∷ d ∷ e ∷ f ∷ g ∷ h ∷ ttl ∷ j ∷ (sum / 256) ∷ (sum % 256) ∷ tail = take-behind size (a ∷ b ∷ c ∷ d ∷ e ∷ f ∷ g ∷ h ∷ ttl ∷ j ∷ (sum / 256) ∷ (sum % 256) ∷ []) rest enough in
+    let empty : take size (without_sum ttl old) ≡ a ∷ b ∷ c ∷ d ∷ e ∷ f ∷ g ∷ h ∷ ttl ∷ j ∷ 0 ∷ 0 ∷ tail =
+        take-behind size (a ∷ b ∷ c ∷ d ∷ e ∷ f ∷ g ∷ h ∷ ttl ∷ j ∷ 0 ∷ 0 ∷ []) rest enough in
+    let header : take size new ≡ a ∷ b ∷ c ∷ d ∷ e ∷ f ∷ g ∷ h ∷ ttl ∷ j ∷ (sum / 256) ∷ (sum % 256) ∷ tail =
+        take-behind size (a ∷ b ∷ c ∷ d ∷ e ∷ f ∷ g ∷ h ∷ ttl ∷ j ∷ (sum / 256) ∷ (sum % 256) ∷ []) rest enough in
     let complete : words_sum (take size new) % 65535 ≡ 0 =
     ap (λ x. words_sum x % 65535) header
     ∙ ap (λ s. words_sum (a ∷ b ∷ c ∷ d ∷ e ∷ f ∷ g ∷ h ∷ ttl ∷ j ∷ (s / 256) ∷ (s % 256) ∷ tail) % 65535) (ap sum_for empty)
@@ -110,7 +116,8 @@ view_of-6 o six =
     let apart : (version o == 4) ≡ false = grind (arith, nat_tests) in
     ap (answer o (is_short o) (version o == 6) (view_of_4 o)) apart ∙ ap (λ b. answer o (is_short o) b (view_of_4 o) false) six
 
-pub view_of-with_ttl_4 : (ttl : ℕ) (o : List ℕ) → 20 ≤ length o → IsPacket4 o → (version o == 4) ≡ true → view_of (with_ttl_4 ttl o) ≡ view_of o
+pub view_of-with_ttl_4 : (ttl : ℕ) (o : List ℕ) → 20 ≤ length o → IsPacket4 o → (version o == 4) ≡ true
+    → view_of (with_ttl_4 ttl o) ≡ view_of o
 view_of-with_ttl_4 ttl (a ∷ b ∷ c ∷ d ∷ e ∷ f ∷ g ∷ h ∷ i ∷ j ∷ k ∷ l ∷ rest) long is four =
     let old : List ℕ = a ∷ b ∷ c ∷ d ∷ e ∷ f ∷ g ∷ h ∷ i ∷ j ∷ k ∷ l ∷ rest in
     view_of-4 (with_ttl_4 ttl old) four
@@ -125,7 +132,8 @@ view_of-with_ttl_6 ttl (a ∷ b ∷ c ∷ d ∷ e ∷ f ∷ g ∷ h ∷ rest) lo
 view_of-with_ttl_6 ttl _ long six = absurd (omega arith)
 
 -- another time to live keeps the view, by whether there is one and the version is 4
-keeps : (ttl : ℕ) (o : List ℕ) (has four : Bool) → is_ok (view_of o) ≡ has → (version o == 4) ≡ four → view_of (if has then (if four then with_ttl_4 ttl o else slice_set o 7 ttl) else o) ≡ view_of o
+keeps : (ttl : ℕ) (o : List ℕ) (has four : Bool) → is_ok (view_of o) ≡ has → (version o == 4) ≡ four
+    → view_of (if has then (if four then with_ttl_4 ttl o else slice_set o 7 ttl) else o) ≡ view_of o
 keeps ttl o true true h is = view_of-with_ttl_4 ttl o (view_of-whole o h) (view_of-packet_4 o h is) is
 keeps ttl o true false h is = view_of-with_ttl_6 ttl o (view_of-whole o h) (view_of-version o h is)
 keeps ttl o false four h is = refl

@@ -34,4 +34,5 @@ has_ports proto = (proto == 6) || (proto == 17) || (proto == 132)
 
 -- the first four octets of the payload: the source's port and the destination's
 abbrev pub ports_of : ℕ → List ℕ → Option (ℕ × ℕ)
-ports_of proto payload = if has_ports proto && not (nat_lt (length payload) 4) then Some (number_at payload 0, number_at payload 2) else None
+ports_of proto payload = if has_ports proto && not (nat_lt (length payload) 4) then Some (number_at payload 0, number_at payload 2)
+    else None

@@ -18,7 +18,8 @@ use Rattle.ikeless_tree.specs.Typed.{AreTypedPolicies, IsTypedTunnel, IsTypedCom
 use Rattle.json_tree.proofs.PolicyAgain.{wide_again, prefix_text_again, window_again, entries_again}
 use Rattle.json_tree.proofs.HalfAgain.{CanHex, limits_again, none_is}
 
-list_again : (gateway : List ℕ) (es : List SpdEntry) → is_gateway gateway ≡ true → AreTypedPolicies es → spd_fault es ≡ None → IsListInput gateway es (policy_input gateway es)
+list_again : (gateway : List ℕ) (es : List SpdEntry) → is_gateway gateway ≡ true → AreTypedPolicies es → spd_fault es ≡ None
+    → IsListInput gateway es (policy_input gateway es)
 unfolding policy_input
 list_again gateway es named typed h = record { members = refl; gateway = (refl, named); list = entries_again es typed h }
 
@@ -26,12 +27,15 @@ list_again gateway es named typed h = record { members = refl; gateway = (refl, 
 abbrev tunnel_where : (h s : Bool) → TunnelSpec → Data
 tunnel_where h s t =
     let soft = if s then no_members else put (codes "soft") (object (limits_members t.soft)) no_members in
-    let second = put (codes "reqid") (wide t.reqid) (put (codes "second") (string t.second) (put (codes "second-prefix") (string (prefix_text t.second_prefix)) soft)) in
+    let second = put (codes "reqid") (wide t.reqid)
+        (put (codes "second") (string t.second) (put (codes "second-prefix") (string (prefix_text t.second_prefix)) soft)) in
     let mode = put (codes "mode") (word (mode_text t.now)) second in
     let hard = if h then mode else put (codes "hard") (object (limits_members t.hard)) mode in
-    object (put (codes "anti-replay-window-size") (count t.window) (put (codes "first") (string t.first) (put (codes "first-prefix") (string (prefix_text t.first_prefix)) hard)))
+    object (put (codes "anti-replay-window-size") (count t.window)
+        (put (codes "first") (string t.first) (put (codes "first-prefix") (string (prefix_text t.first_prefix)) hard)))
 
-tunnel_by : (h s : Bool) (t : TunnelSpec) → IsTypedTunnel t → is_gateway t.first ≡ true → is_gateway t.second ≡ true → is_window t.window ≡ true → has_no_limits t.hard ≡ h → has_no_limits t.soft ≡ s → IsTunnelInput t (tunnel_where h s t)
+tunnel_by : (h s : Bool) (t : TunnelSpec) → IsTypedTunnel t → is_gateway t.first ≡ true → is_gateway t.second ≡ true
+    → is_window t.window ≡ true → has_no_limits t.hard ≡ h → has_no_limits t.soft ≡ s → IsTunnelInput t (tunnel_where h s t)
 tunnel_by true true t typed first second window eh es = record {
   members = refl;
   window = window_again t.window window;
@@ -81,7 +85,8 @@ tunnel_by false false t typed first second window eh es = record {
   soft = limits_again t.soft typed.soft;
 }
 
-tunnel_again : (t : TunnelSpec) → IsTypedTunnel t → is_gateway t.first ≡ true → is_gateway t.second ≡ true → is_window t.window ≡ true → IsTunnelInput t (tunnel_input t)
+tunnel_again : (t : TunnelSpec) → IsTypedTunnel t → is_gateway t.first ≡ true → is_gateway t.second ≡ true → is_window t.window ≡ true
+    → IsTunnelInput t (tunnel_input t)
 unfolding tunnel_input with_first with_second
 tunnel_again t typed first second window = tunnel_by (has_no_limits t.hard) (has_no_limits t.soft) t typed first second window refl refl
 

@@ -58,7 +58,8 @@ list_command_ok op c d is h =
       },
     )
 
-list_command_back : (gateway : List ℕ) (es : List SpdEntry) (d : Data) → IsListInput gateway es d → list_command d ≡ Ok (commands.Policy gateway es)
+list_command_back : (gateway : List ℕ) (es : List SpdEntry) (d : Data) → IsListInput gateway es d
+    → list_command d ≡ Ok (commands.Policy gateway es)
 unfolding list_command list_input_shape
 list_command_back gateway es d h =
     let needs = codes "gateway" ∷ codes "spd-entry" ∷ [] in
@@ -85,7 +86,8 @@ first_ok f d h =
     let c = bind_ok (prefix_in (codes "first-prefix") d) _ f b.2 in
     let e = bind_ok (limits_of (codes "hard") (get (codes "hard") d)) _ f c.2 in
     subst (λ (x : FirstEnd). IsFirst x d) (ok_is _ f e.2) (record {
-      window = needed_number_ok 32 4096 a.0 (get (codes "anti-replay-window-size") d) (member_ok (codes "anti-replay-window-size") _ a.0 a.1);
+      window = needed_number_ok 32 4096 a.0 (get (codes "anti-replay-window-size") d) (member_ok (codes "anti-replay-window-size") _ a.0
+          a.1);
       name = name_ok is_gateway b.0 (get (codes "first") d) (member_ok (codes "first") _ b.0 b.1);
       prefix = needed_prefix_ok c.0 (get (codes "first-prefix") d) (member_ok (codes "first-prefix") _ c.0 c.1);
       hard = limits_of_ok (codes "hard") e.0 (get (codes "hard") d) e.1;
@@ -169,9 +171,11 @@ tunnel_command_back : (t : TunnelSpec) (d : Data) → IsTunnelInput t d → tunn
 unfolding tunnel_command tunnel_input_shape
 tunnel_command_back t d h =
     let lacking : list_any (lacks d) tunnel_needs ≡ false =
-    rw (there _ _ h.window, there _ _ h.first, there _ _ h.first_prefix, there _ _ h.mode, there _ _ h.reqid, there _ _ h.second, there _ _ h.second_prefix) refl in
+    rw (there _ _ h.window, there _ _ h.first, there _ _ h.first_prefix, there _ _ h.mode, there _ _ h.reqid, there _ _ h.second, there _ _
+        h.second_prefix) refl in
     let first = first_back (first_of t) d (record { window = h.window; name = h.first; prefix = h.first_prefix; hard = h.hard }) in
-    let second = second_back (second_of t) d (record { mode = h.mode; reqid = h.reqid; name = h.second; prefix = h.second_prefix; soft = h.soft }) in
+    let second = second_back (second_of t) d (record { mode = h.mode; reqid = h.reqid; name = h.second; prefix = h.second_prefix; soft =
+        h.soft }) in
     rw (shape_of (codes "hard" ∷ codes "soft" ∷ tunnel_needs) tunnel_needs d h.members lacking, first, second) refl
 
 -- ---- numbers and keys
@@ -218,7 +222,8 @@ last_by p q r s t h a b c e = let k : (p || q || r || s || t) ≡ t = rw (a, b, 
 
 input_by : (op : List ℕ) (c : Command) (d : Data) (p q r s : Bool) → is_operation op ≡ true →
     bytes_eq op (codes "policy") ≡ p → bytes_eq op (codes "tunnel") ≡ q → bytes_eq op (codes "end") ≡ r → bytes_eq op (codes "rekey") ≡ s →
-    (if p then list_command d else if q then tunnel_command d else if r then end_command d else if s then rekey_command d else keys_command d) ≡ Ok c → IsInput op c d
+    (if p then list_command d else if q then tunnel_command d else if r then end_command d else if s then rekey_command d
+        else keys_command d) ≡ Ok c → IsInput op c d
 input_by op c d true q r s lawful a b e f h = list_command_ok op c d ((bytes_eq-Decides op (codes "policy")).0 a) h
 input_by op c d false true r s lawful a b e f h = tunnel_command_ok op c d ((bytes_eq-Decides op (codes "tunnel")).0 b) h
 input_by op c d false false true s lawful a b e f h = end_ok op c d ((bytes_eq-Decides op (codes "end")).0 e) h
@@ -238,7 +243,8 @@ input_back op (commands.End reqid) d h = rw h.0 (rw (reqid_back reqid d h.1) ref
 input_back op (commands.Rekey reqid) d h = rw h.0 (rw (reqid_back reqid d h.1) refl)
 input_back op (commands.Keys key) d h = rw h.0 (rw (key_back key d h.1) refl)
 
-pub command_ok : (op : List ℕ) (c : Command) (d : Data) → is_operation op ≡ true → command_in op d ≡ Ok c → IsCommand op c d × (command_fault c ≡ None)
+pub command_ok : (op : List ℕ) (c : Command) (d : Data) → is_operation op ≡ true → command_in op d ≡ Ok c → IsCommand op c d
+    × (command_fault c ≡ None)
 unfolding command_in inputs_in
 command_ok op c d lawful h =
     let a = bind_ok (inputs_in op d) _ c h in
@@ -249,5 +255,6 @@ command_ok op c d lawful h =
 pub command_back : (op : List ℕ) (c : Command) (d : Data) → IsCommand op c d → command_fault c ≡ None → command_in op d ≡ Ok c
 unfolding command_in inputs_in
 command_back op c d h none =
-    let inputs : inputs_in op d ≡ Ok c = only_of (codes "ikl-control:input") (input_in op) (IsInput op c) c d (λ e k. input_back op c e k) h in
+    let inputs : inputs_in op d ≡ Ok c = only_of (codes "ikl-control:input") (input_in op) (IsInput op c) c d (λ e k. input_back op c e k) h
+        in
     rw (inputs, none) refl

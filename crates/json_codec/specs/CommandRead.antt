@@ -21,7 +21,8 @@ use Rattle.json_tree.specs.SadEntryRead.{limits_of}
 
 -- one of the five operations that give a command
 abbrev pub is_operation : List ℕ → Bool
-is_operation op = bytes_eq op (codes "policy") || bytes_eq op (codes "tunnel") || bytes_eq op (codes "end") || bytes_eq op (codes "rekey") || bytes_eq op (codes "keys")
+is_operation op = bytes_eq op (codes "policy") || bytes_eq op (codes "tunnel") || bytes_eq op (codes "end") || bytes_eq op (codes "rekey")
+    || bytes_eq op (codes "keys")
 
 -- the operation that gives this command
 abbrev pub operation_of : Command → List ℕ

@@ -74,7 +74,8 @@ flat_no_items n = record { plain = refl; shallow = omega arith }
 -- ---- selectors
 
 flat_range : (r : Range) → IsFlat 1 (range_data r)
-flat_range r = flat_object 0 _ (flat_put 0 (codes "end") _ _ (flat_count 0 r.end) (flat_put 0 (codes "start") _ _ (flat_count 0 r.start) (flat_none 0)))
+flat_range r = flat_object 0 _ (flat_put 0 (codes "end") _ _ (flat_count 0 r.end) (flat_put 0 (codes "start") _ _ (flat_count 0 r.start)
+    (flat_none 0)))
 
 flat_ranges : (rs : List Range) → AreFlatItems 1 (range_items rs)
 flat_ranges [] = flat_no_items 1
@@ -102,7 +103,8 @@ flat_action w = flat_object 2 _ (flat_put 2 (codes "action") _ _ (flat_string 2 
 flat_policy : (e : SpdEntry) → IsFlat 4 (policy_data e)
 unfolding policy_data
 flat_policy e = flat_object 3 _ (flat_put 3 (codes "anti-replay-window-size") _ _ (flat_count 3 e.window)
-    (flat_put 3 (codes "processing-info") _ _ (flat_action _) (flat_put 3 (codes "traffic-selector") _ _ (flat_selector e.selector) (flat_none 3))))
+    (flat_put 3 (codes "processing-info") _ _ (flat_action _) (flat_put 3 (codes "traffic-selector") _ _ (flat_selector e.selector)
+        (flat_none 3))))
 
 flat_spd_entry : (e : SpdEntry) → IsFlat 5 (spd_entry_data e)
 unfolding spd_entry_data

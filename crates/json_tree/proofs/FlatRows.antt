@@ -27,7 +27,9 @@ flat_limits l = flat_with_wide 1 (codes "bytes") l.bytes _ (flat_with_count 1 (c
     (flat_with_count 1 (codes "packets") l.packets _ (flat_with_count 1 (codes "time") l.time no_members (flat_none 1))))
 
 pub flat_lifetime : (name : List ℕ) (l : Limits) (ms : Members) → AreFlat 3 ms → AreFlat 3 (with_lifetime name l ms)
-flat_lifetime name l ms m = flat_if 3 (has_no_limits l) _ _ m (flat_put 3 name (object (limits_members l)) ms (deeper (flat_object 1 (limits_members l) (flat_limits l))) m)
+flat_lifetime name l ms m =
+    flat_if 3 (has_no_limits l) _ _ m
+    (flat_put 3 name (object (limits_members l)) ms (deeper (flat_object 1 (limits_members l) (flat_limits l))) m)
   where
     deeper : IsFlat 2 (object (limits_members l)) → IsFlat 3 (object (limits_members l))
     deeper f = let shallow = f.shallow in record { plain = f.plain; shallow = omega arith }
@@ -36,7 +38,8 @@ flat_soft : (l : Limits) (ms : Members) → AreFlat 3 ms → AreFlat 3 (with_sof
 flat_soft l ms m =
     let inner : Members = put (codes "action") (string (codes "replace")) (limits_members l) in
     flat_if 3 (has_no_limits l) _ _ m (flat_put 3 (codes "sa-lifetime-soft") (object inner) ms
-    (deeper inner (flat_object 1 inner (flat_put 1 (codes "action") _ (limits_members l) (flat_string 1 (codes "replace")) (flat_limits l)))) m)
+    (deeper inner (flat_object 1 inner (flat_put 1 (codes "action") _ (limits_members l) (flat_string 1 (codes "replace"))
+        (flat_limits l)))) m)
   where
     deeper : (inner : Members) → IsFlat 2 (object inner) → IsFlat 3 (object inner)
     deeper inner f = let shallow = f.shallow in record { plain = f.plain; shallow = omega arith }
@@ -51,7 +54,8 @@ flat_key None = flat_none 1
 flat_key (Some key) = flat_put 1 (codes "key") _ no_members (flat_string 1 _) (flat_none 1)
 
 flat_encryption : (key : Option (List ℕ)) → IsFlat 3 (only (codes "encryption") (encryption_data key))
-flat_encryption key = flat_only 2 (codes "encryption") _ (flat_object 1 _ (flat_put 1 (codes "encryption-algorithm") _ _ (flat_count 1 20) (flat_key key)))
+flat_encryption key =
+    flat_only 2 (codes "encryption") _ (flat_object 1 _ (flat_put 1 (codes "encryption-algorithm") _ _ (flat_count 1 20) (flat_key key)))
 
 flat_ends : (e : SadEntry) (ms : Members) → AreFlat 3 ms → AreFlat 3 (with_ends e ms)
 unfolding with_ends
@@ -99,7 +103,8 @@ flat_rows [] = flat_no_items 5
 flat_rows (r ∷ rs) = flat_item 5 _ _ (flat_row r) (flat_rows rs)
 
 pub flat_one_sad_entry : (e : SadEntry) → IsFlat 7 (one_sad_entry e)
-flat_one_sad_entry e = flat_only 6 (codes "ietf-i2nsf-ikeless:sad-entry") _ (flat_array 5 _ (flat_item 5 _ _ (flat_sad_entry e) (flat_no_items 5)))
+flat_one_sad_entry e = flat_only 6 (codes "ietf-i2nsf-ikeless:sad-entry") _
+    (flat_array 5 _ (flat_item 5 _ _ (flat_sad_entry e) (flat_no_items 5)))
 
 pub flat_all_rows : (rs : List SadRow) → IsFlat 8 (all_rows rs)
 flat_all_rows rs = flat_only 7 (codes "ietf-i2nsf-ikeless:sad") _ (flat_only 6 (codes "sad-entry") _ (flat_array 5 _ (flat_rows rs)))

@@ -36,7 +36,8 @@ use Rattle.json_tree.proofs.PolicyLaws.{unset_in_ok, unset_in_of, word_in_ok, wo
 
 address_ok : (a : Addr) (leaf : Option Data) → address_leaf leaf ≡ Ok a → Needed (IsAddressText a) leaf
 address_ok a None h = absurd (let no : ⊥ = cc in no)
-address_ok a (Some d) h = let step = bind_ok (text_in d) address_from a h in (step.0, text_ok d step.0 step.1, kind_ok (address_of step.0) a step.2)
+address_ok a (Some d) h = let step = bind_ok (text_in d) address_from a h in
+    (step.0, text_ok d step.0 step.1, kind_ok (address_of step.0) a step.2)
 
 address_back : (a : Addr) (leaf : Option Data) → Needed (IsAddressText a) leaf → address_leaf leaf ≡ Ok a
 address_back a None h = absurd h
@@ -48,7 +49,8 @@ octets_ok o d h = let step = bind_ok (text_in d) octets_from o h in (step.0, tex
 pub octets_back : (o : List ℕ) (d : Data) → IsHex o d → octets_leaf (Some d) ≡ Ok o
 octets_back o d h = rw h.1 (kind_of (hex_of h.0) o h.2)
 
-keying_by : (k : List ℕ) (t : Bool) (key : List ℕ) → is_key_length (length k) ≡ t → (let r : Result (List ℕ) Kind = if t then Ok k else Err kinds.Range in r) ≡ Ok key → (k ≡ key) × (is_key_length (length key) ≡ true)
+keying_by : (k : List ℕ) (t : Bool) (key : List ℕ) → is_key_length (length k) ≡ t
+    → (let r : Result (List ℕ) Kind = if t then Ok k else Err kinds.Range in r) ≡ Ok key → (k ≡ key) × (is_key_length (length key) ≡ true)
 keying_by k true key e h = let is = ok_is k key h in (is, sym (ap (λ x. is_key_length (length x)) is) ∙ e)
 keying_by k false key e h = absurd (let no : ⊥ = cc in no)
 
@@ -65,7 +67,8 @@ key_back key (Some d) h =
     let octets : octets_leaf (Some d) ≡ Ok key = octets_back key d h.0 in
     rw octets (rw h.1 refl)
 
-twenty_by : (m : ℕ) (t : Bool) (u : ⊤) → (m == 20) ≡ t → (let r : Result ⊤ Kind = if t then Ok tt else Err kinds.Unsupported in r) ≡ Ok u → m ≡ 20
+twenty_by : (m : ℕ) (t : Bool) (u : ⊤) → (m == 20) ≡ t → (let r : Result ⊤ Kind = if t then Ok tt else Err kinds.Unsupported in r) ≡ Ok u
+    → m ≡ 20
 twenty_by m true u e h = grind (arith, nat_tests, e)
 twenty_by m false u e h = absurd (let no : ⊥ = cc in no)
 
@@ -105,14 +108,16 @@ limits_back l d h =
       number_or_of 0 0 (2 ^ 32 - 1) l.time (get (codes "time") d) h.time,
     ) refl
 
-pub limits_of_ok : (name : List ℕ) (l : Limits) (leaf : Option Data) → limits_of name leaf ≡ Ok l → Optional (IsLimits l) (l ≡ no_limits) leaf
+pub limits_of_ok : (name : List ℕ) (l : Limits) (leaf : Option Data) → limits_of name leaf ≡ Ok l
+    → Optional (IsLimits l) (l ≡ no_limits) leaf
 unfolding limits_in limits_shape
 limits_of_ok name l None h = sym (ok_is no_limits l h)
 limits_of_ok name l (Some d) h =
     let a = bind_ok (limits_shape d) (λ done. limits_from d) l (within_ok name (limits_in d) l h) in
     (shape_ok limits_names [] d a.0 a.1, limits_ok l d a.2)
 
-pub limits_of_back : (name : List ℕ) (l : Limits) (leaf : Option Data) → Optional (IsLimits l) (l ≡ no_limits) leaf → limits_of name leaf ≡ Ok l
+pub limits_of_back : (name : List ℕ) (l : Limits) (leaf : Option Data) → Optional (IsLimits l) (l ≡ no_limits) leaf
+    → limits_of name leaf ≡ Ok l
 unfolding limits_in limits_shape
 limits_of_back name l None h = ap Ok (sym h)
 limits_of_back name l (Some d) h =
@@ -135,7 +140,9 @@ soft_of_back : (l : Limits) (leaf : Option Data) → Optional (IsSoft l) (l ≡ 
 unfolding soft_in soft_shape
 soft_of_back l None h = ap Ok (sym h)
 soft_of_back l (Some d) h =
-    let read : soft_in d ≡ Ok l = rw (shape_of (codes "action" ∷ limits_names) [] d h.members refl, word_in_of (codes "action") (codes "replace") d h.action) (limits_back l d h.limits) in
+    let read : soft_in d ≡ Ok l =
+        rw (shape_of (codes "action" ∷ limits_names) [] d h.members refl, word_in_of (codes "action") (codes "replace") d h.action)
+        (limits_back l d h.limits) in
     within_of (codes "sa-lifetime-soft") (soft_in d) l read
 
 -- ---- halves
@@ -147,7 +154,8 @@ encryption_ok key d h =
     let b = bind_ok (algorithm_in d) (λ algorithm. key_in d) key a.2 in
     record {
       members = shape_ok (codes "encryption-algorithm" ∷ codes "key" ∷ []) (codes "key" ∷ []) d a.0 a.1;
-      algorithm = algorithm_ok (get (codes "encryption-algorithm") d) b.0 (member_ok (codes "encryption-algorithm") (fixed_number 20 (get (codes "encryption-algorithm") d)) b.0 b.1);
+      algorithm = algorithm_ok (get (codes "encryption-algorithm") d) b.0
+          (member_ok (codes "encryption-algorithm") (fixed_number 20 (get (codes "encryption-algorithm") d)) b.0 b.1);
       key = key_ok key (get (codes "key") d) (member_ok (codes "key") (key_leaf (get (codes "key") d)) key b.2);
     }
 
@@ -155,20 +163,25 @@ encryption_back : (key : List ℕ) (d : Data) → IsEncryption key d → encrypt
 unfolding encryption_in encryption_shape
 encryption_back key d h =
     let lacking : list_any (lacks d) (codes "key" ∷ []) ≡ false = rw (there _ _ h.key) refl in
-    let read : key_in d ≡ Ok key = member_of (codes "key") (key_leaf (get (codes "key") d)) key (key_back key (get (codes "key") d) h.key) in
-    let algorithm : algorithm_in d ≡ Ok tt = member_of (codes "encryption-algorithm") (fixed_number 20 (get (codes "encryption-algorithm") d)) tt (algorithm_back (get (codes "encryption-algorithm") d) h.algorithm) in
+    let read : key_in d ≡ Ok key = member_of (codes "key") (key_leaf (get (codes "key") d)) key (key_back key (get (codes "key") d) h.key)
+        in
+    let algorithm : algorithm_in d ≡ Ok tt =
+        member_of (codes "encryption-algorithm") (fixed_number 20 (get (codes "encryption-algorithm") d)) tt
+        (algorithm_back (get (codes "encryption-algorithm") d) h.algorithm) in
     rw (shape_of (codes "encryption-algorithm" ∷ codes "key" ∷ []) (codes "key" ∷ []) d h.members lacking, algorithm) read
 
 suite_ok : (key : List ℕ) (leaf : Option Data) → suite_key_of leaf ≡ Ok key → Needed (IsOnly (codes "encryption") (IsEncryption key)) leaf
 unfolding suite_key
 suite_ok key None h = absurd (let no : ⊥ = cc in no)
-suite_ok key (Some d) h = only_ok (codes "encryption") encryption_in (IsEncryption key) key d (λ e k. encryption_ok key e k) (within_ok (codes "esp-sa") (suite_key d) key h)
+suite_ok key (Some d) h = only_ok (codes "encryption") encryption_in (IsEncryption key) key d (λ e k. encryption_ok key e k)
+    (within_ok (codes "esp-sa") (suite_key d) key h)
 
 suite_back : (key : List ℕ) (leaf : Option Data) → Needed (IsOnly (codes "encryption") (IsEncryption key)) leaf → suite_key_of leaf ≡ Ok key
 unfolding suite_key
 suite_back key None h = absurd h
 suite_back key (Some d) h =
-    let read : suite_key d ≡ Ok key = only_of (codes "encryption") encryption_in (IsEncryption key) key d (λ e k. encryption_back key e k) h in
+    let read : suite_key d ≡ Ok key = only_of (codes "encryption") encryption_in (IsEncryption key) key d (λ e k. encryption_back key e k) h
+        in
     within_of (codes "esp-sa") (suite_key d) key read
 
 record IsSealing (s : Sealing) (d : Data) : Type 0 where
@@ -187,7 +200,8 @@ sealing_ok s d h =
     let e = bind_ok (word_in (codes "mode") (codes "tunnel") d) _ s c.2 in
     let f = bind_ok (word_in (codes "protocol-parameters") (codes "esp") d) _ s e.2 in
     subst (λ (x : Sealing). IsSealing x d) (ok_is _ s f.2) (record {
-      window = number_or_ok 64 32 4096 a.0 (get (codes "anti-replay-window-size") d) (member_ok (codes "anti-replay-window-size") _ a.0 a.1);
+      window = number_or_ok 64 32 4096 a.0 (get (codes "anti-replay-window-size") d) (member_ok (codes "anti-replay-window-size") _ a.0
+          a.1);
       key = suite_ok b.0 (get (codes "esp-sa") d) b.1;
       extended = unset_in_ok (codes "ext-seq-num") d c.0 c.1;
       mode = word_in_ok (codes "mode") (codes "tunnel") d e.0 e.1;
@@ -296,7 +310,8 @@ config_ok e x d h is =
     let i = bind_ok (selector_of (get (codes "traffic-selector") d)) _ f.0 g.2 in
     let j = bind_ok (tunnel_of (get (codes "tunnel") d)) _ f.0 i.2 in
     let made : (let r : HalfConfig = record { sealing = b.0; lifetimes = c.0; traffic = f.0 } in r) ≡ config_from e = ok_is _ x f.2 ∙ is in
-    let traffic : (let r : Traffic = record { spi = g.0; selector = i.0; tunnel = j.0 } in r) ≡ (config_from e).traffic = ok_is _ f.0 j.2 ∙ ap (λ (r : HalfConfig). r.traffic) made in
+    let traffic : (let r : Traffic = record { spi = g.0; selector = i.0; tunnel = j.0 } in r) ≡ (config_from e).traffic = ok_is _ f.0 j.2
+        ∙ ap (λ (r : HalfConfig). r.traffic) made in
     let sealing = subst (λ (s : Sealing). IsSealing s d) (ap (λ (r : HalfConfig). r.sealing) made) (sealing_ok b.0 d b.1) in
     let lifetimes = subst (λ (s : Lifetimes). AreLifetimes s d) (ap (λ (r : HalfConfig). r.lifetimes) made) (lifetimes_ok c.0 d c.1) in
     record {
@@ -309,7 +324,8 @@ config_ok e x d h is =
       hard = lifetimes.hard;
       soft = lifetimes.soft;
       overflow = lifetimes.overflow;
-      spi = needed_number_ok 256 (2 ^ 32 - 1) e.spi (get (codes "spi") d) (member_ok (codes "spi") _ g.0 g.1 ∙ ap (λ (r : Traffic). Ok r.spi) traffic);
+      spi = needed_number_ok 256 (2 ^ 32 - 1) e.spi (get (codes "spi") d) (member_ok (codes "spi") _ g.0 g.1
+          ∙ ap (λ (r : Traffic). Ok r.spi) traffic);
       selector = selector_of_ok e.selector (get (codes "traffic-selector") d) (i.1 ∙ ap (λ (r : Traffic). Ok r.selector) traffic);
       tunnel = tunnel_ok e j.0 (get (codes "tunnel") d) j.1 (ap (λ (r : Traffic). r.tunnel) traffic);
     }
@@ -328,11 +344,13 @@ unfolding config_in config_shape
 config_back e d h =
     let needs = codes "esp-sa" ∷ codes "spi" ∷ codes "traffic-selector" ∷ codes "tunnel" ∷ [] in
     let lacking : list_any (lacks d) needs ≡ false = rw (there _ _ h.key, there _ _ h.spi, there _ _ h.selector, there _ _ h.tunnel) refl in
-    let sealing = sealing_back (config_from e).sealing d (record { window = h.window; key = h.key; extended = h.extended; mode = h.mode; protocol = h.protocol }) in
+    let sealing = sealing_back (config_from e).sealing d (record { window = h.window; key = h.key; extended = h.extended; mode = h.mode;
+        protocol = h.protocol }) in
     let lifetimes = lifetimes_back (config_from e).lifetimes d (record { hard = h.hard; soft = h.soft; overflow = h.overflow }) in
     rw (shape_of config_names needs d h.members lacking, sealing, lifetimes, traffic_back e d h) refl
 
-config_of_ok : (e : SadEntry) (x : HalfConfig) (leaf : Option Data) → config_of leaf ≡ Ok x → x ≡ config_from e → Needed (IsHalfConfig e) leaf
+config_of_ok : (e : SadEntry) (x : HalfConfig) (leaf : Option Data) → config_of leaf ≡ Ok x → x ≡ config_from e
+    → Needed (IsHalfConfig e) leaf
 config_of_ok e x None h is = absurd (let no : ⊥ = cc in no)
 config_of_ok e x (Some d) h is = config_ok e x d (within_ok (codes "ipsec-sa-config") (config_in d) x h) is
 
@@ -373,10 +391,12 @@ one_sad_ok e d h =
     let a = bind_ok (one_half d) _ e h in
     let b = checked_ok a.0 e (sad_fault a.0) a.2 in
     subst (λ (x : SadEntry). IsOneSadEntry x d × (sad_fault x ≡ None)) b.0
-    (only_ok (codes "ietf-i2nsf-ikeless:sad-entry") _ _ a.0 d (λ l k. one_ok sad_entry_in (IsSadEntry a.0) a.0 (λ i m. sad_entry_ok a.0 i m) l k) a.1, b.1)
+    (only_ok (codes "ietf-i2nsf-ikeless:sad-entry") _ _ a.0 d (λ l k. one_ok sad_entry_in (IsSadEntry a.0) a.0 (λ i m. sad_entry_ok a.0 i m)
+        l k) a.1, b.1)
 
 pub one_sad_back : (e : SadEntry) (d : Data) → IsOneSadEntry e d → sad_fault e ≡ None → one_sad_entry_in d ≡ Ok e
 unfolding one_sad_entry_in one_half
 one_sad_back e d h none =
-    let one : one_half d ≡ Ok e = only_of (codes "ietf-i2nsf-ikeless:sad-entry") _ _ e d (λ l k. one_of sad_entry_in (IsSadEntry e) e (λ i m. sad_entry_back e i m) l k) h in
+    let one : one_half d ≡ Ok e = only_of (codes "ietf-i2nsf-ikeless:sad-entry") _ _ e d
+        (λ l k. one_of sad_entry_in (IsSadEntry e) e (λ i m. sad_entry_back e i m) l k) h in
     rw (one, none) refl

@@ -23,7 +23,8 @@ record HaveNone (ms : Members) : Type 0 where
 record AreFree (ds : Items) : Type 0 where
   pub free : are_free_of (codes "key") ds ≡ true
 
-free_member : (k : List ℕ) (d : Data) (ms : Members) → not (bytes_eq (codes "key") k) ≡ true → IsFree d → HaveNone ms → HaveNone (member k d ms)
+free_member : (k : List ℕ) (d : Data) (ms : Members) → not (bytes_eq (codes "key") k) ≡ true → IsFree d → HaveNone ms
+    → HaveNone (member k d ms)
 free_member k d ms other f m = record { free = and_from _ _ other (and_from _ _ f.free m.free) }
 
 free_order : (o : Ordering) (a b c : Members) → HaveNone a → HaveNone b → HaveNone c → HaveNone (match_ordering o a b c)
@@ -75,13 +76,15 @@ free_if true x y f g = f
 free_if false x y f g = g
 
 free_range : (r : Range) → IsFree (range_data r)
-free_range r = free_object _ (free_put (codes "end") _ _ refl (free_count r.end) (free_put (codes "start") _ _ refl (free_count r.start) none))
+free_range r = free_object _ (free_put (codes "end") _ _ refl (free_count r.end) (free_put (codes "start") _ _ refl (free_count r.start)
+    none))
 
 free_ranges : (rs : List Range) → AreFree (range_items rs)
 free_ranges [] = free_no_items
 free_ranges (r ∷ rs) = free_item _ _ (free_range r) (free_ranges rs)
 
-free_ports : (name : List ℕ) (rs : List Range) (ms : Members) → not (bytes_eq (codes "key") name) ≡ true → HaveNone ms → HaveNone (with_ports name rs ms)
+free_ports : (name : List ℕ) (rs : List Range) (ms : Members) → not (bytes_eq (codes "key") name) ≡ true → HaveNone ms
+    → HaveNone (with_ports name rs ms)
 free_ports name [] ms other m = m
 free_ports name (r ∷ rs) ms other m = free_put name _ ms other (free_array _ (free_ranges (r ∷ rs))) m
 
@@ -95,18 +98,22 @@ free_selector s = free_object _ (free_put (codes "inner-protocol") _ _ refl (fre
     (free_ports (codes "local-ports") s.local_ports _ refl (free_put (codes "local-prefix") _ _ refl (free_string _)
     (free_ports (codes "remote-ports") s.remote_ports _ refl (free_put (codes "remote-prefix") _ _ refl (free_string _) none)))))
 
-free_with_count : (name : List ℕ) (c : ℕ) (ms : Members) → not (bytes_eq (codes "key") name) ≡ true → HaveNone ms → HaveNone (with_count name c ms)
+free_with_count : (name : List ℕ) (c : ℕ) (ms : Members) → not (bytes_eq (codes "key") name) ≡ true → HaveNone ms
+    → HaveNone (with_count name c ms)
 free_with_count name c ms other m = free_if (c == 0) _ _ m (free_put name (count c) ms other (free_count c) m)
 
-free_with_wide : (name : List ℕ) (c : ℕ) (ms : Members) → not (bytes_eq (codes "key") name) ≡ true → HaveNone ms → HaveNone (with_wide name c ms)
+free_with_wide : (name : List ℕ) (c : ℕ) (ms : Members) → not (bytes_eq (codes "key") name) ≡ true → HaveNone ms
+    → HaveNone (with_wide name c ms)
 free_with_wide name c ms other m = free_if (c == 0) _ _ m (free_put name (wide c) ms other (free_string _) m)
 
 free_limits : (l : Limits) → HaveNone (limits_members l)
 free_limits l = free_with_wide (codes "bytes") l.bytes _ refl (free_with_count (codes "idle") l.idle _ refl
     (free_with_count (codes "packets") l.packets _ refl (free_with_count (codes "time") l.time no_members refl none)))
 
-free_lifetime : (name : List ℕ) (l : Limits) (ms : Members) → not (bytes_eq (codes "key") name) ≡ true → HaveNone ms → HaveNone (with_lifetime name l ms)
-free_lifetime name l ms other m = free_if (has_no_limits l) _ _ m (free_put name (object (limits_members l)) ms other (free_object _ (free_limits l)) m)
+free_lifetime : (name : List ℕ) (l : Limits) (ms : Members) → not (bytes_eq (codes "key") name) ≡ true → HaveNone ms
+    → HaveNone (with_lifetime name l ms)
+free_lifetime name l ms other m =
+    free_if (has_no_limits l) _ _ m (free_put name (object (limits_members l)) ms other (free_object _ (free_limits l)) m)
 
 free_soft : (l : Limits) (ms : Members) → HaveNone ms → HaveNone (with_soft l ms)
 free_soft l ms m = free_if (has_no_limits l) _ _ m (free_put (codes "sa-lifetime-soft") _ ms refl
@@ -118,7 +125,8 @@ free_tunnel e = free_object _ (free_put (codes "df-bit") _ _ refl (free_string _
     (free_put (codes "local") _ _ refl (free_string _) (free_put (codes "remote") _ _ refl (free_string _) none)))
 
 free_encryption : IsFree (only (codes "encryption") (encryption_data None))
-free_encryption = free_only (codes "encryption") _ refl (free_object _ (free_put (codes "encryption-algorithm") _ no_members refl (free_count 20) none))
+free_encryption = free_only (codes "encryption") _ refl
+    (free_object _ (free_put (codes "encryption-algorithm") _ no_members refl (free_count 20) none))
 
 free_config : (e : SadEntry) → IsFree (config_data e None)
 unfolding config_data with_sealing with_fixed with_ends

@@ -63,16 +63,19 @@ words_paths (b ∷ bs) h =
     and_from _ _ (or_left (is_word_octet b) (b == 47) parts.0) (words_paths bs parts.1)
 
 -- a front of path octets, and words behind it
-front_octets : (front name : List ℕ) → list_all is_path_octet front ≡ true → has_front front name ≡ true → list_all is_path_octet name ≡ true
+front_octets : (front name : List ℕ) → list_all is_path_octet front ≡ true → has_front front name ≡ true
+    → list_all is_path_octet name ≡ true
 front_octets front name plain h =
     let n : ℕ = length front in
     let long = and_parts (nat_le n (length name)) (bytes_eq (take n name) front && is_serial (drop n name)) h in
     let parts = and_parts (bytes_eq (take n name) front) (is_serial (drop n name)) long.1 in
     let same : take n name ≡ front = (bytes_eq-Decides (take n name) front).0 parts.0 in
     let before : list_all is_path_octet (take n name) ≡ true = rw same plain in
-    let serial : list_all is_word_octet (drop n name) ≡ true = third (nat_le 1 (length (drop n name))) (nat_le (length (drop n name)) 60) (list_all is_word_octet (drop n name)) parts.1 in
+    let serial : list_all is_word_octet (drop n name) ≡ true = third (nat_le 1 (length (drop n name))) (nat_le (length (drop n name)) 60)
+        (list_all is_word_octet (drop n name)) parts.1 in
     let behind : list_all is_path_octet (drop n name) ≡ true = words_paths (drop n name) serial in
-    let whole : list_all is_path_octet (take n name ++ drop n name) ≡ true = list_all-append is_path_octet (take n name) (drop n name) ∙ and_from _ _ before behind in
+    let whole : list_all is_path_octet (take n name ++ drop n name) ≡ true = list_all-append is_path_octet (take n name) (drop n name)
+        ∙ and_from _ _ before behind in
     rw (take-append-drop n name) at whole
 
 pub half_octets : (name : List ℕ) → is_sad_name name ≡ true → list_all is_path_octet name ≡ true

@@ -39,18 +39,21 @@ range_again r typed = record {
   start = number_again 0 65535 r.start (omega arith) (let small = typed.0 in omega arith);
 }
 
-pub each_again : {A : Type 0} → (f : A → Data) (P : A → Data → Type 0) (Q : A → Type 0) → ((x : A) → Q x → P x (f x)) → (xs : List A) → AllByRecursion Q xs → Each P xs (items_of (map f xs))
+pub each_again : {A : Type 0} → (f : A → Data) (P : A → Data → Type 0) (Q : A → Type 0) → ((x : A) → Q x → P x (f x)) → (xs : List A)
+    → AllByRecursion Q xs → Each P xs (items_of (map f xs))
 each_again f P Q step [] all = tt
 each_again f P Q step (x ∷ xs) all = (step x all.0, each_again f P Q step xs all.1)
 
 ports_again : (rs : List Range) → All IsTypedRange rs → ArePorts rs (array (range_items rs))
-ports_again rs typed = (range_items rs, refl, each_again range_data IsRange IsTypedRange range_again rs (recursion_from_All IsTypedRange rs typed))
+ports_again rs typed =
+    (range_items rs, refl, each_again range_data IsRange IsTypedRange range_again rs (recursion_from_All IsTypedRange rs typed))
 
 proto_again : (p : Option ℕ) → IsTypedProtocol p → IsProtocol p (proto_data p)
 proto_again None typed = refl
 proto_again (Some n) typed = number_again 0 255 n (omega arith) (omega arith)
 
-selector_by : (l r : Prefix) (p : Option ℕ) (lp rp : List Range) → IsAddress l.addr → IsAddress r.addr → IsTypedProtocol p → All IsTypedRange lp → All IsTypedRange rp →
+selector_by : (l r : Prefix) (p : Option ℕ) (lp rp : List Range) → IsAddress l.addr → IsAddress r.addr → IsTypedProtocol p
+    → All IsTypedRange lp → All IsTypedRange rp →
     (let s : Selector = record { local = l; remote = r; proto = p; local_ports = lp; remote_ports = rp } in IsSelector s (selector_data s))
 unfolding selector_data
 selector_by l r p [] [] tl tr tp tlp trp = record {
@@ -87,7 +90,8 @@ selector_by l r p (a ∷ as') (b ∷ bs) tl tr tp tlp trp = record {
 }
 
 pub selector_again : (s : Selector) → IsTypedSelector s → IsSelector s (selector_data s)
-selector_again s typed = selector_by s.local s.remote s.proto s.local_ports s.remote_ports typed.local typed.remote typed.proto typed.local_ports typed.remote_ports
+selector_again s typed = selector_by s.local s.remote s.proto s.local_ports s.remote_ports typed.local typed.remote typed.proto
+    typed.local_ports typed.remote_ports
 
 processing_again : (x : Action) → IsProcessing x (only (codes "action") (word (action_text x)))
 processing_again x = record { members = refl; action = refl; suite = tt }

@@ -86,9 +86,11 @@ write_ranges : (rs : List Range) → AllByRecursion IsTypedRange rs → AreWrita
 write_ranges [] typed = write_no_items
 write_ranges (r ∷ rs) typed = write_item _ _ (write_range r typed.0) (write_ranges rs typed.1)
 
-write_ports : (name : List ℕ) (rs : List Range) (ms : Members) → are_ascii name ≡ true → All IsTypedRange rs → HaveWritable ms → HaveWritable (with_ports name rs ms)
+write_ports : (name : List ℕ) (rs : List Range) (ms : Members) → are_ascii name ≡ true → All IsTypedRange rs → HaveWritable ms
+    → HaveWritable (with_ports name rs ms)
 write_ports name [] ms ascii typed h = h
-write_ports name (r ∷ rs) ms ascii typed h = write_member name _ ms ascii (write_array _ (write_ranges (r ∷ rs) (recursion_from_All IsTypedRange (r ∷ rs) typed))) h
+write_ports name (r ∷ rs) ms ascii typed h =
+    write_member name _ ms ascii (write_array _ (write_ranges (r ∷ rs) (recursion_from_All IsTypedRange (r ∷ rs) typed))) h
 
 write_proto : (p : Option ℕ) → IsTypedProtocol p → IsWritable (proto_data p)
 write_proto None typed = write_word (codes "any") refl
@@ -109,13 +111,16 @@ write_only name d ascii h = write_object _ (write_member name d no_members ascii
 
 write_policy : (e : SpdEntry) → IsTypedPolicy e → IsWritable (policy_data e)
 unfolding policy_data
-write_policy e typed = write_object _ (write_member (codes "anti-replay-window-size") _ _ refl (write_number e.window (narrow e.window typed.window))
-    (write_member (codes "processing-info") _ _ refl (write_only (codes "action") _ refl (write_word (action_text e.action) (action_ascii e.action)))
+write_policy e typed =
+    write_object _ (write_member (codes "anti-replay-window-size") _ _ refl (write_number e.window (narrow e.window typed.window))
+    (write_member (codes "processing-info") _ _ refl
+        (write_only (codes "action") _ refl (write_word (action_text e.action) (action_ascii e.action)))
     (write_member (codes "traffic-selector") _ _ refl (write_selector e.selector typed.selector) write_none)))
 
 write_entry : (e : SpdEntry) → IsTypedPolicy e → is_spd_name e.name ≡ true → IsWritable (spd_entry_data e)
 unfolding spd_entry_data
-write_entry e typed name = write_object _ (write_member (codes "direction") _ _ refl (write_word (direction_word e.direction) (direction_ascii e.direction))
+write_entry e typed name =
+    write_object _ (write_member (codes "direction") _ _ refl (write_word (direction_word e.direction) (direction_ascii e.direction))
     (write_member (codes "ipsec-policy-config") _ _ refl (write_policy e typed)
     (write_member (codes "name") _ _ refl (write_text e.name (policy_utf8 e.name name))
     (write_member (codes "reqid") _ _ refl (write_text (decimal e.reqid) (utf8_number e.reqid typed.reqid)) write_none))))
@@ -129,22 +134,29 @@ write_entries (e ∷ es) typed h =
 pub write_policies : (es : List SpdEntry) → AreTypedPolicies es → spd_fault es ≡ None → IsWritable (all_policies es)
 write_policies es typed h =
     write_only (codes "ietf-i2nsf-ikeless:spd") _ refl
-    (write_only (codes "spd-entry") _ refl (write_array _ (write_entries es (recursion_from_All IsTypedPolicy es typed) (passed_names es h))))
+    (write_only (codes "spd-entry") _ refl
+        (write_array _ (write_entries es (recursion_from_All IsTypedPolicy es typed) (passed_names es h))))
 
 -- ---- lifetimes
 
-write_count : (name : List ℕ) (n : ℕ) (ms : Members) → are_ascii name ≡ true → n < 2 ^ 32 → HaveWritable ms → HaveWritable (with_count name n ms)
+write_count : (name : List ℕ) (n : ℕ) (ms : Members) → are_ascii name ≡ true → n < 2 ^ 32 → HaveWritable ms
+    → HaveWritable (with_count name n ms)
 write_count name n ms ascii small h = members_if (n == 0) _ _ h (write_member name _ ms ascii (write_number n (narrow n small)) h)
 
-write_wide : (name : List ℕ) (n : ℕ) (ms : Members) → are_ascii name ≡ true → n < 2 ^ 64 → HaveWritable ms → HaveWritable (with_wide name n ms)
-write_wide name n ms ascii small h = members_if (n == 0) _ _ h (write_member name _ ms ascii (write_text (decimal n) (utf8_number n small)) h)
+write_wide : (name : List ℕ) (n : ℕ) (ms : Members) → are_ascii name ≡ true → n < 2 ^ 64 → HaveWritable ms
+    → HaveWritable (with_wide name n ms)
+write_wide name n ms ascii small h = members_if (n == 0) _ _ h (write_member name _ ms ascii (write_text (decimal n) (utf8_number n small))
+    h)
 
 write_limits : (l : Limits) → IsTypedLimits l → HaveWritable (limits_members l)
 write_limits l typed = write_wide (codes "bytes") l.bytes _ refl typed.bytes (write_count (codes "idle") l.idle _ refl typed.idle
-    (write_count (codes "packets") l.packets _ refl typed.packets (write_count (codes "time") l.time no_members refl typed.time write_none)))
+    (write_count (codes "packets") l.packets _ refl typed.packets (write_count (codes "time") l.time no_members refl typed.time
+        write_none)))
 
-write_lifetime : (name : List ℕ) (l : Limits) (ms : Members) → are_ascii name ≡ true → IsTypedLimits l → HaveWritable ms → HaveWritable (with_lifetime name l ms)
-write_lifetime name l ms ascii typed h = members_if (has_no_limits l) _ _ h (write_member name _ ms ascii (write_object _ (write_limits l typed)) h)
+write_lifetime : (name : List ℕ) (l : Limits) (ms : Members) → are_ascii name ≡ true → IsTypedLimits l → HaveWritable ms
+    → HaveWritable (with_lifetime name l ms)
+write_lifetime name l ms ascii typed h =
+    members_if (has_no_limits l) _ _ h (write_member name _ ms ascii (write_object _ (write_limits l typed)) h)
 
 write_soft : (l : Limits) (ms : Members) → IsTypedLimits l → HaveWritable ms → HaveWritable (with_soft l ms)
 write_soft l ms typed h = members_if (has_no_limits l) _ _ h
@@ -152,7 +164,8 @@ write_soft l ms typed h = members_if (has_no_limits l) _ _ h
     (write_object _ (write_member (codes "action") _ (limits_members l) refl (write_word (codes "replace") refl) (write_limits l typed))) h)
 
 pub write_counts : (l : Limits) → IsTypedLimits l → IsWritable (counts_data l)
-write_counts l typed = write_object _ (write_member (codes "bytes") _ _ refl (write_text (decimal l.bytes) (utf8_number l.bytes typed.bytes))
+write_counts l typed =
+    write_object _ (write_member (codes "bytes") _ _ refl (write_text (decimal l.bytes) (utf8_number l.bytes typed.bytes))
     (write_member (codes "idle") _ _ refl (write_number l.idle (narrow l.idle typed.idle))
     (write_member (codes "packets") _ _ refl (write_number l.packets (narrow l.packets typed.packets))
     (write_member (codes "time") _ _ refl (write_number l.time (narrow l.time typed.time)) write_none))))
@@ -191,15 +204,18 @@ write_fixed ms h = write_member (codes "ext-seq-num") _ _ refl (write_boolean fa
     (write_member (codes "protocol-parameters") _ _ refl (write_word (codes "esp") refl)
     (write_member (codes "seq-overflow") _ ms refl (write_boolean false) h)))
 
-write_sealing : (window : ℕ) (key : Option (List ℕ)) (ms : Members) → window < 2 ^ 32 → HasOctets key → HaveWritable ms → HaveWritable (with_sealing window key ms)
+write_sealing : (window : ℕ) (key : Option (List ℕ)) (ms : Members) → window < 2 ^ 32 → HasOctets key → HaveWritable ms
+    → HaveWritable (with_sealing window key ms)
 unfolding with_sealing
-write_sealing window key ms small octets h = write_member (codes "anti-replay-window-size") _ _ refl (write_number window (narrow window small))
+write_sealing window key ms small octets h = write_member (codes "anti-replay-window-size") _ _ refl
+    (write_number window (narrow window small))
     (write_member (codes "esp-sa") _ ms refl (write_encryption key octets) h)
 
 write_config : (e : SadEntry) (key : Option (List ℕ)) → IsTypedHalf e → HasOctets key → IsWritable (config_data e key)
 unfolding config_data
 write_config e key typed octets = write_object _ (write_sealing e.window key _ typed.window octets (write_fixed _
-    (write_lifetime (codes "sa-lifetime-hard") e.hard _ refl typed.hard (write_soft e.soft _ typed.soft (write_ends e no_members typed write_none)))))
+    (write_lifetime (codes "sa-lifetime-hard") e.hard _ refl typed.hard
+        (write_soft e.soft _ typed.soft (write_ends e no_members typed write_none)))))
 
 write_half : (e : SadEntry) → IsTypedHalf e → is_sad_name e.name ≡ true → IsWritable (sad_entry_data e)
 unfolding sad_entry_data
@@ -208,13 +224,16 @@ write_half e typed name = write_object _ (write_member (codes "ipsec-sa-config")
     (write_member (codes "reqid") _ _ refl (write_text (decimal e.reqid) (utf8_number e.reqid typed.reqid)) write_none)))
 
 pub write_one_half : (e : SadEntry) → IsTypedHalf e → sad_fault e ≡ None → IsWritable (one_sad_entry e)
-write_one_half e typed h = write_only (codes "ietf-i2nsf-ikeless:sad-entry") _ refl (write_array _ (write_item _ _ (write_half e typed (passed_half e h)) write_no_items))
+write_one_half e typed h = write_only (codes "ietf-i2nsf-ikeless:sad-entry") _ refl
+    (write_array _ (write_item _ _ (write_half e typed (passed_half e h)) write_no_items))
 
 -- ---- rows
 
 write_state : (s : SaState) → IsTypedState s → IsWritable (state_data s)
 unfolding state_data
-write_state s typed = write_object _ (write_member (codes "replay-stats") _ _ refl (write_only (codes "last-sequence") _ refl (write_text (decimal s.top) (utf8_number s.top typed.top)))
+write_state s typed =
+    write_object _ (write_member (codes "replay-stats") _ _ refl
+    (write_only (codes "last-sequence") _ refl (write_text (decimal s.top) (utf8_number s.top typed.top)))
     (write_member (codes "sa-lifetime-current") _ _ refl (write_counts s.current typed.current) write_none))
 
 write_row : (r : SadRow) → IsTypedRow r → is_row_named r ≡ true → IsWritable (row_data r)

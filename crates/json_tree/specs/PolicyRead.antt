@@ -88,7 +88,8 @@ spd_entry_in d =
     policy_of (get (codes "ipsec-policy-config") d) >>= (λ policy.
     name_in (codes "name") is_spd_name d >>= (λ name.
     reqid_in d >>= (λ reqid.
-    Ok (record { name = name; direction = direction; reqid = reqid; window = policy.window; selector = policy.selector; action = policy.action }))))))
+    Ok (record { name = name; direction = direction; reqid = reqid; window = policy.window; selector = policy.selector; action =
+        policy.action }))))))
 
 -- the list of all policies
 abbrev pub entries_in : Data → Result (List SpdEntry) Fault
@@ -113,7 +114,8 @@ spd_in d = all_entries d >>= (λ list. checked list (spd_fault list))
 
 -- the one policy of a body, before it is looked at as a list of one
 unfoldable pub one_entry : Data → Result SpdEntry Fault
-one_entry d = only_in (codes "ietf-i2nsf-ikeless:spd-entry") d >>= (λ list. within (codes "ietf-i2nsf-ikeless:spd-entry") (one_read spd_entry_in (as_array list)))
+one_entry d = only_in (codes "ietf-i2nsf-ikeless:spd-entry") d >>= (λ list. within (codes "ietf-i2nsf-ikeless:spd-entry")
+    (one_read spd_entry_in (as_array list)))
 
 -- the body that has one policy
 unfoldable pub one_spd_entry_in : Data → Result SpdEntry Fault

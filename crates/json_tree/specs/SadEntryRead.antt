@@ -154,7 +154,8 @@ sad_entry_in d =
 
 -- the one half of a body, before it is looked at as a whole
 unfoldable pub one_half : Data → Result SadEntry Fault
-one_half d = only_in (codes "ietf-i2nsf-ikeless:sad-entry") d >>= (λ list. within (codes "ietf-i2nsf-ikeless:sad-entry") (one_read sad_entry_in (as_array list)))
+one_half d = only_in (codes "ietf-i2nsf-ikeless:sad-entry") d >>= (λ list. within (codes "ietf-i2nsf-ikeless:sad-entry")
+    (one_read sad_entry_in (as_array list)))
 
 -- the body that has one half; what is wrong with it as a whole comes last
 unfoldable pub one_sad_entry_in : Data → Result SadEntry Fault

@@ -26,7 +26,8 @@ with_wide name n ms = if n == 0 then ms else put name (wide n) ms
 
 -- the members of limits, without those that are none
 abbrev pub limits_members : Limits → Members
-limits_members l = with_wide (codes "bytes") l.bytes (with_count (codes "idle") l.idle (with_count (codes "packets") l.packets (with_count (codes "time") l.time no_members)))
+limits_members l = with_wide (codes "bytes") l.bytes
+    (with_count (codes "idle") l.idle (with_count (codes "packets") l.packets (with_count (codes "time") l.time no_members)))
 
 -- all four limits are none
 abbrev pub has_no_limits : Limits → Bool
@@ -38,7 +39,8 @@ with_lifetime name l ms = if has_no_limits l then ms else put name (object (limi
 
 -- soft limits, at which the half is to be replaced; where there are none they are left out
 abbrev pub with_soft : Limits → Members → Members
-with_soft l ms = if has_no_limits l then ms else put (codes "sa-lifetime-soft") (object (put (codes "action") (word (codes "replace")) (limits_members l))) ms
+with_soft l ms = if has_no_limits l then ms else put (codes "sa-lifetime-soft")
+    (object (put (codes "action") (word (codes "replace")) (limits_members l))) ms
 
 -- ---- halves
 

@@ -119,7 +119,8 @@ wide_of n d h = rw h.1 (kind_of (u64_of h.0) n h.2)
 
 pub needed_prefix_ok : (p : Prefix) (leaf : Option Data) → prefix_leaf leaf ≡ Ok p → Needed (IsPrefix p) leaf
 needed_prefix_ok p None h = absurd (let no : ⊥ = cc in no)
-needed_prefix_ok p (Some d) h = let step = bind_ok (text_in d) prefix_from p h in (step.0, text_ok d step.0 step.1, kind_ok (prefix_of step.0) p step.2)
+needed_prefix_ok p (Some d) h = let step = bind_ok (text_in d) prefix_from p h in
+    (step.0, text_ok d step.0 step.1, kind_ok (prefix_of step.0) p step.2)
 
 pub needed_prefix_of : (p : Prefix) (leaf : Option Data) → Needed (IsPrefix p) leaf → prefix_leaf leaf ≡ Ok p
 needed_prefix_of p None h = absurd h
@@ -127,7 +128,8 @@ needed_prefix_of p (Some d) h = rw h.1 (kind_of (prefix_of h.0) p h.2)
 
 -- ---- words
 
-this_by : (word t : List ℕ) (p : Bool) (u : ⊤) → bytes_eq t word ≡ p → (let r : Result ⊤ Kind = if p then Ok tt else Err kinds.Unsupported in r) ≡ Ok u → t ≡ word
+this_by : (word t : List ℕ) (p : Bool) (u : ⊤) → bytes_eq t word ≡ p
+    → (let r : Result ⊤ Kind = if p then Ok tt else Err kinds.Unsupported in r) ≡ Ok u → t ≡ word
 this_by word t true u e h = (bytes_eq-Decides t word).0 e
 this_by word t false u e h = absurd (let no : ⊥ = cc in no)
 
@@ -199,7 +201,8 @@ pub mode_back : (x : Bool) (leaf : Option Data) → Needed (IsWord (mode_text x)
 mode_back x None h = absurd h
 mode_back x (Some d) h = rw (h, mode_again x) refl
 
-any_by : (t : List ℕ) (q : Bool) (p : Option ℕ) → bytes_eq t (codes "any") ≡ q → (let r : Result (Option ℕ) Kind = if q then Ok None else Err kinds.Unsupported in r) ≡ Ok p → (t ≡ codes "any") × (None ≡ p)
+any_by : (t : List ℕ) (q : Bool) (p : Option ℕ) → bytes_eq t (codes "any") ≡ q
+    → (let r : Result (Option ℕ) Kind = if q then Ok None else Err kinds.Unsupported in r) ≡ Ok p → (t ≡ codes "any") × (None ≡ p)
 any_by t true p e h = ((bytes_eq-Decides t (codes "any")).0 e, ok_is None p h)
 any_by t false p e h = absurd (let no : ⊥ = cc in no)
 
@@ -233,11 +236,13 @@ pub needed_number_of : (least most n : ℕ) (leaf : Option Data) → Needed (IsN
 needed_number_of least most n None h = absurd h
 needed_number_of least most n (Some d) h = number_of least most n d h
 
-pub number_or_ok : (absent least most n : ℕ) (leaf : Option Data) → number_or absent least most leaf ≡ Ok n → Optional (IsNumber least most n) (n ≡ absent) leaf
+pub number_or_ok : (absent least most n : ℕ) (leaf : Option Data) → number_or absent least most leaf ≡ Ok n
+    → Optional (IsNumber least most n) (n ≡ absent) leaf
 number_or_ok absent least most n None h = sym (ok_is absent n h)
 number_or_ok absent least most n (Some d) h = number_ok least most n d h
 
-pub number_or_of : (absent least most n : ℕ) (leaf : Option Data) → Optional (IsNumber least most n) (n ≡ absent) leaf → number_or absent least most leaf ≡ Ok n
+pub number_or_of : (absent least most n : ℕ) (leaf : Option Data) → Optional (IsNumber least most n) (n ≡ absent) leaf
+    → number_or absent least most leaf ≡ Ok n
 number_or_of absent least most n None h = ap Ok (sym h)
 number_or_of absent least most n (Some d) h = number_of least most n d h
 
@@ -249,7 +254,8 @@ pub wide_or_of : (n : ℕ) (leaf : Option Data) → Optional (IsWide n) (n ≡ 0
 wide_or_of n None h = ap Ok (sym h)
 wide_or_of n (Some d) h = wide_of n d h
 
-name_by : (p : List ℕ → Bool) (t : List ℕ) (q : Bool) (n : List ℕ) → p t ≡ q → (let r : Result (List ℕ) Kind = if q then Ok t else Err kinds.Name in r) ≡ Ok n → (t ≡ n) × (p n ≡ true)
+name_by : (p : List ℕ → Bool) (t : List ℕ) (q : Bool) (n : List ℕ) → p t ≡ q
+    → (let r : Result (List ℕ) Kind = if q then Ok t else Err kinds.Name in r) ≡ Ok n → (t ≡ n) × (p n ≡ true)
 name_by p t true n e h = let is = ok_is t n h in (is, sym (ap p is) ∙ e)
 name_by p t false n e h = absurd (let no : ⊥ = cc in no)
 

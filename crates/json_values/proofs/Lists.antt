@@ -7,7 +7,8 @@ use Rattle.serde_json.specs.Data.{Data}
 use Rattle.serde_json.specs.View.{view}
 use Rattle.serde_json.specs.declared.value.Value.{Value}
 
-pub more : {A : Type 0} (f : A → Data) (xs : List A) (i : ℕ) (d : A) (vs : List Value) (v : Value) → i < length xs → map view vs ≡ map f (take i xs) → view v ≡ f (get_or xs i d) → map view (vs ++ v ∷ []) ≡ map f (take (i + 1) xs)
+pub more : {A : Type 0} (f : A → Data) (xs : List A) (i : ℕ) (d : A) (vs : List Value) (v : Value) → i < length xs
+    → map view vs ≡ map f (take i xs) → view v ≡ f (get_or xs i d) → map view (vs ++ v ∷ []) ≡ map f (take (i + 1) xs)
 more f xs i d vs v inside before here = grind (arith, common_steps)
 
 pub all_here : {A : Type 0} (p : A → Bool) (xs : List A) (i : ℕ) (d : A) → list_all p xs ≡ true → i < length xs → p (get_or xs i d) ≡ true

@@ -58,7 +58,8 @@ after_all : (k l : List ℕ) (ms : Members) → slice_cmp nat_cmp k l ≡ Less �
 after_all k l no_members h a = tt
 after_all k l (member m d ms) h a = (nat_list_cmp_total.trans k l m h a.0, after_all k l ms h a.1)
 
-after_order : (l : List ℕ) (o : Ordering) (a b c : Members) → AreAfter l a → AreAfter l b → AreAfter l c → AreAfter l (match_ordering o a b c)
+after_order : (l : List ℕ) (o : Ordering) (a b c : Members) → AreAfter l a → AreAfter l b → AreAfter l c
+    → AreAfter l (match_ordering o a b c)
 after_order l Less a b c x y z = x
 after_order l Equal a b c x y z = y
 after_order l Greater a b c x y z = z
@@ -71,7 +72,8 @@ plain_put : (k : List ℕ) (d : Data) (ms : Members) → are_ascii k ≡ true �
 plain_put k d no_members u p h = (u, tt, p, tt)
 plain_put k d (member l e ms) u p h = by_order (slice_cmp nat_cmp k l) refl h (plain_put k d ms u p h.3)
   where
-    by_order : (o : Ordering) → slice_cmp nat_cmp k l ≡ o → HavePlain (member l e ms) → HavePlain (put k d ms) → HavePlain (match_ordering o (member k d (member l e ms)) (member l d ms) (member l e (put k d ms)))
+    by_order : (o : Ordering) → slice_cmp nat_cmp k l ≡ o → HavePlain (member l e ms) → HavePlain (put k d ms)
+        → HavePlain (match_ordering o (member k d (member l e ms)) (member l d ms) (member l e (put k d ms)))
     by_order Less c h rest = (u, (c, after_all k l ms c h.1), p, h)
     by_order Equal c h rest = (h.0, h.1, p, h.3)
     by_order Greater c h rest = (h.0, after_put l k d ms (flipped k l c) h.1, h.2, rest)
@@ -135,13 +137,16 @@ put_last : (found : Members) (k : List ℕ) (d : Data) → AreBefore found k →
 put_last no_members k d h = refl
 put_last (member l e ms) k d h =
     let greater : slice_cmp nat_cmp k l ≡ Greater = nat_list_cmp_total.antisymm k l ∙ ap ordering_reverse h.0 in
-    ap (λ o. match_ordering o (member k d (member l e ms)) (member l d ms) (member l e (put k d ms))) greater ∙ ap (member l e) (put_last ms k d h.1)
+    ap (λ o. match_ordering o (member k d (member l e ms)) (member l d ms) (member l e (put k d ms))) greater
+        ∙ ap (member l e) (put_last ms k d h.1)
 
-before_last : (found : Members) (k : List ℕ) (d : Data) (l : List ℕ) → AreBefore found l → slice_cmp nat_cmp k l ≡ Less → AreBefore (joined found (member k d no_members)) l
+before_last : (found : Members) (k : List ℕ) (d : Data) (l : List ℕ) → AreBefore found l → slice_cmp nat_cmp k l ≡ Less
+    → AreBefore (joined found (member k d no_members)) l
 before_last no_members k d l b h = (h, tt)
 before_last (member m e ms) k d l b h = (b.0, before_last ms k d l b.1 h)
 
-before_more : (found : Members) (k : List ℕ) (d : Data) (ms : Members) → AllBefore found ms → AreAfter k ms → AllBefore (joined found (member k d no_members)) ms
+before_more : (found : Members) (k : List ℕ) (d : Data) (ms : Members) → AllBefore found ms → AreAfter k ms
+    → AllBefore (joined found (member k d no_members)) ms
 before_more found k d no_members b a = tt
 before_more found k d (member l e ms) b a = (before_last found k d l b.0 a.0, before_more found k d ms b.1 a.1)
 
@@ -149,7 +154,8 @@ none_before : (ms : Members) → AllBefore no_members ms
 none_before no_members = tt
 none_before (member k d ms) = (tt, none_before ms)
 
-joined_more : (found : Members) (k : List ℕ) (d : Data) (ms : Members) → joined (joined found (member k d no_members)) ms ≡ joined found (member k d ms)
+joined_more : (found : Members) (k : List ℕ) (d : Data) (ms : Members) → joined (joined found (member k d no_members)) ms ≡ joined found
+    (member k d ms)
 joined_more no_members k d ms = refl
 joined_more (member l e found) k d ms = ap (member l e) (joined_more found k d ms)
 
@@ -242,7 +248,8 @@ mutual
   members_plain : (later : Bool) (ms : Members) → HavePlain ms → IsUtf8 (members_text later ms)
   members_plain later no_members h = IsUtf8-are_ascii (125 ∷ []) refl
   members_plain later (member k d ms) h =
-      let rest : IsUtf8 (compact_text d ++ members_text true ms) = IsUtf8-append (compact_text d) _ (text_utf8 d h.2) (members_plain true ms h.3) in
+      let rest : IsUtf8 (compact_text d ++ members_text true ms) = IsUtf8-append (compact_text d) _ (text_utf8 d h.2)
+          (members_plain true ms h.3) in
       IsUtf8-append (comma_if later) _ (comma_plain later)
       (IsUtf8-append _ _ (IsUtf8-quoted k (IsUtf8-are_ascii k h.0)) (mark_plain 58 (compact_text d ++ members_text true ms) refl rest))
 
@@ -253,7 +260,8 @@ whole found = option_and_then of_json (option_and_then (λ p. json.if_last p.0 p
 pub read_again : (d : Data) → IsWritable d → depth d ≤ max_depth → read (compact_text d) ≡ Some d
 read_again d h shallow =
     let j : json.Json = outline d in
-    let lexed : tokens (compact_text d) ≡ json_tokens j = ap tokens (sym (print-outline d)) ∙ tokens-print (json_tokens j) (ArePrintable-json_tokens j (numbers d h.plain)) in
+    let lexed : tokens (compact_text d) ≡ json_tokens j = ap tokens (sym (print-outline d))
+        ∙ tokens-print (json_tokens j) (ArePrintable-json_tokens j (numbers d h.plain)) in
     let deep : tree.depth j ≤ max_depth = rw (depth_same d) shallow in
     ap (λ ts. whole (json.value max_depth ts)) (lexed ∙ sym (append-nil (json_tokens j)))
     ∙ ap whole (value-json_tokens j max_depth [] deep)

@@ -137,7 +137,8 @@ pub record IsSelector (s : Selector) (d : Data) : Type 0 where
 
 -- what doesn't change what a gateway does has one value
 pub record IsSuite (d : Data) : Type 0 where
-  pub members : HasOnly (codes "ext-seq-num" ∷ codes "mode" ∷ codes "pfp-flag" ∷ codes "protocol-parameters" ∷ codes "seq-overflow" ∷ codes "stateful-frag-check" ∷ []) d
+  pub members : HasOnly (codes "ext-seq-num" ∷ codes "mode" ∷ codes "pfp-flag" ∷ codes "protocol-parameters" ∷ codes "seq-overflow"
+      ∷ codes "stateful-frag-check" ∷ []) d
   pub extended : Optional IsFalse (Unit {0}) (get (codes "ext-seq-num") d)
   pub mode : Optional (IsWord (codes "tunnel")) (Unit {0}) (get (codes "mode") d)
   pub flag : Optional IsFalse (Unit {0}) (get (codes "pfp-flag") d)

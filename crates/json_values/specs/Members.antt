@@ -39,7 +39,8 @@ soft_shape d = shape (codes "action" ∷ limits_names) [] d
 
 -- `ipsec-sa-cfg` of a policy; no member is needed
 unfoldable pub suite_shape : Data → Result ⊤ Fault
-suite_shape d = shape (codes "ext-seq-num" ∷ codes "mode" ∷ codes "pfp-flag" ∷ codes "protocol-parameters" ∷ codes "seq-overflow" ∷ codes "stateful-frag-check" ∷ []) [] d
+suite_shape d = shape (codes "ext-seq-num" ∷ codes "mode" ∷ codes "pfp-flag" ∷ codes "protocol-parameters" ∷ codes "seq-overflow"
+    ∷ codes "stateful-frag-check" ∷ []) [] d
 
 -- `processing-info`; no member is needed
 unfoldable pub processing_shape : Data → Result ⊤ Fault
@@ -47,11 +48,13 @@ processing_shape d = shape (codes "action" ∷ codes "ipsec-sa-cfg" ∷ []) [] d
 
 -- `ipsec-policy-config`: the selector is needed
 unfoldable pub policy_shape : Data → Result ⊤ Fault
-policy_shape d = shape (codes "anti-replay-window-size" ∷ codes "processing-info" ∷ codes "traffic-selector" ∷ []) (codes "traffic-selector" ∷ []) d
+policy_shape d = shape (codes "anti-replay-window-size" ∷ codes "processing-info" ∷ codes "traffic-selector" ∷ []) (codes "traffic-selector"
+    ∷ []) d
 
 -- `spd-entry`: all but the `reqid` is needed
 unfoldable pub spd_entry_shape : Data → Result ⊤ Fault
-spd_entry_shape d = shape (codes "direction" ∷ codes "ipsec-policy-config" ∷ codes "name" ∷ codes "reqid" ∷ []) (codes "direction" ∷ codes "ipsec-policy-config" ∷ codes "name" ∷ []) d
+spd_entry_shape d = shape (codes "direction" ∷ codes "ipsec-policy-config" ∷ codes "name" ∷ codes "reqid" ∷ []) (codes "direction"
+    ∷ codes "ipsec-policy-config" ∷ codes "name" ∷ []) d
 
 -- `encryption`: the key is needed
 unfoldable pub encryption_shape : Data → Result ⊤ Fault
@@ -63,7 +66,9 @@ tunnel_shape d = shape (codes "df-bit" ∷ codes "local" ∷ codes "remote" ∷ 
 
 -- the members of `ipsec-sa-config`
 abbrev pub config_names : List (List ℕ)
-config_names = codes "anti-replay-window-size" ∷ codes "esp-sa" ∷ codes "ext-seq-num" ∷ codes "mode" ∷ codes "protocol-parameters" ∷ codes "sa-lifetime-hard" ∷ codes "sa-lifetime-soft" ∷ codes "seq-overflow" ∷ codes "spi" ∷ codes "traffic-selector" ∷ codes "tunnel" ∷ []
+config_names = codes "anti-replay-window-size" ∷ codes "esp-sa" ∷ codes "ext-seq-num" ∷ codes "mode" ∷ codes "protocol-parameters"
+    ∷ codes "sa-lifetime-hard" ∷ codes "sa-lifetime-soft" ∷ codes "seq-overflow" ∷ codes "spi" ∷ codes "traffic-selector" ∷ codes "tunnel"
+    ∷ []
 
 -- `ipsec-sa-config`: the key, the SPI, the selector and the ends of the tunnel are needed
 unfoldable pub config_shape : Data → Result ⊤ Fault
@@ -79,7 +84,8 @@ list_input_shape d = shape (codes "gateway" ∷ codes "spd-entry" ∷ []) (codes
 
 -- the members of the input of `tunnel` that are needed: all but the limits
 abbrev pub tunnel_needs : List (List ℕ)
-tunnel_needs = codes "anti-replay-window-size" ∷ codes "first" ∷ codes "first-prefix" ∷ codes "mode" ∷ codes "reqid" ∷ codes "second" ∷ codes "second-prefix" ∷ []
+tunnel_needs = codes "anti-replay-window-size" ∷ codes "first" ∷ codes "first-prefix" ∷ codes "mode" ∷ codes "reqid" ∷ codes "second"
+    ∷ codes "second-prefix" ∷ []
 
 -- the input of `tunnel`
 unfoldable pub tunnel_input_shape : Data → Result ⊤ Fault

@@ -39,13 +39,16 @@ counts_after installed now h = counts_at now installed (last_use installed h) (o
 abbrev pub was_told : Limits → Limits → ℕ → List Call → Bool
 was_told hard soft installed [] = false
 was_told hard soft installed (Use size now ∷ h) =
-    is_soft (event_by hard soft (was_told hard soft installed h) (counts_after installed now (Use size now ∷ h))) || was_told hard soft installed h
-was_told hard soft installed (Tick now ∷ h) = is_soft (event_by hard soft (was_told hard soft installed h) (counts_after installed now h)) || was_told hard soft installed h
+    is_soft (event_by hard soft (was_told hard soft installed h) (counts_after installed now (Use size now ∷ h)))
+        || was_told hard soft installed h
+was_told hard soft installed (Tick now ∷ h) = is_soft (event_by hard soft (was_told hard soft installed h) (counts_after installed now h))
+    || was_told hard soft installed h
 was_told hard soft installed (Session ∷ h) = false
 
 -- what a call tells after those before it
 abbrev pub told_by : Limits → Limits → ℕ → List Call → Call → LifeEvent
-told_by hard soft installed h (Use size now) = event_by hard soft (was_told hard soft installed h) (counts_after installed now (Use size now ∷ h))
+told_by hard soft installed h (Use size now) = event_by hard soft (was_told hard soft installed h)
+    (counts_after installed now (Use size now ∷ h))
 told_by hard soft installed h (Tick now) = event_by hard soft (was_told hard soft installed h) (counts_after installed now h)
 told_by hard soft installed h Session = events.Nothing
 

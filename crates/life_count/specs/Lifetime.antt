@@ -37,11 +37,13 @@ reaches limit count = not (limit == 0) && nat_le limit count
 
 -- one of the four counts, seconds, octets, packets or seconds idle, reaches its limit
 abbrev pub is_reached : Limits → Limits → Bool
-is_reached limits c = reaches limits.time c.time || (reaches limits.bytes c.bytes || (reaches limits.packets c.packets || reaches limits.idle c.idle))
+is_reached limits c = reaches limits.time c.time
+    || (reaches limits.bytes c.bytes || (reaches limits.packets c.packets || reaches limits.idle c.idle))
 
 -- what counts tell under these limits: that a hard one is reached, or else a soft one of which nothing was told
 abbrev pub event_by : Limits → Limits → Bool → Limits → LifeEvent
-event_by hard soft is_told c = if is_reached hard c then events.Hard else if is_reached soft c && not is_told then events.Soft else events.Nothing
+event_by hard soft is_told c = if is_reached hard c then events.Hard else if is_reached soft c && not is_told then events.Soft
+    else events.Nothing
 
 -- a hard limit is reached
 abbrev pub is_hard : LifeEvent → Bool

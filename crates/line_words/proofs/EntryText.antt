@@ -35,7 +35,8 @@ use Rattle.ikeless_tree.specs.Typed.{IsTypedPolicy, IsTypedProtocol, IsTypedRang
 use Rattle.ikeless_tree.specs.Words.{action_text, direction_text}
 
 -- the words of values that are each read
-pub each_of : {A : Type 0} → (f : List ℕ → Result A LineFault) (text : A → List ℕ) (xs : List A) → AllByRecursion (λ x. f (text x) ≡ Ok x) xs → each f (map text xs) ≡ Ok xs
+pub each_of : {A : Type 0} → (f : List ℕ → Result A LineFault) (text : A → List ℕ) (xs : List A)
+    → AllByRecursion (λ x. f (text x) ≡ Ok x) xs → each f (map text xs) ≡ Ok xs
 each_of f text [] all = refl
 each_of f text (x ∷ xs) all = let ih = each_of f text xs all.1 in rw (all.0, ih) refl
 
@@ -97,11 +98,13 @@ some_octets r rs are =
 no_plus : (r : Range) → IsTypedRange r → All (λ c. is_plus c ≡ false) (range_text r)
 no_plus r is = lacks_mark is_range_octet is_plus (λ c. apart is_range_octet c 43 refl) (range_text r) (range_octets r is)
 
-ports_split : (r : Range) (rs : List Range) → AllByRecursion IsTypedRange (r ∷ rs) → slice_split is_plus (ports_text (r ∷ rs)) ≡ map range_text (r ∷ rs)
+ports_split : (r : Range) (rs : List Range) → AllByRecursion IsTypedRange (r ∷ rs)
+    → slice_split is_plus (ports_text (r ∷ rs)) ≡ map range_text (r ∷ rs)
 ports_split r rs are =
     ap (slice_split is_plus) (ports_from r rs)
     ∙ split_behind is_plus 43 refl (range_text r) (map range_text rs)
-    (each_mapped (λ t. All (λ c. is_plus c ≡ false) t) range_text (r ∷ rs) (each_holds IsTypedRange (λ x. All (λ c. is_plus c ≡ false) (range_text x)) no_plus (r ∷ rs) are))
+    (each_mapped (λ t. All (λ c. is_plus c ≡ false) t) range_text (r ∷ rs)
+        (each_holds IsTypedRange (λ x. All (λ c. is_plus c ≡ false) (range_text x)) no_plus (r ∷ rs) are))
 
 ports_read : (rs : List Range) → AllByRecursion IsTypedRange rs → length rs ≤ 8 → ports_of (ports_text rs) ≡ Ok rs
 unfolding ports_of
@@ -109,7 +112,8 @@ ports_read [] are few = refl
 ports_read (r ∷ rs) are few =
     let any = not_word is_ports_octet (ports_text (r ∷ rs)) (codes "any") (some_octets r rs are) refl in
     let s = ports_split r rs are in
-    let n : nat_le (length (map range_text (r ∷ rs))) 8 ≡ true = le-leb _ 8 (let e = length-map (r ∷ rs) range_text in omega (arith, e, few)) in
+    let n : nat_le (length (map range_text (r ∷ rs))) 8 ≡ true = le-leb _ 8 (let e = length-map (r ∷ rs) range_text in
+        omega (arith, e, few)) in
     let x = each_of range_of range_text (r ∷ rs) (each_holds IsTypedRange (λ y. range_of (range_text y) ≡ Ok y) range_read (r ∷ rs) are) in
     rw (any, s, n, x) refl
 
@@ -156,7 +160,8 @@ prefix_is_part p is = also is_value_octet is_part value_part (prefix_text p) (pr
 -- ---- an entry
 
 unfoldable pub selector_parts : Selector → List (List ℕ)
-selector_parts s = prefix_text s.local ∷ prefix_text s.remote ∷ proto_text s.proto ∷ ports_text s.local_ports ∷ ports_text s.remote_ports ∷ []
+selector_parts s = prefix_text s.local ∷ prefix_text s.remote ∷ proto_text s.proto ∷ ports_text s.local_ports ∷ ports_text s.remote_ports
+    ∷ []
 
 pub few_ranges : (s : Selector) → has_many_ranges s ≡ false → (length s.local_ports ≤ 8) × (length s.remote_ports ≤ 8)
 few_ranges s few = halves (nat_lt 8 (length s.local_ports)) (nat_lt 8 (length s.remote_ports)) refl refl few
@@ -205,10 +210,12 @@ nine a b c d e f g h i = simp (append_assoc, append-nil)
 entry_from : (e : SpdEntry) → entry_text e ≡ e.name ++ flat_map (λ u. 44 ∷ u) (entry_rest e)
 unfolding entry_text selector_text entry_rest selector_parts
 entry_from e =
-    nine e.name (direction_text e.direction) (decimal e.reqid) (action_text e.action) (prefix_text e.selector.local) (prefix_text e.selector.remote)
+    nine e.name (direction_text e.direction) (decimal e.reqid) (action_text e.action) (prefix_text e.selector.local)
+        (prefix_text e.selector.remote)
     (proto_text e.selector.proto) (ports_text e.selector.local_ports) (ports_text e.selector.remote_ports)
 
-are_parts : (e : SpdEntry) → IsTypedPolicy e → is_spd_name e.name ≡ true → AllByRecursion (λ t. list_all is_part t ≡ true) (e.name ∷ entry_rest e)
+are_parts : (e : SpdEntry) → IsTypedPolicy e → is_spd_name e.name ≡ true → AllByRecursion (λ t. list_all is_part t ≡ true) (e.name
+    ∷ entry_rest e)
 unfolding entry_rest selector_parts
 are_parts e is name =
     let s = is.selector in
@@ -241,11 +248,13 @@ are_parts e is name =
 pub no_comma : (t : List ℕ) → list_all is_part t ≡ true → All (λ c. is_comma c ≡ false) t
 no_comma t all = lacks_mark is_part is_comma (λ c. apart is_part c 44 refl) t all
 
-pub entry_read : (e : SpdEntry) → IsTypedPolicy e → e.window ≡ 64 → is_spd_name e.name ≡ true → has_many_ranges e.selector ≡ false → entry_of (entry_text e) ≡ Ok e
+pub entry_read : (e : SpdEntry) → IsTypedPolicy e → e.window ≡ 64 → is_spd_name e.name ≡ true → has_many_ranges e.selector ≡ false
+    → entry_of (entry_text e) ≡ Ok e
 entry_read e is window name few =
     ap entry_of (entry_from e)
     ∙ ap entry_in (split_behind is_comma 44 refl e.name (entry_rest e)
-    (each_holds (λ t. list_all is_part t ≡ true) (λ t. All (λ c. is_comma c ≡ false) t) no_comma (e.name ∷ entry_rest e) (are_parts e is name)))
+    (each_holds (λ t. list_all is_part t ≡ true) (λ t. All (λ c. is_comma c ≡ false) t) no_comma (e.name ∷ entry_rest e)
+        (are_parts e is name)))
     ∙ in_parts e is window few
 
 -- a word has no space

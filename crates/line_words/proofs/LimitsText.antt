@@ -40,7 +40,8 @@ limits_split l are =
     let i = are.idle in
     ap (slice_split is_slash) (limits_from l)
     ∙ split_behind is_slash 47 refl (decimal l.time) (decimal l.bytes ∷ decimal l.packets ∷ decimal l.idle ∷ [])
-    (no_slash l.time (omega (arith, t)), (no_slash l.bytes b, (no_slash l.packets (omega (arith, p)), (no_slash l.idle (omega (arith, i)), tt))))
+    (no_slash l.time (omega (arith, t)),
+        (no_slash l.bytes b, (no_slash l.packets (omega (arith, p)), (no_slash l.idle (omega (arith, i)), tt))))
 
 pub limits_read : (fault : LineFault) (l : Limits) → IsTypedLimits l → limits_of fault (limits_text l) ≡ Ok l
 unfolding limits_in counts_of number_rest

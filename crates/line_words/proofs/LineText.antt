@@ -83,7 +83,8 @@ lane_word lanes.Note = refl
 -- ---- gateways and octets
 
 -- the name of a gateway can be spelled
-pub named_spelled : (gateways : List Peer) (g : List ℕ) → are_spelled gateways ≡ true → is_gateway_of gateways g ≡ true → is_gateway g ≡ true
+pub named_spelled : (gateways : List Peer) (g : List ℕ) → are_spelled gateways ≡ true → is_gateway_of gateways g ≡ true
+    → is_gateway g ≡ true
 named_spelled [] g all named = cc
 named_spelled (p ∷ ps) g all named =
     let both = and_parts (is_gateway p.name) (are_spelled ps) all in
@@ -116,7 +117,8 @@ hex_word (o ∷ os) are = hexdigits_graph (digits_text (o ∷ os)) (digit_pairs 
 pub hex_read : ReadsDigits → (octets : List ℕ) → AreOctets octets → octets_of (hex_text octets) ≡ Ok octets
 hex_read digits [] are = refl
 hex_read digits (o ∷ os) are =
-    let dash = not_word is_ascii_hexdigit (digits_text (o ∷ os)) (codes "-") (digit_pairs (o ∷ os) (recursion_from_All (λ x. x < 256) (o ∷ os) are)) refl in
+    let dash = not_word is_ascii_hexdigit (digits_text (o ∷ os)) (codes "-")
+        (digit_pairs (o ∷ os) (recursion_from_All (λ x. x < 256) (o ∷ os) are)) refl in
     let read = digits o os are in
     rw (dash, read) refl
 
@@ -129,10 +131,12 @@ GoodEntry e = (is_spd_name e.name ≡ true) × (has_many_ranges e.selector ≡ f
 good_entry : (before : List SpdEntry) (e : SpdEntry) → entry_fault before e ≡ None → GoodEntry e
 unfolding entry_fault GoodEntry
 good_entry before e none =
-    by_tests (list_any (is_named e.name) before) (is_spd_name e.name) (is_window e.window) (has_empty_range e.selector) (has_many_ranges e.selector) none
+    by_tests (list_any (is_named e.name) before) (is_spd_name e.name) (is_window e.window) (has_empty_range e.selector)
+        (has_many_ranges e.selector) none
   where
     by_tests : (twice named window empty many : Bool)
-        → cond twice (Some tree_faults.DuplicateName) (cond (not named) (Some tree_faults.BadName) (cond (not window) (Some tree_faults.BadWindow)
+        → cond twice (Some tree_faults.DuplicateName)
+            (cond (not named) (Some tree_faults.BadName) (cond (not window) (Some tree_faults.BadWindow)
         (cond empty (Some tree_faults.EmptyRange) (cond many (Some (tree_faults.Unsupported features.Ports)) None)))) ≡ None
         → (named ≡ true) × (many ≡ false)
     by_tests false true true false false h = (refl, refl)
@@ -167,7 +171,8 @@ unfolding GoodEntry
 all_read [] are windows good = tt
 all_read (e ∷ es) are windows good = (entry_read e are.0 windows.0 good.0.0 good.0.1, all_read es are.1 windows.1 good.1)
 
-all_words : (list : List SpdEntry) → AllByRecursion IsTypedPolicy list → AllByRecursion GoodEntry list → AllByRecursion (λ e. list_all is_graph (entry_text e) ≡ true) list
+all_words : (list : List SpdEntry) → AllByRecursion IsTypedPolicy list → AllByRecursion GoodEntry list
+    → AllByRecursion (λ e. list_all is_graph (entry_text e) ≡ true) list
 unfolding GoodEntry
 all_words [] are good = tt
 all_words (e ∷ es) are good = (entry_graph e are.0 good.0.0, all_words es are.1 good.1)
@@ -180,7 +185,8 @@ list_read list is are =
 pub list_words : (list : List SpdEntry) → IsListed list → All IsTypedPolicy list → AreWords (map entry_text list)
 unfolding AreWords
 list_words list is are =
-    each_mapped (λ t. list_all is_graph t ≡ true) entry_text list (all_words list (recursion_from_All IsTypedPolicy list are) (spd_parts list is.fits).1)
+    each_mapped (λ t. list_all is_graph t ≡ true) entry_text list (all_words list (recursion_from_All IsTypedPolicy list are)
+        (spd_parts list is.fits).1)
 
 pub few_words : (list : List SpdEntry) → IsListed list → nat_le (length (map entry_text list)) 256 ≡ true
 few_words list is =

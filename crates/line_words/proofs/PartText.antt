@@ -114,7 +114,8 @@ pub name_graph : (t : List ℕ) → list_all is_gateway_octet t ≡ true → lis
 name_graph t all = also is_gateway_octet is_graph gateway_graph t all
 
 -- two texts with a mark between them
-pub marked : (q : ℕ → Bool) (mark : ℕ) → q mark ≡ true → (front back : List ℕ) → list_all q front ≡ true → list_all q back ≡ true → list_all q (front ++ mark ∷ back) ≡ true
+pub marked : (q : ℕ → Bool) (mark : ℕ) → q mark ≡ true → (front back : List ℕ) → list_all q front ≡ true → list_all q back ≡ true
+    → list_all q (front ++ mark ∷ back) ≡ true
 marked q mark m front back f b = list_all-append q front (mark ∷ back) ∙ and_from _ _ f (and_from _ _ m b)
 
 -- texts that each stand behind a mark
@@ -137,17 +138,20 @@ pub each_holds : {A : Type 0} → (P Q : A → Type 0) → ((x : A) → P x → 
 each_holds P Q f [] all = tt
 each_holds P Q f (x ∷ xs) all = (f x all.0, each_holds P Q f xs all.1)
 
-pub each_mapped : {A B : Type 0} → (P : B → Type 0) (f : A → B) (xs : List A) → AllByRecursion (λ x. P (f x)) xs → AllByRecursion P (map f xs)
+pub each_mapped : {A B : Type 0} → (P : B → Type 0) (f : A → B) (xs : List A) → AllByRecursion (λ x. P (f x)) xs
+    → AllByRecursion P (map f xs)
 each_mapped P f [] all = tt
 each_mapped P f (x ∷ xs) all = (all.0, each_mapped P f xs all.1)
 
 -- the texts of elements, each behind a mark
-pub behind_mapped : {A : Type 0} → (mark : ℕ) (f : A → List ℕ) (xs : List A) → flat_map (λ x. mark ∷ f x) xs ≡ flat_map (λ t. mark ∷ t) (map f xs)
+pub behind_mapped : {A : Type 0} → (mark : ℕ) (f : A → List ℕ) (xs : List A) → flat_map (λ x. mark ∷ f x) xs ≡ flat_map (λ t. mark ∷ t)
+    (map f xs)
 behind_mapped mark f [] = refl
 behind_mapped mark f (x ∷ xs) = ap (λ rest. mark ∷ (f x ++ rest)) (behind_mapped mark f xs)
 
 -- texts that lack the mark, cut at the mark between them
-pub split_behind : (p : ℕ → Bool) (mark : ℕ) → p mark ≡ true → (t : List ℕ) (ts : List (List ℕ)) → AllByRecursion (λ u. All (λ c. p c ≡ false) u) (t ∷ ts)
+pub split_behind : (p : ℕ → Bool) (mark : ℕ) → p mark ≡ true → (t : List ℕ) (ts : List (List ℕ))
+    → AllByRecursion (λ u. All (λ c. p c ≡ false) u) (t ∷ ts)
     → slice_split p (t ++ flat_map (λ u. mark ∷ u) ts) ≡ t ∷ ts
 split_behind p mark m t [] lack = ap (slice_split p) (append-nil t) ∙ slice_split_none p t lack.0
 split_behind p mark m t (u ∷ us) lack =

@@ -32,7 +32,8 @@ passed P true r e y is k = k refl is
 passed P false r e y is k = cc
 
 -- the first step or the other one
-pub either : {B : Type 0} → (P : Type 0) (t : Bool) (r s : Result B LineFault) (y : B) → cond t r s ≡ Ok y → (r ≡ Ok y → P) → (s ≡ Ok y → P) → P
+pub either : {B : Type 0} → (P : Type 0) (t : Bool) (r s : Result B LineFault) (y : B) → cond t r s ≡ Ok y → (r ≡ Ok y → P) → (s ≡ Ok y → P)
+    → P
 either P true r s y is f g = f is
 either P false r s y is f g = g is
 
@@ -65,13 +66,15 @@ entry_window w e read = parts (slice_split is_comma w) e read
         (λ u _ more. after (HasWindow e) (selector_in selector) _ e more
         (λ s _ same. ap SpdEntry.window (sym (inside _ e same))))
 
-pub listed : (ws : List (List ℕ)) (list good : List SpdEntry) → entries_of ws ≡ Ok list → unless_fault (spd_fault list) list ≡ Ok good → IsListed good
+pub listed : (ws : List (List ℕ)) (list good : List SpdEntry) → entries_of ws ≡ Ok list → unless_fault (spd_fault list) list ≡ Ok good
+    → IsListed good
 listed ws list good read fits = by_fault (spd_fault list) refl fits
   where
     by_fault : (o : Option TreeFault) → spd_fault list ≡ o → unless_fault o list ≡ Ok good → IsListed good
     by_fault None none is =
         let e : list ≡ good = cc in
-        subst IsListed e (record { fits = none; windows = All-from_recursion HasWindow list (each_has HasWindow entry_of entry_window ws list read) })
+        subst IsListed e (record { fits = none; windows =
+            All-from_recursion HasWindow list (each_has HasWindow entry_of entry_window ws list read) })
     by_fault (Some fault) some is = cc
 
 -- ---- words
@@ -94,6 +97,7 @@ number_most fault most w n is = by_form (is_number w) refl is
         subst (λ m. m ≤ most) e (ltb-false most (digits_value 10 w) fits)
 
     by_form : (b : Bool) → is_number w ≡ b
-        → or_fault fault (cond (not b) (Err bad.Form) (cond (nat_lt most (digits_value 10 w)) (Err bad.Range) (Ok (digits_value 10 w)))) ≡ Ok n → n ≤ most
+        → or_fault fault (cond (not b) (Err bad.Form) (cond (nat_lt most (digits_value 10 w)) (Err bad.Range) (Ok (digits_value 10 w)))) ≡
+            Ok n → n ≤ most
     by_form true form h = by_range (nat_lt most (digits_value 10 w)) refl h
     by_form false form h = cc

@@ -6,17 +6,20 @@ use Rattle.live_client.specs.declared.fault.AskFault.{AskFault}
 use Rattle.live_client.specs.declared.fault.AskFault.TheVariants as faults
 use Rattle.live_client.specs.Asking.{CallTells, Called, Conversed, LinkTells, Replied, is_link}
 
-pub conversed : (request : List ℕ) (up asked last : Option PeerHeld) (turns : ℕ) (r : Result Told AskFault) → Becomes (wrote request) up asked
+pub conversed : (request : List ℕ) (up asked last : Option PeerHeld) (turns : ℕ) (r : Result Told AskFault)
+    → Becomes (wrote request) up asked
     → Replied asked turns last r → Conversed request up turns last r
 conversed request up asked last turns (Ok told) writes replied = record { asked = asked; writes = writes; replied = replied }
 conversed request up asked last turns (Err faults.LinkFault) writes replied = tt
-conversed request up asked last turns (Err (faults.BadReply octets)) writes replied = record { asked = asked; writes = writes; replied = replied }
+conversed request up asked last turns (Err (faults.BadReply octets)) writes replied = record { asked = asked; writes = writes; replied =
+    replied }
 conversed request up asked last turns (Err faults.TurnsSpent) writes replied = record { asked = asked; writes = writes; replied = replied }
 conversed request up asked last turns (Err faults.NoMemory) writes replied = tt
 
 pub called : (request : List ℕ) (before up last after : Option PeerHeld) (turns : ℕ) (r : Result Told AskFault) → Becomes dialled before up
     → Conversed request up turns last r → Becomes hung_up last after → Called request before turns after r
-called request before up last after turns (Ok told) dials asks ends = record { up = up; dials = dials; last = last; asks = asks; hangs_up = ends }
+called request before up last after turns (Ok told) dials asks ends = record { up = up; dials = dials; last = last; asks = asks; hangs_up =
+    ends }
 called request before up last after turns (Err faults.LinkFault) dials asks ends = tt
 called request before up last after turns (Err (faults.BadReply octets)) dials asks ends =
     record { up = up; dials = dials; last = last; asks = asks; hangs_up = ends }
@@ -27,12 +30,14 @@ called request before up last after turns (Err faults.NoMemory) dials asks ends 
 -- ---- faults
 
 -- a call that didn't fail, and then others
-pub tells_on : (before mid now : ℕ) (told : Option Bool) (link : Bool) → mid ≡ before → LinkTells mid now told link → LinkTells before now told link
+pub tells_on : (before mid now : ℕ) (told : Option Bool) (link : Bool) → mid ≡ before → LinkTells mid now told link
+    → LinkTells before now told link
 tells_on before mid now told link same tells =
     let P : ℕ → Type 0 = λ n. LinkTells n now told link in subst P same tells
 
 -- hanging up counts no fault
-pub tells_still : (before now after : ℕ) (told last : Option Bool) (link : Bool) → after ≡ now → last ≡ told → LinkTells before now told link
+pub tells_still : (before now after : ℕ) (told last : Option Bool) (link : Bool) → after ≡ now → last ≡ told
+    → LinkTells before now told link
     → LinkTells before after last link
 tells_still before now after told last link same kept tells =
     let P : ℕ → Type 0 = λ n. LinkTells before n last link in

@@ -26,9 +26,11 @@ takes_brings held next octets more f kept (Err (faults.BadReply bad)) finds take
 takes_brings held next octets more f kept (Err faults.TurnsSpent) finds takes = takes
 takes_brings held next octets more f kept (Err faults.NoMemory) finds takes = tt
 
-pub brings_some : (held next : Option PeerHeld) (buf octets more : List ℕ) (n : ℕ) (f : Feeding) (kept : List ℕ) (r : Result (Option Told) AskFault)
+pub brings_some : (held next : Option PeerHeld) (buf octets more : List ℕ) (n : ℕ) (f : Feeding) (kept : List ℕ)
+    (r : Result (Option Told) AskFault)
     → length buf ≡ 65536 → n ≤ length buf → Reads held next (Some n) buf → more ≡ take n buf
-    → (length more ≡ 0 → r ≡ Err (faults.BadReply octets)) → (0 < length more → Takes (octets ++ more) f kept r) → Brings held next octets f kept r
+    → (length more ≡ 0 → r ≡ Err (faults.BadReply octets)) → (0 < length more → Takes (octets ++ more) f kept r)
+        → Brings held next octets f kept r
 brings_some held next buf octets more zero f kept r room fits reads are end piece =
     let size : length more ≡ min 0 (length buf) = ap length are ∙ length-take 0 buf in
     let P : Result (Option Told) AskFault → Type 0 = λ x. Brings held next octets f kept x in
@@ -44,7 +46,8 @@ pub gave_more : (start held next : Option PeerHeld) (turn : ℕ) (octets kept : 
     → Brings held next octets f kept (Ok None) → Gave start (turn + 1) kept next
 gave_more start held next turn octets kept f gave brings = goes turn octets kept held next gave brings.0
 
-pub replied_told : (start held next : Option PeerHeld) (turn turns : ℕ) (octets kept : List ℕ) (f : Feeding) (told : Told) → Gave start turn octets held
+pub replied_told : (start held next : Option PeerHeld) (turn turns : ℕ) (octets kept : List ℕ) (f : Feeding) (told : Told)
+    → Gave start turn octets held
     → turn < turns → Brings held next octets f kept (Ok (Some told)) → Replied start turns next (Ok told)
 replied_told start held next turn turns octets kept f told gave before brings = record {
   turn = turn + 1;

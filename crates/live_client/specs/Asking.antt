@@ -94,7 +94,8 @@ Replied start turns last (Err faults.TurnsSpent) = Spent start turns last
 Replied start turns last (Err faults.NoMemory) = Unit {0}
 
 -- exactly these octets were written to the peer, and then it was read
-pub record Asks (request : List ℕ) (up : Option PeerHeld) (turns : ℕ) (last : Option PeerHeld) (result : Result Told AskFault) : Type 0 where
+pub record Asks (request : List ℕ) (up : Option PeerHeld) (turns : ℕ) (last : Option PeerHeld) (result : Result Told AskFault) : Type 0
+    where
   pub asked : Option PeerHeld
   pub writes : Becomes (wrote request) up asked
   pub replied : Replied asked turns last result
@@ -108,7 +109,8 @@ Conversed request up turns last (Err faults.TurnsSpent) = Asks request up turns 
 Conversed request up turns last (Err faults.NoMemory) = Unit {0}
 
 -- the peer was dialled, asked, and hung up
-pub record Calls (request : List ℕ) (before : Option PeerHeld) (turns : ℕ) (after : Option PeerHeld) (result : Result Told AskFault) : Type 0 where
+pub record Calls (request : List ℕ) (before : Option PeerHeld) (turns : ℕ) (after : Option PeerHeld) (result : Result Told AskFault) : Type
+    0 where
   pub up : Option PeerHeld
   pub dials : Becomes dialled before up
   pub last : Option PeerHeld

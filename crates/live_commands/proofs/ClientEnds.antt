@@ -27,8 +27,10 @@ use Rattle.live_commands.proofs.Gaining.{gains_none}
 abbrev pub IsSaid : Told → Type 0
 IsSaid told = (told ≡ told_done) ⊎ (400 ≤ told.status)
 
-error-said : (status : ℕ) (r : Result ErrorTags BadAnswer) (told : Told) → 400 ≤ status → (r >>= (λ found. Ok (told_error status found))) ≡ Ok told → IsSaid told
-error-said status (Ok found) told high is = (let e : told_error status found ≡ told = cc in inr (subst (λ (t : Told). 400 ≤ t.status) e high))
+error-said : (status : ℕ) (r : Result ErrorTags BadAnswer) (told : Told) → 400 ≤ status → (r >>= (λ found. Ok (told_error status found))) ≡
+    Ok told → IsSaid told
+error-said status (Ok found) told high is = (let e : told_error status found ≡ told = cc in
+    inr (subst (λ (t : Told). 400 ≤ t.status) e high))
 error-said status (Err why) told high is = cc
 
 done-said : (empty : Bool) (told : Told) → cond empty (Ok told_done) (Err bad) ≡ Ok told → IsSaid told
@@ -44,7 +46,8 @@ said m told is = by_status (m.status == 204) (nat_le 400 m.status) refl is
     by_status false true high is = error-said m.status (error_of m.body) told (leb-true 400 m.status high) is
     by_status false false high is = cc
 
-pub called-said : (request : List ℕ) (before after : Option PeerHeld) (turns : ℕ) (told : Told) → Called request before turns after (Ok told) → IsSaid told
+pub called-said : (request : List ℕ) (before after : Option PeerHeld) (turns : ℕ) (told : Told)
+    → Called request before turns after (Ok told) → IsSaid told
 called-said request before after turns told called = said called.asks.replied.is.message told called.asks.replied.is.says
 
 -- ---- what was printed
@@ -57,22 +60,26 @@ done-low : (error : Bool) → cond error statuses.Denied statuses.Done ≡ statu
 done-low true is high = (let none : ⊥ = cc in none)
 done-low false is high = (let none : ⊥ = cc in none)
 
-printed-done : (Holds : Result Told AskFault → Type 0) (told : Told) (old new : Option (List ℕ)) → Holds (Ok told) → IsSaid told → told_status told ≡ statuses.Done
+printed-done : (Holds : Result Told AskFault → Type 0) (told : Told) (old new : Option (List ℕ)) → Holds (Ok told) → IsSaid told
+    → told_status told ≡ statuses.Done
     → Gains old new (told_line told) → EndsBy statuses.Done Holds old new
 printed-done Holds told old new holds (inl done) is gains =
     let P : Told → Type 0 = λ t. Holds (Ok t) × Gains old new (told_line t) in
     subst P done (holds, gains)
 printed-done Holds told old new holds (inr high) is gains = absurd (done-low (nat_le 400 told.status) is (le-leb 400 told.status high))
 
-pub ends-told : (Holds : Result Told AskFault → Type 0) (status : Status) (told : Told) (old new : Option (List ℕ)) → Holds (Ok told) → Holds (Err faults.NoMemory)
+pub ends-told : (Holds : Result Told AskFault → Type 0) (status : Status) (told : Told) (old new : Option (List ℕ)) → Holds (Ok told)
+    → Holds (Err faults.NoMemory)
     → IsSaid told → Printed status told old new → EndsBy status Holds old new
 ends-told Holds statuses.Done told old new holds memory is_said printed = printed-done Holds told old new holds is_said printed.0 printed.1
-ends-told Holds statuses.Denied told old new holds memory is_said printed = (told, holds, leb-true 400 told.status (denied-high (nat_le 400 told.status) printed.0), printed.1)
+ends-told Holds statuses.Denied told old new holds memory is_said printed =
+    (told, holds, leb-true 400 told.status (denied-high (nat_le 400 told.status) printed.0), printed.1)
 ends-told Holds statuses.WriteFault told old new holds memory is_said printed = (told, holds, printed.0, printed.1, printed.2, printed.3)
 ends-told Holds statuses.NoMemory told old new holds memory is_said printed = (memory, printed)
 ends-told Holds _ told old new holds memory is_said printed = absurd printed
 
-pub ends-fault : (Holds : Result Told AskFault → Type 0) (fault : AskFault) (old : Option (List ℕ)) → Holds (Err fault) → EndsBy (status_of fault) Holds old old
+pub ends-fault : (Holds : Result Told AskFault → Type 0) (fault : AskFault) (old : Option (List ℕ)) → Holds (Err fault)
+    → EndsBy (status_of fault) Holds old old
 ends-fault Holds faults.LinkFault old holds = (holds, gains_none old)
 ends-fault Holds (faults.BadReply octets) old holds = (octets, holds, gains_none old)
 ends-fault Holds faults.TurnsSpent old holds = (holds, gains_none old)
@@ -103,12 +110,14 @@ fault-written faults.TurnsSpent = refl
 fault-written faults.NoMemory = refl
 
 -- a call that told no link's fault
-pub memory-tells : (before now : ℕ) (was told : Option Bool) (x : Told) → CallTells before now was told (Ok x) → CallTells before now was told (Err faults.NoMemory)
+pub memory-tells : (before now : ℕ) (was told : Option Bool) (x : Told) → CallTells before now was told (Ok x)
+    → CallTells before now was told (Err faults.NoMemory)
 memory-tells before now was told x tells = inl tells
 
 -- ---- the words
 
-pub of-words : {A : Type 0} (Holds : Result Told AskFault → Type 0) (status : Status) (old new : Option (List ℕ)) (stated : Result A LineFault)
+pub of-words : {A : Type 0} (Holds : Result Told AskFault → Type 0) (status : Status) (old new : Option (List ℕ))
+    (stated : Result A LineFault)
     → EndsBy status Holds old new → IsOk stated → IsOfWords status stated
 of-words Holds statuses.Done old new stated ends ok = ok
 of-words Holds statuses.Denied old new stated ends ok = ok
@@ -119,7 +128,8 @@ of-words Holds statuses.TurnsSpent old new stated ends ok = ok
 of-words Holds statuses.NoMemory old new stated ends ok = tt
 of-words Holds _ old new stated ends ok = absurd ends
 
-pub completes : (Holds : Result Told AskFault → Type 0) (status : Status) (old new : Option (List ℕ)) (link sink : Type 0) → EndsBy status Holds old new
+pub completes : (Holds : Result Told AskFault → Type 0) (status : Status) (old new : Option (List ℕ)) (link sink : Type 0)
+    → EndsBy status Holds old new
     → (Holds (Err faults.LinkFault) → link) → (is_write_fault status ≡ true → sink) → (link → ⊥) → (sink → ⊥) → IsWhole status
 completes Holds statuses.Done old new link sink ends l s calm steady = tt
 completes Holds statuses.Denied old new link sink ends l s calm steady = tt

@@ -16,7 +16,8 @@ ends-by Holds endings.DockFault holds = holds
 ends-by Holds endings.NoMemory holds = holds
 
 -- words of the command were served
-pub of-words : {A : Type 0} (Holds : Ended → Type 0) (status : Status) (stated : Result A LineFault) → EndsBy status Holds → IsOk stated → IsOfWords status stated
+pub of-words : {A : Type 0} (Holds : Ended → Type 0) (status : Status) (stated : Result A LineFault) → EndsBy status Holds → IsOk stated
+    → IsOfWords status stated
 of-words Holds statuses.TurnsSpent stated ends ok = ok
 of-words Holds statuses.DeviceFault stated ends ok = ok
 of-words Holds statuses.NoMemory stated ends ok = tt
@@ -26,7 +27,8 @@ abbrev pub Told : ℕ → ℕ → Option Bool → Option Bool → Ended → Type
 Told before now was told ended = AcceptTells before now was told (is_dock_fault ended)
 
 -- no accept failed
-pub completes : (status : Status) (before now : ℕ) (was told : Option Bool) → EndsBy status (Told before now was told) → (HasRisen before now → ⊥)
+pub completes : (status : Status) (before now : ℕ) (was told : Option Bool) → EndsBy status (Told before now was told)
+    → (HasRisen before now → ⊥)
     → (status ≡ statuses.TurnsSpent) ⊎ (status ≡ statuses.NoMemory)
 completes statuses.TurnsSpent before now was told ends calm = inl refl
 completes statuses.DeviceFault before now was told ends calm = absurd (calm (ends.risen refl))

@@ -22,12 +22,14 @@ spent endings.OutsideFault is = cc
 spent endings.DockFault is = cc
 spent endings.NoMemory is = cc
 
-pub either-of : (ended : Ended) → (ended ≡ endings.TurnsSpent) ⊎ (ended ≡ endings.NoMemory) → (status_of ended ≡ statuses.TurnsSpent) ⊎ (status_of ended ≡ statuses.NoMemory)
+pub either-of : (ended : Ended) → (ended ≡ endings.TurnsSpent) ⊎ (ended ≡ endings.NoMemory) → (status_of ended ≡ statuses.TurnsSpent)
+    ⊎ (status_of ended ≡ statuses.NoMemory)
 either-of ended (inl is) = inl (ap status_of is)
 either-of ended (inr is) = inr (ap status_of is)
 
 -- words of the command were served
-pub of-words : {A : Type 0} (Holds : Ended → Type 0) (status : Status) (stated : Result A LineFault) → EndsBy status Holds → IsOk stated → IsOfWords status stated
+pub of-words : {A : Type 0} (Holds : Ended → Type 0) (status : Status) (stated : Result A LineFault) → EndsBy status Holds → IsOk stated
+    → IsOfWords status stated
 of-words Holds statuses.TurnsSpent stated ends ok = ok
 of-words Holds statuses.DeviceFault stated ends ok = ok
 of-words Holds statuses.NoMemory stated ends ok = tt

@@ -74,4 +74,5 @@ rows-boot rows w is =
     (λ _ _ same. subst (λ (v : GatewayWords). CanBoot v.config) (inside _ w same) (config-boots rows config read))))))
 
 pub words-boot : (words : List (String Global)) (w : GatewayWords) → gateway_words_of words ≡ Ok w → CanBoot w.config
-words-boot words w is = after (CanBoot w.config) (matched_by (codes "gateway") gateway_app words) gateway_in w is (λ rows _ more. rows-boot rows w more)
+words-boot words w is = after (CanBoot w.config) (matched_by (codes "gateway") gateway_app words) gateway_in w is
+    (λ rows _ more. rows-boot rows w more)

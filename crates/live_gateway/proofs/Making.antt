@@ -60,7 +60,8 @@ notes-makes (Some old) (Some new) octets s = λ d e. ap Some (s ∙ ap (with_not
 
 -- ---- acts, one after another
 
-pub after-more : {T : Type 0} (f : GwAct → T → T) (xs ys : List GwAct) (t : T) → after_all f (xs ++ ys) t ≡ after_all f ys (after_all f xs t)
+pub after-more : {T : Type 0} (f : GwAct → T → T) (xs ys : List GwAct) (t : T)
+    → after_all f (xs ++ ys) t ≡ after_all f ys (after_all f xs t)
 after-more f [] ys t = refl
 after-more f (x ∷ xs) ys t = after-more f xs ys (f x t)
 
@@ -75,7 +76,8 @@ while-none : (s : Option Feeding) (f : DockHeld → DockHeld) → ((d : DockHeld
 while-none None f same d = refl
 while-none (Some r) f same d = same d
 
-pub writes-on : (a b c : Option DockHeld) (m n o : ℕ) (s t u : Option Feeding) (f g h : DockHeld → DockHeld) → ((d : DockHeld) → h d ≡ g (f d))
+pub writes-on : (a b c : Option DockHeld) (m n o : ℕ) (s t u : Option Feeding) (f g h : DockHeld → DockHeld)
+    → ((d : DockHeld) → h d ≡ g (f d))
     → Writes a b m n s t f → Writes b c n o t u g → Writes a c m o s u h
 writes-on a b c m n o s t u f g h same p q = record {
   later = later-on m n o p.later q.later;
@@ -83,13 +85,15 @@ writes-on a b c m n o s t u f g h same p q = record {
   wrote = λ calm.
       let first = p.kept (λ risen. calm (risen-front m n o q.later risen)) in
       let left = p.wrote (λ risen. calm (risen-front m n o q.later risen)) in
-      let right = subst (λ (z : Option Feeding). Makes (while_there z g) b c) first (q.wrote (λ risen. calm (risen-back m n o p.later risen))) in
+      let right = subst (λ (z : Option Feeding). Makes (while_there z g) b c) first
+          (q.wrote (λ risen. calm (risen-back m n o p.later risen))) in
       makes-as (λ d. while_there s g (while_there s f d)) (while_there s h) a c (while-both s f g h same)
       (makes-on (while_there s f) (while_there s g) a b c left right);
 }
 
 -- nothing was written
-pub writes-same : (a : Option DockHeld) (m : ℕ) (s : Option Feeding) (f : DockHeld → DockHeld) → ((d : DockHeld) → d ≡ f d) → Writes a a m m s s f
+pub writes-same : (a : Option DockHeld) (m : ℕ) (s : Option Feeding) (f : DockHeld → DockHeld) → ((d : DockHeld) → d ≡ f d)
+    → Writes a a m m s s f
 writes-same a m s f same = record {
   later = later-same m;
   kept = λ calm. refl;
@@ -122,13 +126,16 @@ carries-none clock s d = record {
   wrote = writes-same d.dock d.faults s (after_all (dock_by clock) []) (λ x. refl);
 }
 
-pub carries-on : (clock : ℕ) (xs ys : List GwAct) (s t u : Option Feeding) (a b c : Devices) → Carries clock xs s t a b → Carries clock ys t u b c
+pub carries-on : (clock : ℕ) (xs ys : List GwAct) (s t u : Option Feeding) (a b c : Devices) → Carries clock xs s t a b
+    → Carries clock ys t u b c
     → Carries clock (xs ++ ys) s u a c
 carries-on clock xs ys s t u a b c p q = record {
   inside = makes-as (λ w. after_all inside_by ys (after_all inside_by xs w)) (after_all inside_by (xs ++ ys)) a.inside c.inside
-      (λ w. sym (after-more inside_by xs ys w)) (makes-on (after_all inside_by xs) (after_all inside_by ys) a.inside b.inside c.inside p.inside q.inside);
+      (λ w. sym (after-more inside_by xs ys w)) (makes-on (after_all inside_by xs) (after_all inside_by ys) a.inside b.inside c.inside
+          p.inside q.inside);
   outside = makes-as (λ w. after_all outside_by ys (after_all outside_by xs w)) (after_all outside_by (xs ++ ys)) a.outside c.outside
-      (λ w. sym (after-more outside_by xs ys w)) (makes-on (after_all outside_by xs) (after_all outside_by ys) a.outside b.outside c.outside p.outside q.outside);
+      (λ w. sym (after-more outside_by xs ys w)) (makes-on (after_all outside_by xs) (after_all outside_by ys) a.outside b.outside c.outside
+          p.outside q.outside);
   wrote = writes-on a.dock b.dock c.dock a.faults b.faults c.faults s t u (after_all (dock_by clock) xs) (after_all (dock_by clock) ys)
       (after_all (dock_by clock) (xs ++ ys)) (after-more (dock_by clock) xs ys) p.wrote q.wrote;
 }
@@ -137,7 +144,8 @@ carries-on clock xs ys s t u a b c p q = record {
 front : (xs : List GwAct) (i : ℕ) (x : GwAct) → i < length xs → x ≡ get_or xs i x → take (i + 1) xs ≡ take i xs ++ x ∷ []
 front xs i x lt at = take_more xs i x lt ∙ ap (λ z. take i xs ++ z ∷ []) (sym at)
 
-pub carries-step : (clock : ℕ) (xs : List GwAct) (i : ℕ) (x : GwAct) (s t u : Option Feeding) (a b c : Devices) → i < length xs → x ≡ get_or xs i x
+pub carries-step : (clock : ℕ) (xs : List GwAct) (i : ℕ) (x : GwAct) (s t u : Option Feeding) (a b c : Devices) → i < length xs
+    → x ≡ get_or xs i x
     → Carries clock (take i xs) s t a b → Carries clock (x ∷ []) t u b c → Carries clock (take (i + 1) xs) s u a c
 carries-step clock xs i x s t u a b c lt at p q =
     subst (λ (ys : List GwAct). Carries clock ys s u a c) (sym (front xs i x lt at)) (carries-on clock (take i xs) (x ∷ []) s t u a b c p q)

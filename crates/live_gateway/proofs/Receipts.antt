@@ -26,7 +26,8 @@ abbrev pub datagram_in : Option ℕ → List ℕ → Option (List ℕ)
 datagram_in None into = None
 datagram_in (Some n) into = Some (take n into)
 
-cut-is : (n : ℕ) (d into : List ℕ) → length into ≡ 65575 → n ≡ min (length d) (length into) → take n into ≡ take n d → take n into ≡ take 65575 d
+cut-is : (n : ℕ) (d into : List ℕ) → length into ≡ 65575 → n ≡ min (length d) (length into) → take n into ≡ take n d
+    → take n into ≡ take 65575 d
 cut-is n d into room size same =
     let first : take n d ≡ take (min 65575 (length d)) d = ap (λ k. take k d) (omega (arith, size, room)) in
     same ∙ first ∙ take_min 65575 d
@@ -108,7 +109,8 @@ read-none old new buf r =
     record { after = stream-is old new left r.there r.ends; gives = sym (none-came old (r.none refl)) }
 
 -- the end, or octets
-some-size : (s : Stream) (n : ℕ) (buf : List ℕ) → length buf ≡ 65536 → n ≡ min (min (length s.left) (length buf)) (there_now s.there) → n ≡ read_size s
+some-size : (s : Stream) (n : ℕ) (buf : List ℕ) → length buf ≡ 65536 → n ≡ min (min (length s.left) (length buf)) (there_now s.there)
+    → n ≡ read_size s
 some-size s n buf room e = e ∙ ap (λ k. min (min (length s.left) k) (there_now s.there)) room
 
 front-long : (s : Stream) (n : ℕ) (buf : List ℕ) → length buf ≡ 65536 → n ≡ read_size s → length (take n buf) ≡ n
@@ -148,7 +150,8 @@ read-end old new n buf room nil r =
     let ends : old.ends ≡ true = is-end (length old.left) old.ends none some.1 in
     record {
       after = stream-is old new (left-is old new n buf room size r.octets) r.there r.ends;
-      gives = sym (unless-zero (there_now old.there == 0) (came_by (read_size old) old.ends old.left) (not-zero (there_now old.there) some.0)
+      gives = sym (unless-zero (there_now old.there == 0) (came_by (read_size old) old.ends old.left)
+          (not-zero (there_now old.there) some.0)
           ∙ end-by (read_size old) old.ends old.left none ends);
     }
   where
@@ -156,14 +159,16 @@ read-end old new n buf room nil r =
     is-end long ends none (inl p) = absurd (omega (arith, none, p))
     is-end long ends none (inr e) = e
 
-pub read-piece : (old new : Stream) (n : ℕ) (buf : List ℕ) → length buf ≡ 65536 → 0 < n → Read old new (Some n) buf → Gave old new (Piece (take n buf))
+pub read-piece : (old new : Stream) (n : ℕ) (buf : List ℕ) → length buf ≡ 65536 → 0 < n → Read old new (Some n) buf
+    → Gave old new (Piece (take n buf))
 read-piece old new n buf room some r =
     let size = some-size old n buf room r.size in
     let long : 0 < length old.left = omega (arith, size, some) in
     record {
       after = stream-is old new (left-is old new n buf room size r.octets) r.there r.ends;
       gives = ap Piece (front-is old new n buf room size r.octets)
-          ∙ sym (unless-zero (there_now old.there == 0) (came_by (read_size old) old.ends old.left) (not-zero (there_now old.there) r.some.0)
+          ∙ sym (unless-zero (there_now old.there == 0) (came_by (read_size old) old.ends old.left)
+              (not-zero (there_now old.there) r.some.0)
           ∙ piece-by (read_size old) old.ends old.left long);
     }
 
@@ -172,7 +177,8 @@ read-piece old new n buf room some r =
 abbrev pub read_dock : DockHeld → DockHeld
 read_dock d = record d { session = after_read d.session }
 
-dock-is : (old new d : DockHeld) (came : Came) → new ≡ record old { session = new.session } → Gave old.session new.session came → Some old ≡ Some d
+dock-is : (old new d : DockHeld) (came : Came) → new ≡ record old { session = new.session } → Gave old.session new.session came
+    → Some old ≡ Some d
     → new ≡ read_dock d
 dock-is old new d came e gave same =
     let whole : new ≡ read_dock old = e ∙ ap (λ (s : Stream). record old { session = s }) gave.after in
@@ -182,10 +188,12 @@ pub reads-makes : (old new : Option DockHeld) (answer : Option ℕ) (buf : List 
     → ((a b : Stream) → Read a b answer buf → Gave a b came) → Reads old new answer buf → Makes read_dock old new
 reads-makes None new answer buf came gives r = λ d e. absurd (none-some d e)
 reads-makes (Some old) None answer buf came gives r = absurd r
-reads-makes (Some old) (Some new) answer buf came gives r = λ d e. ap Some (dock-is old new d came r.0 (gives old.session new.session r.1) e)
+reads-makes (Some old) (Some new) answer buf came gives r =
+    λ d e. ap Some (dock-is old new d came r.0 (gives old.session new.session r.1) e)
 
 pub reads-found : (old new : Option DockHeld) (answer : Option ℕ) (buf : List ℕ) (came : Came)
-    → ((a b : Stream) → Read a b answer buf → Gave a b came) → Reads old new answer buf → (d : DockHeld) → old ≡ Some d → came ≡ came_of d.session
+    → ((a b : Stream) → Read a b answer buf → Gave a b came) → Reads old new answer buf → (d : DockHeld) → old ≡ Some d
+        → came ≡ came_of d.session
 reads-found None new answer buf came gives r d e = absurd (none-some d e)
 reads-found (Some old) None answer buf came gives r d e = absurd r
 reads-found (Some old) (Some new) answer buf came gives r d e =

@@ -51,7 +51,8 @@ pub run-acts : (c : Config) (g : List ℕ) (past : List Item) (x : Item)
 run-acts c g past x =
     let r : Step = run_by c g past in
     ap (λ (s : Step). s.acts) (run-more c (happened past) (events_at (event_of x)) (begun g) tables.booted)
-    ∙ ap (λ zs. r.acts ++ zs) (one-told c r.naming r.kept (event_of x) ∙ ap (λ (k : Kept). told_by c r.naming k (event_of x)) (run-kept c g past))
+    ∙ ap (λ zs. r.acts ++ zs) (one-told c r.naming r.kept (event_of x) ∙ ap (λ (k : Kept). told_by c r.naming k (event_of x))
+        (run-kept c g past))
 
 -- ---- the tunnels that were asked for
 
@@ -64,7 +65,8 @@ asked-tunnel : (r : Result Ask RcError)
 asked-tunnel (Ok ask) p = (p, tt)
 asked-tunnel (Err e) p = (tt, tt)
 
-item-tunnels : (c : Config) (start : Devices) (past : List Item) (x : Item) → IsFound c start past x → AreTunnelEvents (events_at (event_of x))
+item-tunnels : (c : Config) (start : Devices) (past : List Item) (x : Item) → IsFound c start past x
+    → AreTunnelEvents (events_at (event_of x))
 item-tunnels c start past (Seconds now) p = (tt, tt)
 item-tunnels c start past (Inside None) p = tt
 item-tunnels c start past (Inside (Some o)) p = (tt, tt)

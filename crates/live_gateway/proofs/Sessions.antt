@@ -52,7 +52,8 @@ with_outside w d = record { inside = d.inside; outside = w; dock = d.dock; fault
 abbrev pub with_dock : Option DockHeld → ℕ → Devices → Devices
 with_dock held faults d = record { inside = d.inside; outside = d.outside; dock = held; faults = faults }
 
-pub inside-goes : (c : Config) (start old new : Devices) (w : Option WireHeld) (past : List Item) (octets : List ℕ) (g g' : Core) (s s' : Option Feeding)
+pub inside-goes : (c : Config) (start old new : Devices) (w : Option WireHeld) (past : List Item) (octets : List ℕ) (g g' : Core)
+    (s s' : Option Feeding)
     → Stands c start past [] old g s → Makes received old.inside w
     → ((h : WireHeld) → old.inside ≡ Some h → Some octets ≡ cut (found h.coming))
     → Does (Let octets) g g' s s' (with_inside w old) new → Stands c start (Inside (Some octets) ∷ past) [] new g' s'
@@ -62,7 +63,8 @@ inside-goes c start old new w past octets g g' s s' st got is does = record {
       let before = st.stood (calm-front start.faults old.faults new.faults does.carries.wrote.later calm) in
       let quiet = calm-back start.faults old.faults new.faults st.later calm in
       let same : s' ≡ s = does.carries.wrote.kept quiet in
-      stood-event c start old (with_inside w old) new past (Inside (Some octets)) (Let octets) [] [] g g' s s s' s' refl before got (λ h e. e)
+      stood-event c start old (with_inside w old) new past (Inside (Some octets)) (Let octets) [] [] g g' s s s' s' refl before got
+          (λ h e. e)
       (λ d e. e) (writing-is c past (Inside (Some octets)) (Let octets) s refl (session-there s [] past before.session)) does quiet
       (λ h e. is (inside_of c past h) (before.inside h e))
       (subst (λ (z : Option Feeding). IsSession z [] (Inside (Some octets) ∷ past)) (sym same)
@@ -81,7 +83,8 @@ inside-waits c start old w past g s st got is = record {
       (session-same s [] past (Inside None ∷ past) refl refl refl refl before.session);
 }
 
-pub outside-goes : (c : Config) (start old new : Devices) (w : Option WireHeld) (past : List Item) (octets : List ℕ) (g g' : Core) (s s' : Option Feeding)
+pub outside-goes : (c : Config) (start old new : Devices) (w : Option WireHeld) (past : List Item) (octets : List ℕ) (g g' : Core)
+    (s s' : Option Feeding)
     → Stands c start past [] old g s → Makes received old.outside w
     → ((h : WireHeld) → old.outside ≡ Some h → Some octets ≡ cut (found h.coming))
     → Does (Arrive octets) g g' s s' (with_outside w old) new → Stands c start (Outside (Some octets) ∷ past) [] new g' s'
@@ -91,7 +94,8 @@ outside-goes c start old new w past octets g g' s s' st got is does = record {
       let before = st.stood (calm-front start.faults old.faults new.faults does.carries.wrote.later calm) in
       let quiet = calm-back start.faults old.faults new.faults st.later calm in
       let same : s' ≡ s = does.carries.wrote.kept quiet in
-      stood-event c start old (with_outside w old) new past (Outside (Some octets)) (Arrive octets) [] [] g g' s s s' s' refl before (λ h e. e) got
+      stood-event c start old (with_outside w old) new past (Outside (Some octets)) (Arrive octets) [] [] g g' s s s' s' refl before
+          (λ h e. e) got
       (λ d e. e) (writing-is c past (Outside (Some octets)) (Arrive octets) s refl (session-there s [] past before.session)) does quiet
       (λ h e. is (outside_of c past h) (before.outside h e))
       (subst (λ (z : Option Feeding). IsSession z [] (Outside (Some octets) ∷ past)) (sym same)
@@ -115,7 +119,8 @@ outside-waits c start old w past g s st got is = record {
 abbrev pub taken_dock : DockHeld → DockHeld
 taken_dock d = taken (found d.coming) d
 
-pub accept-goes : (c : Config) (start old new : Devices) (held : Option DockHeld) (faults : ℕ) (past : List Item) (g g' : Core) (s r : Option Feeding)
+pub accept-goes : (c : Config) (start old new : Devices) (held : Option DockHeld) (faults : ℕ) (past : List Item) (g g' : Core)
+    (s r : Option Feeding)
     (s' : Option Feeding) → faults ≡ old.faults → r ≡ Some (fresh Request) → Stands c start past [] old g s → Makes taken_dock old.dock held
     → ((d : DockHeld) → old.dock ≡ Some d → true ≡ has_found (found d.coming))
     → Does Session_taken g g' r s' (with_dock held faults old) new → Stands c start (Accepted true ∷ past) [] new g' s'
@@ -134,7 +139,8 @@ accept-goes c start old new held faults past g g' s r s' count is-fresh st got i
           (subst (λ (z : Option Feeding). IsSession z [] (Accepted true ∷ past)) (sym same) (session-taken past));
     }
 
-pub accept-waits : (c : Config) (start old : Devices) (held : Option DockHeld) (faults : ℕ) (past : List Item) (g : Core) (s : Option Feeding)
+pub accept-waits : (c : Config) (start old : Devices) (held : Option DockHeld) (faults : ℕ) (past : List Item) (g : Core)
+    (s : Option Feeding)
     → faults ≡ old.faults → Stands c start past [] old g s → Makes taken_dock old.dock held
     → ((d : DockHeld) → old.dock ≡ Some d → false ≡ has_found (found d.coming))
     → Stands c start (Accepted false ∷ past) [] (with_dock held faults old) g s
@@ -150,7 +156,8 @@ accept-waits c start old held faults past g s count st got is = record {
 -- ---- reads
 
 -- no session is there
-pub unread-goes : (c : Config) (start old : Devices) (past : List Item) (g : Core) (s : Option Feeding) → s ≡ None → Stands c start past [] old g s
+pub unread-goes : (c : Config) (start old : Devices) (past : List Item) (g : Core) (s : Option Feeding) → s ≡ None
+    → Stands c start past [] old g s
     → Stands c start (Came_in Unread ∷ past) [] old g s
 unread-goes c start old past g s none st = record {
   later = st.later;
@@ -162,7 +169,8 @@ unread-goes c start old past g s none st = record {
 }
 
 -- the session that is there was read, and nothing waited
-pub waiting-goes : (c : Config) (start old : Devices) (held : Option DockHeld) (faults : ℕ) (past : List Item) (g : Core) (s : Option Feeding)
+pub waiting-goes : (c : Config) (start old : Devices) (held : Option DockHeld) (faults : ℕ) (past : List Item) (g : Core)
+    (s : Option Feeding)
     → faults ≡ old.faults → there_of s ≡ true → Stands c start past [] old g s → Makes read_dock old.dock held
     → ((d : DockHeld) → old.dock ≡ Some d → Waiting ≡ came_of d.session)
     → Stands c start (Came_in Waiting ∷ past) [] (with_dock held faults old) g s
@@ -176,7 +184,8 @@ waiting-goes c start old held faults past g s count there st got is = record {
 }
 
 -- it has ended
-pub end-goes : ReadersHold → (c : Config) (start old : Devices) (held : Option DockHeld) (faults : ℕ) (past : List Item) (g : Core) (s s' : Option Feeding)
+pub end-goes : ReadersHold → (c : Config) (start old : Devices) (held : Option DockHeld) (faults : ℕ) (past : List Item) (g : Core)
+    (s s' : Option Feeding)
     → faults ≡ old.faults → there_of s ≡ true → s' ≡ None → Stands c start past [] old g s → Makes read_dock old.dock held
     → ((d : DockHeld) → old.dock ≡ Some d → End ≡ came_of d.session)
     → Stands c start (Came_in End ∷ past) [] (with_dock held faults old) g s'
@@ -203,7 +212,8 @@ session-piece (Some r) past octets there p = record {
   reads = p.reads;
 }
 
-pub piece-goes : (c : Config) (start old : Devices) (held : Option DockHeld) (faults : ℕ) (past : List Item) (octets : List ℕ) (g : Core) (s : Option Feeding)
+pub piece-goes : (c : Config) (start old : Devices) (held : Option DockHeld) (faults : ℕ) (past : List Item) (octets : List ℕ) (g : Core)
+    (s : Option Feeding)
     → faults ≡ old.faults → there_of s ≡ true → Stands c start past [] old g s → Makes read_dock old.dock held
     → ((d : DockHeld) → old.dock ≡ Some d → Piece octets ≡ came_of d.session)
     → Stands c start (Came_in (Piece octets) ∷ past) octets (with_dock held faults old) g s
@@ -211,13 +221,15 @@ piece-goes c start old held faults past octets g s count there st got is = recor
   later = subst (λ (n : ℕ). start.faults ≤ n) (sym count) st.later;
   stood = λ calm.
       let before = st.stood (subst (λ (n : ℕ). HasRisen start.faults n → ⊥) count calm) in
-      stood-quiet c start old (with_dock held faults old) past (Came_in (Piece octets)) [] octets g s s refl before (λ h e. e) (λ h e. e) got
+      stood-quiet c start old (with_dock held faults old) past (Came_in (Piece octets)) [] octets g s s refl before (λ h e. e) (λ h e. e)
+          got
       (sym (session-there s [] past before.session) ∙ there, λ d e. is (dock_of c past d) (before.dock d e))
       (session-piece s past octets there before.session);
 }
 
 -- a read or a write failed
-pub failed-goes : (c : Config) (start old new : Devices) (past past' : List Item) (rest rest' : List ℕ) (g g' : Core) (s s' : Option Feeding)
+pub failed-goes : (c : Config) (start old new : Devices) (past past' : List Item) (rest rest' : List ℕ) (g g' : Core)
+    (s s' : Option Feeding)
     → old.faults ≤ new.faults → HasRisen old.faults new.faults → Stands c start past rest old g s → Stands c start past' rest' new g' s'
 failed-goes c start old new past past' rest rest' g g' s s' on risen st = record {
   later = later-on start.faults old.faults new.faults st.later on;
@@ -231,7 +243,8 @@ all-of [] = refl
 all-of (x ∷ xs) = all-of xs
 
 cut-at : (octets fed rest : List ℕ) (n : ℕ) → octets ≡ fed ++ rest → octets ≡ (fed ++ take n rest) ++ drop n rest
-cut-at octets fed rest n e = e ∙ ap (λ (o : List ℕ). fed ++ o) (sym (take-append-drop n rest)) ∙ sym (append_assoc fed (take n rest) (drop n rest))
+cut-at octets fed rest n e = e ∙ ap (λ (o : List ℕ). fed ++ o) (sym (take-append-drop n rest))
+    ∙ sym (append_assoc fed (take n rest) (drop n rest))
 
 -- no message is whole
 session-nothing : (s t : Option Feeding) (rest : List ℕ) (past : List Item) → Feeds s t rest brought.Nothing → IsSession s rest past
@@ -266,7 +279,8 @@ nothing-goes c start now past rest g s t f st = record {
 }
 
 -- a session is there where a message comes
-there-fed : (s t : Option Feeding) (rest : List ℕ) (m : HttpMessage) (n : ℕ) → Feeds s t rest (brought.Message m n) → there_of t ≡ there_of s
+there-fed : (s t : Option Feeding) (rest : List ℕ) (m : HttpMessage) (n : ℕ) → Feeds s t rest (brought.Message m n)
+    → there_of t ≡ there_of s
 there-fed None t rest m n f = let no : ⊥ = cc (f.1) in absurd no
 there-fed (Some r) None rest m n f = absurd f
 there-fed (Some r) (Some q) rest m n f = refl
@@ -285,7 +299,8 @@ session-message (Some r) (Some q) rest past m n f p = record {
   reads = f.reads p.fed (messages_of past) p.reads;
 }
 
-pub message-goes : (c : Config) (start old new : Devices) (past : List Item) (rest : List ℕ) (m : HttpMessage) (n : ℕ) (g g' : Core) (s t s' : Option Feeding)
+pub message-goes : (c : Config) (start old new : Devices) (past : List Item) (rest : List ℕ) (m : HttpMessage) (n : ℕ) (g g' : Core)
+    (s t s' : Option Feeding)
     → Feeds s t rest (brought.Message m n) → IsTunnelled (request_of m) → Stands c start past rest old g s
     → Does (Handle (request_of m)) g g' t s' old new → Stands c start (Message m ∷ past) (drop n rest) new g' s'
 message-goes c start old new past rest m n g g' s t s' f tunnel st does = record {
@@ -294,11 +309,13 @@ message-goes c start old new past rest m n g g' s t s' f tunnel st does = record
       let before = st.stood (calm-front start.faults old.faults new.faults does.carries.wrote.later calm) in
       let quiet = calm-back start.faults old.faults new.faults st.later calm in
       let same : s' ≡ t = does.carries.wrote.kept quiet in
-      stood-event c start old old new past (Message m) (Handle (request_of m)) rest (drop n rest) g g' s t s' s' refl before (λ w e. e) (λ w e. e)
+      stood-event c start old old new past (Message m) (Handle (request_of m)) rest (drop n rest) g g' s t s' s' refl before (λ w e. e)
+          (λ w e. e)
       (λ d e. e)
       (writing-is c past (Message m) (Handle (request_of m)) t refl (there-fed s t rest m n f ∙ session-there s rest past before.session))
       does quiet tunnel
-      (subst (λ (z : Option Feeding). IsSession z (drop n rest) (Message m ∷ past)) (sym same) (session-message s t rest past m n f before.session));
+      (subst (λ (z : Option Feeding). IsSession z (drop n rest) (Message m ∷ past)) (sym same)
+          (session-message s t rest past m n f before.session));
 }
 
 -- ---- a fault
@@ -311,7 +328,8 @@ there-broken (Some r) (Some q) rest fault f = refl
 all-fed : (fed rest octets : List ℕ) → octets ≡ fed ++ rest → fed ++ take (length rest) rest ≡ octets
 all-fed fed rest octets e = ap (λ (o : List ℕ). fed ++ o) (take_all (length rest) rest (omega arith)) ∙ sym e
 
-held-broken : ReadersHold → (s t : Option Feeding) (rest : List ℕ) (past : List Item) (fault : HttpFault) → Feeds s t rest (brought.Fault fault)
+held-broken : ReadersHold → (s t : Option Feeding) (rest : List ℕ) (past : List Item) (fault : HttpFault)
+    → Feeds s t rest (brought.Fault fault)
     → IsSession s rest past → IsHeld (Broken fault ∷ past)
 held-broken law None t rest past fault f p = let no : ⊥ = cc (f.1) in absurd no
 held-broken law (Some r) None rest past fault f p = absurd f
@@ -322,7 +340,8 @@ held-broken law (Some r) (Some q) rest past fault f p =
     (subst (λ (x : Option HttpFault). Holds Request (p.fed ++ take (length rest) rest) (messages_of past ++ []) x) f.fault
     (subst (λ (k : Kind). Holds k (p.fed ++ take (length rest) rest) (messages_of past ++ []) q.fault) (f.kind ∙ p.kind) h)))
 
-pub broken-goes : ReadersHold → (c : Config) (start old new : Devices) (past : List Item) (rest rest' : List ℕ) (fault : HttpFault) (g g' : Core)
+pub broken-goes : ReadersHold → (c : Config) (start old new : Devices) (past : List Item) (rest rest' : List ℕ) (fault : HttpFault)
+    (g g' : Core)
     (s t u s' : Option Feeding) → Feeds s t rest (brought.Fault fault) → s' ≡ None → Stands c start past rest old g s
     → Does (Handle (Err (no_message fault))) g g' t u old new → Stands c start (Broken fault ∷ past) rest' new g' s'
 broken-goes law c start old new past rest rest' fault g g' s t u s' f none st does = record {
@@ -330,7 +349,8 @@ broken-goes law c start old new past rest rest' fault g g' s t u s' f none st do
   stood = λ calm.
       let before = st.stood (calm-front start.faults old.faults new.faults does.carries.wrote.later calm) in
       let quiet = calm-back start.faults old.faults new.faults st.later calm in
-      stood-event c start old old new past (Broken fault) (Handle (Err (no_message fault))) rest rest' g g' s t u s' refl before (λ w e. e) (λ w e. e)
+      stood-event c start old old new past (Broken fault) (Handle (Err (no_message fault))) rest rest' g g' s t u s' refl before (λ w e. e)
+          (λ w e. e)
       (λ d e. e)
       (writing-is c past (Broken fault) (Handle (Err (no_message fault))) t refl
       (there-broken s t rest fault f ∙ session-there s rest past before.session)) does quiet tt
@@ -357,7 +377,8 @@ abbrev pub Takes : Config → Devices → List Item → List ℕ → Devices →
 Takes c start past rest now g s = (more : List Item) × AreTaken more × Stands c start (more ++ past) rest now g s
 
 pub pieces-on : (c : Config) (start mid now : Devices) (past : List Item) (rest rest' : List ℕ) (g g' : Core) (s s' : Option Feeding)
-    → Takes c start past rest mid g s → ((earlier : List Item) → Stands c start earlier rest mid g s → Takes c start earlier rest' now g' s')
+    → Takes c start past rest mid g s → ((earlier : List Item) → Stands c start earlier rest mid g s
+        → Takes c start earlier rest' now g' s')
     → Takes c start past rest' now g' s'
 pieces-on c start mid now past rest rest' g g' s s' first step =
     let second = step (first.0 ++ past) first.2 in (

@@ -35,7 +35,8 @@ calm-back a b c later calm risen = calm (risen-back a b c later risen)
 false-true : false ≡ true → ⊥
 false-true e = let no : ⊥ = cc in no
 
-by-there : (s : Option Feeding) (b : Bool) (f : DockHeld → DockHeld) (d : DockHeld) → there_of s ≡ b → while_there s f d ≡ (if b then f d else d)
+by-there : (s : Option Feeding) (b : Bool) (f : DockHeld → DockHeld) (d : DockHeld) → there_of s ≡ b
+    → while_there s f d ≡ (if b then f d else d)
 by-there None true f d e = absurd (false-true e)
 by-there None false f d e = refl
 by-there (Some r) true f d e = refl
@@ -44,9 +45,11 @@ by-there (Some r) false f d e = absurd (false-true (sym e))
 -- what is done at this event is written
 abbrev pub Writing : Config → List Item → Item → Event → Option Feeding → Type 0
 Writing c past x e s = (d : DockHeld)
-    → while_there s (after_all (dock_by (stepped c e (kept_of c past)).kept.clock) (stepped c e (kept_of c past)).acts) d ≡ written_at c past x d
+    → while_there s (after_all (dock_by (stepped c e (kept_of c past)).kept.clock) (stepped c e (kept_of c past)).acts) d ≡ written_at c
+        past x d
 
-pub writing-is : (c : Config) (past : List Item) (x : Item) (e : Event) (s : Option Feeding) → event_of x ≡ Some e → there_of s ≡ is_there past
+pub writing-is : (c : Config) (past : List Item) (x : Item) (e : Event) (s : Option Feeding) → event_of x ≡ Some e
+    → there_of s ≡ is_there past
     → Writing c past x e s
 writing-is c past x e s ev there d =
     let K : Kept = kept_of c past in
@@ -92,8 +95,10 @@ dock-on : (of at : DockHeld → DockHeld) (c : Config) (past : List Item) (x : I
     → Makes (while_there s (after_all (dock_by (stepped g.config e g.kept).kept.clock) (stepped g.config e g.kept).acts)) d n
     → Makes (λ w. written_at c past x (at (of w))) a n
 dock-on of at c past x e g s a b d n core writing p q r =
-    let P : Core → Type 0 = λ h. Makes (while_there s (after_all (dock_by (stepped h.config e h.kept).kept.clock) (stepped h.config e h.kept).acts)) d n in
-    let f : DockHeld → DockHeld = while_there s (after_all (dock_by (stepped c e (kept_of c past)).kept.clock) (stepped c e (kept_of c past)).acts) in
+    let P : Core → Type 0 =
+        λ h. Makes (while_there s (after_all (dock_by (stepped h.config e h.kept).kept.clock) (stepped h.config e h.kept).acts)) d n in
+    let f : DockHeld → DockHeld =
+        while_there s (after_all (dock_by (stepped c e (kept_of c past)).kept.clock) (stepped c e (kept_of c past)).acts) in
     makes-as (λ w. f (at (of w))) (λ w. written_at c past x (at (of w))) a n (λ w. writing (at (of w)))
     (makes-on (λ w. at (of w)) f a d n (makes-on of at a b d p q) (subst P core r))
 
@@ -101,12 +106,15 @@ dock-on of at c past x e g s a b d n core writing p q r =
 pub stood-event : (c : Config) (start old mid new : Devices) (past : List Item) (x : Item) (e : Event) (rest rest' : List ℕ) (g g' : Core)
     (s s1 s2 s' : Option Feeding) → event_of x ≡ Some e → Stood c start past rest old g s → Makes (inside_at x) old.inside mid.inside
     → Makes (outside_at x) old.outside mid.outside → Makes (dock_at x) old.dock mid.dock → Writing c past x e s1 → Does e g g' s1 s2 mid new
-    → (HasRisen mid.faults new.faults → ⊥) → IsFound c start past x → IsSession s' rest' (x ∷ past) → Stood c start (x ∷ past) rest' new g' s'
+    → (HasRisen mid.faults new.faults → ⊥) → IsFound c start past x → IsSession s' rest' (x ∷ past)
+        → Stood c start (x ∷ past) rest' new g' s'
 stood-event c start old mid new past x e rest rest' g g' s s1 s2 s' ev before inside outside dock writing does calm found session = record {
   core = core-on c past x e g g' ev before.core does.core;
-  inside = wire-on inside_by (inside_at x) (inside_of c past) c past x e g start.inside old.inside mid.inside new.inside ev before.core before.inside
+  inside = wire-on inside_by (inside_at x) (inside_of c past) c past x e g start.inside old.inside mid.inside new.inside ev before.core
+      before.inside
       inside does.carries.inside;
-  outside = wire-on outside_by (outside_at x) (outside_of c past) c past x e g start.outside old.outside mid.outside new.outside ev before.core
+  outside = wire-on outside_by (outside_at x) (outside_of c past) c past x e g start.outside old.outside mid.outside new.outside ev
+      before.core
       before.outside outside does.carries.outside;
   dock = dock-on (dock_of c past) (dock_at x) c past x e g s1 start.dock old.dock mid.dock new.dock before.core writing before.dock dock
       (does.carries.wrote.wrote calm);
@@ -116,21 +124,25 @@ stood-event c start old mid new past x e rest rest' g g' s s1 s2 s' ev before in
 
 -- ---- nothing happens by what came
 
-wire-still : (by : GwAct → WireHeld → WireHeld) (at of : WireHeld → WireHeld) (c : Config) (past : List Item) (x : Item) (a b d : Option WireHeld)
+wire-still : (by : GwAct → WireHeld → WireHeld) (at of : WireHeld → WireHeld) (c : Config) (past : List Item) (x : Item)
+    (a b d : Option WireHeld)
     → event_of x ≡ None → Makes of a b → Makes at b d → Makes (λ w. after_all by (acts_at c past x) (at (of w))) a d
 wire-still by at of c past x a b d ev p q =
     let F : WireHeld → Option Event → WireHeld = λ w o. after_all by (acts_by c o (kept_of c past)) (at (of w)) in
     makes-as (λ w. F w None) (λ w. F w (event_of x)) a d (λ w. ap (F w) (sym ev)) (makes-on of at a b d p q)
 
-pub stood-quiet : (c : Config) (start old new : Devices) (past : List Item) (x : Item) (rest rest' : List ℕ) (g : Core) (s s' : Option Feeding)
-    → event_of x ≡ None → Stood c start past rest old g s → Makes (inside_at x) old.inside new.inside → Makes (outside_at x) old.outside new.outside
+pub stood-quiet : (c : Config) (start old new : Devices) (past : List Item) (x : Item) (rest rest' : List ℕ) (g : Core)
+    (s s' : Option Feeding)
+    → event_of x ≡ None → Stood c start past rest old g s → Makes (inside_at x) old.inside new.inside
+        → Makes (outside_at x) old.outside new.outside
     → Makes (dock_at x) old.dock new.dock → IsFound c start past x → IsSession s' rest' (x ∷ past) → Stood c start (x ∷ past) rest' new g s'
 stood-quiet c start old new past x rest rest' g s s' ev before inside outside dock found session =
     let K : Option Event → Core = λ o. record { config = c; kept = kept_by c o (kept_of c past) } in
     record {
       core = before.core ∙ ap K (sym ev);
       inside = wire-still inside_by (inside_at x) (inside_of c past) c past x start.inside old.inside new.inside ev before.inside inside;
-      outside = wire-still outside_by (outside_at x) (outside_of c past) c past x start.outside old.outside new.outside ev before.outside outside;
+      outside = wire-still outside_by (outside_at x) (outside_of c past) c past x start.outside old.outside new.outside ev before.outside
+          outside;
       dock = makes-as (λ w. dock_at x (dock_of c past w)) (λ w. written_at c past x (dock_at x (dock_of c past w))) start.dock new.dock
           (λ w. nothing-written c past x ev (dock_at x (dock_of c past w)))
           (makes-on (dock_of c past) (dock_at x) start.dock old.dock new.dock before.dock dock);
@@ -152,7 +164,8 @@ held-same past more o m f h =
     (subst (λ (x : Option HttpFault). Holds Request (octets_of past) (messages_of past) x) (sym f) h))
 
 -- what changes no word of the session leaves it as it is
-pub session-same : (s : Option Feeding) (rest : List ℕ) (past more : List Item) → is_there more ≡ is_there past → octets_of more ≡ octets_of past
+pub session-same : (s : Option Feeding) (rest : List ℕ) (past more : List Item) → is_there more ≡ is_there past
+    → octets_of more ≡ octets_of past
     → messages_of more ≡ messages_of past → fault_of more ≡ fault_of past → IsSession s rest past → IsSession s rest more
 session-same None rest past more t o m f p = (t ∙ p.0, held-same past more o m f p.1)
 session-same (Some r) rest past more t o m f p = record {
@@ -183,7 +196,8 @@ session-none = (refl, waits-first)
 
 -- what readers have read
 abbrev pub ReadersHold : Type 0
-ReadersHold = (f : Feeding) (octets : List ℕ) (messages : List HttpMessage) → HasRead f octets messages → Holds f.kind octets messages f.fault
+ReadersHold = (f : Feeding) (octets : List ℕ) (messages : List HttpMessage) → HasRead f octets messages
+    → Holds f.kind octets messages f.fault
 
 reader-held : ReadersHold → (r : Feeding) (past : List Item) → IsReader r [] past → IsHeld past
 reader-held law r past p =

@@ -41,7 +41,8 @@ tells_none a b x y ended same told not =
     (subst (λ (e : Bool). Tells a a x x e) (sym not) (tells_same a x)))
 
 -- one call
-pub tells_passed : {T E : Type 0} (a b : ℕ) (x y : Option Bool) (v : T) → HasCause {T = T} {E = E} a b (Ok v) → TellsOutcome {T = T} {E = E} y (Ok v)
+pub tells_passed : {T E : Type 0} (a b : ℕ) (x y : Option Bool) (v : T) → HasCause {T = T} {E = E} a b (Ok v)
+    → TellsOutcome {T = T} {E = E} y (Ok v)
     → Tells a b x y false
 tells_passed a b x y v cause told = record {
   later = cause.later;
@@ -50,7 +51,8 @@ tells_passed a b x y v cause told = record {
   calm = λ e calm. told;
 }
 
-pub tells_failed : {T E : Type 0} (a b : ℕ) (x y : Option Bool) (v : E) → HasCause {T = T} {E = E} a b (Err v) → TellsOutcome {T = T} {E = E} y (Err v)
+pub tells_failed : {T E : Type 0} (a b : ℕ) (x y : Option Bool) (v : E) → HasCause {T = T} {E = E} a b (Err v)
+    → TellsOutcome {T = T} {E = E} y (Err v)
     → Tells a b x y true
 tells_failed a b x y v cause told = record {
   later = cause.later;
@@ -109,7 +111,8 @@ on_ok (Ok x) p = p
 on_ok (Err e) p = tt
 
 -- a reader that goes on has read its octets
-pub read_fed : (r : Result Brought Failure) (old new : Feeding) (piece : List ℕ) → IsReading old → IfOk r (GoesOn old new piece) → OnErr r (new ≡ old)
+pub read_fed : (r : Result Brought Failure) (old new : Feeding) (piece : List ℕ) → IsReading old → IfOk r (GoesOn old new piece)
+    → OnErr r (new ≡ old)
     → IsReading new
 read_fed (Ok b) old new piece p goes same = (
   p.0 ++ take (taken_of (length piece) b) piece,
@@ -121,7 +124,8 @@ read_fed (Err e) old new piece p goes same = subst IsReading (sym same) p
 pub feeds_none : (s t : Option Feeding) (piece : List ℕ) → s ≡ None → t ≡ s → Feeds s t piece Nothing
 feeds_none s t piece e f = subst (λ (z : Option Feeding). Feeds z t piece Nothing) (sym e) (f ∙ e, refl)
 
-pub feeds_some : (s : Option Feeding) (r q : Feeding) (piece : List ℕ) (b : Brought) → s ≡ Some r → GoesOn r q piece b → Feeds s (Some q) piece b
+pub feeds_some : (s : Option Feeding) (r q : Feeding) (piece : List ℕ) (b : Brought) → s ≡ Some r → GoesOn r q piece b
+    → Feeds s (Some q) piece b
 feeds_some s r q piece b e goes = subst (λ (z : Option Feeding). Feeds z (Some q) piece b) (sym e) goes
 
 pub is_read : (s : Option Feeding) (r : Feeding) → s ≡ Some r → IsRead s → IsReading r

@@ -18,7 +18,8 @@ use Rattle.live_gateway.proofs.Standing.{ReadersHold, calm-front, session-held, 
 none-some : {T : Type 0} (b : T) → None ≡ Some b → ⊥
 none-some b e = let no : ⊥ = cc in no
 
-clock-on : (a b : Option (List ℕ)) (now : ℕ) → clocks.Tells a b now → (r : List ℕ) → a ≡ Some r → (now ≡ reading r) × (b ≡ Some (readings_after r))
+clock-on : (a b : Option (List ℕ)) (now : ℕ) → clocks.Tells a b now → (r : List ℕ) → a ≡ Some r → (now ≡ reading r)
+    × (b ≡ Some (readings_after r))
 clock-on None b now t r e = absurd (none-some r e)
 clock-on (Some a) None now t r e = absurd t
 clock-on (Some a) (Some b) now t r e =
@@ -48,7 +49,8 @@ are-taken (Came_in c ∷ more) past r t a = absurd t
 abbrev pub IsRead : Option (List ℕ) → Option (List ℕ) → List Item → Type 0
 IsRead start now past = (readings : List ℕ) → start ≡ Some readings → AreReadings past readings × (now ≡ Some (readings_of past readings))
 
-pub reads-on : (start old new : Option (List ℕ)) (past more : List Item) (t : Calls) → IsRead start old past → clocks.Tells old new t.now → AreTaken more
+pub reads-on : (start old new : Option (List ℕ)) (past more : List Item) (t : Calls) → IsRead start old past → clocks.Tells old new t.now
+    → AreTaken more
     → IsRead start new (more ++ called t past)
 reads-on start old new past more t so tells taken = λ r e.
     let before = so r e in
@@ -60,7 +62,8 @@ reads-on start old new past more t so tells taken = λ r e.
 -- ---- turns
 
 -- what was served so far
-pub record SoFar (c : Config) (turns : ℕ) (start now : Devices) (clock clock' : Option (List ℕ)) (gateway : Core) (session : Option Feeding) : Type 0 where
+pub record SoFar (c : Config) (turns : ℕ) (start now : Devices) (clock clock' : Option (List ℕ)) (gateway : Core)
+    (session : Option Feeding) : Type 0 where
   pub past : List Item
   pub turned : AreTurns turns past
   pub readings : IsRead clock clock' past
@@ -81,15 +84,19 @@ turns-none c start clock = record {
   };
 }
 
-pub turns-first : (g : Core) (start : Devices) (clock : Option (List ℕ)) → g ≡ booted g.config → SoFar g.config 0 start start clock clock g None
-turns-first g start clock e = subst (λ (h : Core). SoFar g.config 0 start start clock clock h None) (sym e) (turns-none g.config start clock)
+pub turns-first : (g : Core) (start : Devices) (clock : Option (List ℕ)) → g ≡ booted g.config
+    → SoFar g.config 0 start start clock clock g None
+turns-first g start clock e = subst (λ (h : Core). SoFar g.config 0 start start clock clock h None) (sym e)
+    (turns-none g.config start clock)
 
 -- one turn more
 abbrev pub TurnGoes : Devices → Devices → Option (List ℕ) → Option (List ℕ) → Core → Core → Option Feeding → Option Feeding → Type 0
 TurnGoes old new clock clock' g g' s s' = (c : Config) (start : Devices) (past : List Item) → Stands c start past [] old g s
-    → (t : Calls) × (more : List Item) × AreTaken more × Stands c start (more ++ called t past) [] new g' s' × clocks.Tells clock clock' t.now
+    → (t : Calls) × (more : List Item) × AreTaken more × Stands c start (more ++ called t past) [] new g' s'
+        × clocks.Tells clock clock' t.now
 
-pub turns-on : ReadersHold → (c : Config) (n : ℕ) (start old new : Devices) (clock mid clock' : Option (List ℕ)) (g g' : Core) (s s' : Option Feeding)
+pub turns-on : ReadersHold → (c : Config) (n : ℕ) (start old new : Devices) (clock mid clock' : Option (List ℕ)) (g g' : Core)
+    (s s' : Option Feeding)
     → start.faults ≤ old.faults → old.faults ≤ new.faults → TurnGoes old new mid clock' g g' s s'
     → ((HasRisen start.faults old.faults → ⊥) → SoFar c n start old clock mid g s)
     → (HasRisen start.faults new.faults → ⊥) → SoFar c (n + 1) start new clock clock' g' s'

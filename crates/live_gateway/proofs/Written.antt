@@ -83,7 +83,8 @@ entry-named e h =
     let two = unfaulted false faults.DuplicateName _ (first-none (entry_fault [] e) None one) in
     named-if (is_spd_name e.name) faults.BadName _ two
 
-policy-named : (p : SpdEntry → Bool) (list : List SpdEntry) (e : SpdEntry) → spd_fault list ≡ None → find p list ≡ Some e → is_spd_name e.name ≡ true
+policy-named : (p : SpdEntry → Bool) (list : List SpdEntry) (e : SpdEntry) → spd_fault list ≡ None → find p list ≡ Some e
+    → is_spd_name e.name ≡ true
 policy-named p list e h f = entry-named e (policy_found p list e h f)
 
 half-named : (e : SadEntry) → sad_fault e ≡ None → is_sad_name e.name ≡ true
@@ -165,7 +166,8 @@ spent-told i x k n = spent-by x.overflow (dropped why.SeqLimit k) _ (All-nil IsN
     spent-by : (b : Bool) (o p : Outcome) → IsTold o → IsTold p → IsTold (if b then o else p)
     spent-by = if-told
 
-sealed-told : (seq_last : ℕ) (o : List ℕ) (v : Packet) (i : ℕ) (x : Half) (k : Kept) → IsNamed x → IsTold (outbound.sealed_under seq_last o v i x k)
+sealed-told : (seq_last : ℕ) (o : List ℕ) (v : Packet) (i : ℕ) (x : Half) (k : Kept) → IsNamed x
+    → IsTold (outbound.sealed_under seq_last o v i x k)
 sealed-told seq_last o v i x k n =
     if-told (nat_le seq_last x.sent) (outbound.spent i x k) (outbound.sent_under o v i x k) (spent-told i x k n)
     (used-told (answers.Sent x.entry.name (x.sent + 1) (datagram x.entry (x.sent + 1) v o)) i (send k.clock (esp_len (length o)))
@@ -188,15 +190,18 @@ let-action-told seq_last o v p actions.Protect k n s = protected-told seq_last o
 let-action-told seq_last o v p actions.Bypass k n s = All-nil IsNotice
 let-action-told seq_last o v p actions.Discard k n s = All-nil IsNotice
 
-let-entry-told : (seq_last : ℕ) (o : List ℕ) (v : Packet) (e : Option SpdEntry) (k : Kept) → ((p : SpdEntry) → e ≡ Some p → is_spd_name p.name ≡ true)
+let-entry-told : (seq_last : ℕ) (o : List ℕ) (v : Packet) (e : Option SpdEntry) (k : Kept)
+    → ((p : SpdEntry) → e ≡ Some p → is_spd_name p.name ≡ true)
     → IsSound k → IsTold (outbound.let_by_entry seq_last o v e k)
 let-entry-told seq_last o v None k n s = All-nil IsNotice
 let-entry-told seq_last o v (Some p) k n s = let-action-told seq_last o v p p.action k (n p refl) s
 
-let-view-told : (seq_last : ℕ) (o : List ℕ) (r : Result Packet NotPacket) (k : Kept) → IsSound k → IsTold (outbound.let_by_view seq_last o r k)
+let-view-told : (seq_last : ℕ) (o : List ℕ) (r : Result Packet NotPacket) (k : Kept) → IsSound k
+    → IsTold (outbound.let_by_view seq_last o r k)
 let-view-told seq_last o (Err f) k s = All-nil IsNotice
 let-view-told seq_last o (Ok v) k s =
-    if-told (nat_lt 65000 (length o)) (dropped why.TooLong k) (outbound.let_by_entry seq_last o v (first_entry k.spd Out v) k) (All-nil IsNotice)
+    if-told (nat_lt 65000 (length o)) (dropped why.TooLong k) (outbound.let_by_entry seq_last o v (first_entry k.spd Out v) k)
+        (All-nil IsNotice)
     (let-entry-told seq_last o v (first_entry k.spd Out v) k (λ p e. policy-named (decides Out v) k.spd p s.policies e) s)
 
 -- ---- datagrams from outside
@@ -204,22 +209,27 @@ let-view-told seq_last o (Ok v) k s =
 no-spi-told : (spi : ℕ) (k : Kept) → IsTold (inbound.without_half spi k)
 no-spi-told spi k = no-spi (list_any (λ s. s == spi) k.bad_spis)
   where
-    no-spi : (b : Bool) → IsTold (if b then dropped why.BadSpi k else dropped_and_told why.BadSpi (notices.BadSpi spi) (record k { bad_spis = take 64 (spi ∷ k.bad_spis) }))
+    no-spi : (b : Bool) → IsTold (if b then dropped why.BadSpi k else dropped_and_told why.BadSpi (notices.BadSpi spi)
+        (record k { bad_spis = take 64 (spi ∷ k.bad_spis) }))
     no-spi true = All-nil IsNotice
     no-spi false = one-told (notices.BadSpi spi) tt
 
-opened-text-told : (b : List ℕ) (i : ℕ) (x : Half) (n : ℕ) (t : Option (List ℕ)) (k : Kept) → IsNamed x → IsTold (inbound.opened_by_text b i x n t k)
+opened-text-told : (b : List ℕ) (i : ℕ) (x : Half) (n : ℕ) (t : Option (List ℕ)) (k : Kept) → IsNamed x
+    → IsTold (inbound.opened_by_text b i x n t k)
 opened-text-told b i x n None k m = All-nil IsNotice
 opened-text-told b i x n (Some t) k m =
-    used-told (inbound.answer_by_packet x.entry n (esp.inner_packet t)) i (take_number k.clock (length b) n) (take_number k.clock (length b) n x) k m
+    used-told (inbound.answer_by_packet x.entry n (esp.inner_packet t)) i (take_number k.clock (length b) n)
+        (take_number k.clock (length b) n x) k m
 
-opened-verdict-told : (b : List ℕ) (i : ℕ) (x : Half) (n : ℕ) (v : Verdict) (k : Kept) → IsNamed x → IsTold (inbound.opened_by_verdict b i x n v k)
+opened-verdict-told : (b : List ℕ) (i : ℕ) (x : Half) (n : ℕ) (v : Verdict) (k : Kept) → IsNamed x
+    → IsTold (inbound.opened_by_verdict b i x n v k)
 opened-verdict-told b i x n verdicts.Zero k m = All-nil IsNotice
 opened-verdict-told b i x n verdicts.Old k m = All-nil IsNotice
 opened-verdict-told b i x n verdicts.Seen k m = All-nil IsNotice
 opened-verdict-told b i x n verdicts.Fresh k m = opened-text-told b i x n (esp.opened (keying x.entry.spi x.entry.key) b) k m
 
-opened-at-told : (b : List ℕ) (i : ℕ) (h : Option Half) (k : Kept) → ((x : Half) → h ≡ Some x → IsNamed x) → IsTold (inbound.opened_at b i h k)
+opened-at-told : (b : List ℕ) (i : ℕ) (h : Option Half) (k : Kept) → ((x : Half) → h ≡ Some x → IsNamed x)
+    → IsTold (inbound.opened_at b i h k)
 opened-at-told b i None k m = no-spi-told (spi_of b) k
 opened-at-told b i (Some x) k m =
     opened-verdict-told b i x (number_from x.entry x.window.top b) (judged x.window (number_from x.entry x.window.top b)) k (m x refl)
@@ -242,10 +252,12 @@ esp-told b k s =
     if-told (nat_lt (length b) 34) (dropped why.Short k) (inbound.opened_by_place b (position (is_half_of_spi (spi_of b)) k.halves) k)
     (All-nil IsNotice) (opened-place-told b (position (is_half_of_spi (spi_of b)) k.halves) k s)
 
-arrive-view-told : (own : Addr) (o : List ℕ) (r : Result Packet NotPacket) (k : Kept) → IsSound k → IsTold (inbound.arrive_by_view own o r k)
+arrive-view-told : (own : Addr) (o : List ℕ) (r : Result Packet NotPacket) (k : Kept) → IsSound k
+    → IsTold (inbound.arrive_by_view own o r k)
 arrive-view-told own o (Err f) k s = All-nil IsNotice
 arrive-view-told own o (Ok v) k s =
-    if-told (is_sealed_for own v) (inbound.opened_esp v.payload k) (inbound.clear_by_entry o (first_entry k.spd In v) k) (esp-told v.payload k s)
+    if-told (is_sealed_for own v) (inbound.opened_esp v.payload k) (inbound.clear_by_entry o (first_entry k.spd In v) k)
+        (esp-told v.payload k s)
     (clear-told o (first_entry k.spd In v) k)
 
 -- ---- acts
@@ -276,12 +288,15 @@ change-written list (changes.Gone x) = All-cons IsWritten (done.Gone x false) []
 
 -- every reply about databases without a fault can be written
 abbrev pub RepliesAreWritten : Type 0
-RepliesAreWritten = (t : Tree) (a : Ask) → IsTree t → IsTypedTree t → IsAsk a → IsWritableResponse (reply_message (reply_of (table.reply t a)))
+RepliesAreWritten = (t : Tree) (a : Ask) → IsTree t → IsTypedTree t → IsAsk a
+    → IsWritableResponse (reply_message (reply_of (table.reply t a)))
 
 pub step-written : RepliesAreWritten → (c : Config) (e : Event) (k : Kept) → IsSound k → IsEvent e → CanRefuse e
     → ((ask : Ask) → e ≡ Handle (Ok ask) → CanTell (tree_of k)) → All IsWritten (stepped c e k).acts
-step-written law c (Let o) k s is can tells = done-written (outbound.let_in c.seq_last o k).done (let-view-told c.seq_last o (view_of o) k s)
-step-written law c (Arrive o) k s is can tells = done-written (inbound.arrive c.address o k).done (arrive-view-told c.address o (view_of o) k s)
+step-written law c (Let o) k s is can tells = done-written (outbound.let_in c.seq_last o k).done
+    (let-view-told c.seq_last o (view_of o) k s)
+step-written law c (Arrive o) k s is can tells =
+    done-written (inbound.arrive c.address o k).done (arrive-view-told c.address o (view_of o) k s)
 step-written law c (Clock t) k s is can tells = done-written (looks.clock_read t k).done (clock-told t k s)
 step-written law c (Handle (Ok ask)) k s is can tells =
     let r : table.Outcome = table.reply (tree_of k) ask in

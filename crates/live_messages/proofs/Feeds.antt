@@ -52,7 +52,8 @@ none-found : IsOne → (kind : Kind) (kept : List ℕ) (fault : Option HttpFault
 none-found one kind kept None since s w = refl
 none-found one kind kept (Some fault) since s w = absurd (waits-fails fault (one kind since Waits (Fails fault) w s))
 
-one-found : IsOne → (kind : Kind) (kept : List ℕ) (found : Option HttpFault) (since : List ℕ) (fault : HttpFault) → IsSinceBy kind kept found since
+one-found : IsOne → (kind : Kind) (kept : List ℕ) (found : Option HttpFault) (since : List ℕ) (fault : HttpFault)
+    → IsSinceBy kind kept found since
     → Looks kind since (Fails fault) → found ≡ Some fault
 one-found one kind kept None since fault s w = absurd (waits-fails fault (one kind since Waits (Fails fault) s.1 w))
 one-found one kind kept (Some other) since fault s w = same-fault other fault (one kind since (Fails other) (Fails fault) s w)
@@ -93,11 +94,13 @@ pub fault-goes : IsOne → Joins → (f after : Feeding) (piece : List ℕ) (fau
 fault-goes one join f after piece fault reading same gave =
     let since = since-of f reading.0 reading.1 reading.2 in
     let given = gave since.0 since.1 in
-    let fails : Looks after.kind (since.0 ++ piece) (Fails fault) = subst (λ k. Looks k (since.0 ++ piece) (Fails fault)) (sym same) given.0 in
+    let fails : Looks after.kind (since.0 ++ piece) (Fails fault) = subst (λ k. Looks k (since.0 ++ piece) (Fails fault)) (sym same) given.0
+        in
     record {
       kind = same;
       fault = one-found one after.kind after.octets after.fault (since.0 ++ piece) fault given.1 fails;
-      reads = λ octets messages h. on-whole after octets piece messages (join f after octets piece messages (Err (Refused fault)) same gave h);
+      reads = λ octets messages h. on-whole after octets piece messages (join f after octets piece messages (Err (Refused fault)) same gave
+          h);
       within = omega arith;
       some = λ some. some;
     }
@@ -115,7 +118,8 @@ taken-some one ends f since piece m (suc k) s g = omega arith
 no-fault : (after : Feeding) (kind : Kind) → after ≡ fresh kind → after.fault ≡ None
 no-fault after kind e = ap (λ (f : Feeding). f.fault) e
 
-pub message-goes : IsOne → Ends → Joins → (f after : Feeding) (piece : List ℕ) (m : HttpMessage) (taken : ℕ) → IsReading f → after.kind ≡ f.kind
+pub message-goes : IsOne → Ends → Joins → (f after : Feeding) (piece : List ℕ) (m : HttpMessage) (taken : ℕ) → IsReading f
+    → after.kind ≡ f.kind
     → Gave f after piece (Ok (Whole m taken)) → GoesOn f after piece (Message m taken)
 message-goes one ends join f after piece m taken reading same gave =
     let since = since-of f reading.0 reading.1 reading.2 in

@@ -12,6 +12,7 @@ rest-held : (kind : Kind) (kept : List ℕ) (fault : Option HttpFault) (octets :
 rest-held kind kept None octets s = s.1
 rest-held kind kept (Some fault) octets s = s
 
-pub read-held : (f : Feeding) (octets : List ℕ) (messages : List HttpMessage) → HasRead f octets messages → Holds f.kind octets messages f.fault
+pub read-held : (f : Feeding) (octets : List ℕ) (messages : List HttpMessage) → HasRead f octets messages
+    → Holds f.kind octets messages f.fault
 read-held f octets [] h = rest-held f.kind f.octets f.fault octets h
 read-held f octets (m ∷ ms) h = (h.0, h.1, read-held f (drop h.0 octets) ms h.2)

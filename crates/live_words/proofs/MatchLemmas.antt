@@ -16,7 +16,8 @@ pub matched-ok : (app : App) (words : List (String Global)) (found : List Row) �
     → found ≡ matches_of app (map string_bytes words) → matched app words ≡ Ok found
 unfolding matched
 matched-ok app words found none same =
-    let P : List Row → Type 0 = λ r. unless_faults (fault_of app (map string_bytes words)) (matches_of app (map string_bytes words)) ≡ Ok r in
+    let P : List Row → Type 0 = λ r. unless_faults (fault_of app (map string_bytes words)) (matches_of app (map string_bytes words)) ≡ Ok r
+        in
     subst P (sym same) (ap (λ (k : Kinds). unless_faults k (matches_of app (map string_bytes words))) none)
 
 among : (k : ErrorKind) (kinds : Kinds) (rows : List Row) → IsAmong k kinds → unless_faults kinds rows ≡ Err faults.Word
@@ -27,7 +28,8 @@ pub matched-err : (app : App) (words : List (String Global)) (e : Error) → Has
     → (kind_of e ≡ kind.OutOfMemory → ⊥) → matched app words ≡ Err faults.Word
 unfolding matched
 matched-err app words e (inl memory) other = absurd (other memory)
-matched-err app words e (inr is) other = among (kind_of e) (fault_of app (map string_bytes words)) (matches_of app (map string_bytes words)) is
+matched-err app words e (inr is) other = among (kind_of e) (fault_of app (map string_bytes words)) (matches_of app (map string_bytes words))
+    is
 
 -- what the value of an argument is read as
 pub value-read : {A B : Type 0} (f : A → Result B LineFault) (o : Option A) (x : A) → Some x ≡ o → f x ≡ (one_of faults.Count o >>= f)

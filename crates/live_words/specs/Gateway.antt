@@ -13,7 +13,8 @@ use Rattle.live_words.specs.Values.{matched_by, address_at, count_at, port_at}
 
 -- the gateway's own address, which is an end of its tunnels, and the last sequence number that its halves may use
 unfoldable pub config_in : List Row → Result Config LineFault
-config_in rows = address_at (codes "address") rows >>= (λ a. count_at (codes "seq-last") rows >>= (λ n. Ok (record { address = a; seq_last = n })))
+config_in rows = address_at (codes "address") rows >>=
+    (λ a. count_at (codes "seq-last") rows >>= (λ n. Ok (record { address = a; seq_last = n })))
 
 -- the ports of both wires: where each receives, and where it sends to
 unfoldable pub wires_in : List Row → Result WirePorts LineFault

@@ -38,4 +38,5 @@ notice_again (notices.Expire name soft l) stamp is typed = (
   },
 )
 notice_again (notices.SeqOverflow name) stamp is typed = (refl, record { members = refl; time = (stamp, refl); event = (refl, (refl, is)) })
-notice_again (notices.BadSpi spi) stamp is typed = (refl, record { members = refl; time = (stamp, refl); event = (refl, number_again 0 (2 ^ 32 - 1) spi (omega arith) (small spi typed)) })
+notice_again (notices.BadSpi spi) stamp is typed =
+    (refl, record { members = refl; time = (stamp, refl); event = (refl, number_again 0 (2 ^ 32 - 1) spi (omega arith) (small spi typed)) })

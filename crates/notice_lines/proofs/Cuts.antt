@@ -59,7 +59,8 @@ long_by a b None p ea eb e = none (nat_le (length a) 4096) refl p eb e
     far q None eb = let n = length-append a b in begins_long (a ++ b) (end_none a b ea eb) (omega (arith, n))
     far q (Some m) eb = begins_late (a ++ b) (length a + m) (end_some a b m ea eb) (omega arith)
 
-    none : (z : Bool) → nat_le (length a) 4096 ≡ z → (p : Option ℕ) → line_end b ≡ p → (if z then Open else Long) ≡ Long → begins (a ++ b) ≡ Long
+    none : (z : Bool) → nat_le (length a) 4096 ≡ z → (p : Option ℕ) → line_end b ≡ p → (if z then Open else Long) ≡ Long
+        → begins (a ++ b) ≡ Long
     none true q p eb e = absurd (open_long e)
     none false q p eb e = far (leb-false (length a) 4096 q) p eb
 
@@ -83,7 +84,8 @@ append_none : (a : List ℕ) → a ++ [] ≡ a
 append_none [] = refl
 append_none (x ∷ xs) = ap (λ l. x ∷ l) (append_none xs)
 
-pub pieces_are_one : (kept : List ℕ) (pieces : List (List ℕ)) → begins kept ≡ Open → first_begins kept pieces ≡ begins (kept ++ joined pieces)
+pub pieces_are_one : (kept : List ℕ) (pieces : List (List ℕ)) → begins kept ≡ Open
+    → first_begins kept pieces ≡ begins (kept ++ joined pieces)
 pieces_are_one kept [] e = sym (ap begins (append_none kept) ∙ e)
 pieces_are_one kept (p ∷ ps) e =
     first-is kept p ps (begins (kept ++ p)) refl (λ q. pieces_are_one (kept ++ p) ps q) ∙ ap begins (append_assoc kept p (joined ps))
@@ -104,7 +106,8 @@ take_line : (line rest : List ℕ) → take (length line) (line ++ rest) ≡ lin
 take_line [] rest = refl
 take_line (x ∷ xs) rest = ap (λ l. x ∷ l) (take_line xs rest)
 
-pub heard_whole : (line rest : List ℕ) (n : Notice) (pieces : List (List ℕ)) → HasNotice line n → line_end line ≡ None → length line ≤ 4096 → joined pieces ≡ line ++ 10 ∷ rest
+pub heard_whole : (line rest : List ℕ) (n : Notice) (pieces : List (List ℕ)) → HasNotice line n → line_end line ≡ None → length line ≤ 4096
+    → joined pieces ≡ line ++ 10 ∷ rest
     → (first_begins [] pieces ≡ Ends (length line)) × HasNotice (take (length line) (joined pieces)) n
 heard_whole line rest n pieces has e small is =
     let P : List ℕ → Type 0 = λ l. HasNotice l n in (

@@ -38,7 +38,8 @@ end_some (c ∷ cs) b n p q =
     let ih = end_some cs b n parts.1 q in
     rw (parts.0, ih) (ap Some (plus (length cs + n) (length cs) n refl))
 
-within_more : (b : Bool) (o : Option ℕ) (n m : ℕ) → (if b then Some 0 else option_map one_more o) ≡ Some n → ((k : ℕ) → o ≡ Some k → k < m) → n < suc m
+within_more : (b : Bool) (o : Option ℕ) (n m : ℕ) → (if b then Some 0 else option_map one_more o) ≡ Some n → ((k : ℕ) → o ≡ Some k → k < m)
+    → n < suc m
 within_more true o n m e ih = let p : 0 ≡ n = cc in omega (arith, p)
 within_more false None n m e ih = absurd (none_some e)
   where
@@ -61,7 +62,8 @@ end_stays [] b n e = absurd (none_some e)
     none_some e = cc
 end_stays (c ∷ cs) b n e = more (c == 10) (line_end cs) (line_end (cs ++ b)) n e (λ k. end_stays cs b k)
   where
-    more : (z : Bool) (o p : Option ℕ) (n : ℕ) → (if z then Some 0 else option_map one_more o) ≡ Some n → ((k : ℕ) → o ≡ Some k → p ≡ Some k) → (if z then Some 0 else option_map one_more p) ≡ Some n
+    more : (z : Bool) (o p : Option ℕ) (n : ℕ) → (if z then Some 0 else option_map one_more o) ≡ Some n
+        → ((k : ℕ) → o ≡ Some k → p ≡ Some k) → (if z then Some 0 else option_map one_more p) ≡ Some n
     more true o p n e ih = e
     more false None p n e ih = absurd (let q : ⊥ = cc in q)
     more false (Some k) p n e ih = rw (ih k refl) e
@@ -105,7 +107,8 @@ position_later : (i : ℕ) (cs : List ℕ) → position_from (λ c. c == 10) i c
 position_later i [] = refl
 position_later i (c ∷ cs) = by_test (c == 10) (position_from (λ c. c == 10) (i + 1) cs) (line_end cs) (position_later (i + 1) cs)
   where
-    by_test : (b : Bool) (p o : Option ℕ) → p ≡ option_map (λ n. n + (i + 1)) o → cond b (Some i) p ≡ option_map (λ n. n + i) (if b then Some 0 else option_map one_more o)
+    by_test : (b : Bool) (p o : Option ℕ) → p ≡ option_map (λ n. n + (i + 1)) o
+        → cond b (Some i) p ≡ option_map (λ n. n + i) (if b then Some 0 else option_map one_more o)
     by_test true p o e = ap Some (omega arith)
     by_test false p None e = e
     by_test false p (Some n) e = e ∙ ap Some (omega arith)

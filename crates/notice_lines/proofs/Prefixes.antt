@@ -56,7 +56,8 @@ length_map f [] = refl
 length_map f (x ∷ xs) = ap (λ n. suc n) (length_map f xs)
 
 joined_size : (gs : List ℕ) → AllByRecursion (λ g. g < 65536) gs → length (joined gs) ≤ 5 * length gs
-joined_size gs h = let all = join_size 58 (map group_text gs) (groups_size gs h) in let count = length_map group_text gs in omega (arith, all, count)
+joined_size gs h = let all = join_size 58 (map group_text gs) (groups_size gs h) in let count = length_map group_text gs in
+    omega (arith, all, count)
 
 shortened_size : (k n : ℕ) (gs : List ℕ) → AllByRecursion (λ g. g < 65536) gs → length (shortened k n gs) ≤ 5 * length gs + 2
 shortened_size k n gs h =

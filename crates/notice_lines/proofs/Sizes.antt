@@ -62,7 +62,8 @@ plain_event (notices.BadSpi spi) h = plain_object _ (plain_put (codes "spi") (co
 
 plain_envelope : (stamp name : List ℕ) (event : Data) → IsPlain event → IsPlain (envelope_data stamp name event)
 unfolding envelope_data
-plain_envelope stamp name event h = plain_object _ (plain_put (codes "eventTime") (string stamp) _ (plain_string stamp) (plain_put name event _ h plain_none))
+plain_envelope stamp name event h =
+    plain_object _ (plain_put (codes "eventTime") (string stamp) _ (plain_string stamp) (plain_put name event _ h plain_none))
 
 pub plain_notice : (n : Notice) (stamp : List ℕ) → IsTypedNotice n → IsPlain (notice_data n stamp)
 plain_notice n stamp h =
@@ -91,7 +92,8 @@ sized_ranges (r ∷ rs) h =
     let one = (sized_item (69 * length rs + 1) 68 (range_data r) (range_items rs) (sized_range r h.0.0 h.0.1) (sized_ranges rs h.1)).size in
     record { size = omega (arith, one) }
 
-sized_ports : (m n : ℕ) (name : List ℕ) (rs : List Range) (ms : Members) → length name ≤ n → length rs ≤ 8 → All IsTypedRange rs → AreSized m ms → AreSized (m + 554 + 6 * n + 4) (with_ports name rs ms)
+sized_ports : (m n : ℕ) (name : List ℕ) (rs : List Range) (ms : Members) → length name ≤ n → length rs ≤ 8 → All IsTypedRange rs
+    → AreSized m ms → AreSized (m + 554 + 6 * n + 4) (with_ports name rs ms)
 sized_ports m n name [] ms short few h f = let p = f.size in record { size = omega (arith, p) }
 sized_ports m n name (r ∷ rs) ms short few h f =
     let all = (sized_ranges (r ∷ rs) (recursion_from_All IsTypedRange (r ∷ rs) h)).size in
@@ -113,15 +115,20 @@ unfolding selector_data
 sized_selector short s few h =
     sized_object 2077 _
     (sized_put 1969 20 14 (codes "inner-protocol") (proto_data s.proto) _ (same 14) (sized_proto s.proto h.proto)
-    (sized_ports 1345 11 (codes "local-ports") s.local_ports _ (same 11) (few_left (length s.local_ports) (length s.remote_ports) few) h.local_ports
-    (sized_put 991 278 12 (codes "local-prefix") (string (prefix_text s.local)) _ (same 12) (sized_string 46 (prefix_text s.local) (short s.local h.local))
-    (sized_ports 361 12 (codes "remote-ports") s.remote_ports _ (same 12) (few_right (length s.local_ports) (length s.remote_ports) few) h.remote_ports
-    (sized_put 1 278 13 (codes "remote-prefix") (string (prefix_text s.remote)) no_members (same 13) (sized_string 46 (prefix_text s.remote) (short s.remote h.remote)) sized_none)))))
+    (sized_ports 1345 11 (codes "local-ports") s.local_ports _ (same 11) (few_left (length s.local_ports) (length s.remote_ports) few)
+        h.local_ports
+    (sized_put 991 278 12 (codes "local-prefix") (string (prefix_text s.local)) _ (same 12)
+        (sized_string 46 (prefix_text s.local) (short s.local h.local))
+    (sized_ports 361 12 (codes "remote-ports") s.remote_ports _ (same 12) (few_right (length s.local_ports) (length s.remote_ports) few)
+        h.remote_ports
+    (sized_put 1 278 13 (codes "remote-prefix") (string (prefix_text s.remote)) no_members (same 13)
+        (sized_string 46 (prefix_text s.remote) (short s.remote h.remote)) sized_none)))))
 
 sized_counts : (l : Limits) → IsTypedLimits l → IsSized 290 (counts_data l)
 sized_counts l h =
     sized_object 289 _
-    (sized_put 133 122 5 (codes "bytes") (wide l.bytes) _ (same 5) (sized_string 20 (decimal l.bytes) (length-decimal-le 20 l.bytes (omega arith) (let b = h.bytes in omega arith) h.bytes))
+    (sized_put 133 122 5 (codes "bytes") (wide l.bytes) _ (same 5)
+        (sized_string 20 (decimal l.bytes) (length-decimal-le 20 l.bytes (omega arith) (let b = h.bytes in omega arith) h.bytes))
     (sized_put 95 10 4 (codes "idle") (count l.idle) _ (same 4) (sized_count l.idle h.idle)
     (sized_put 39 10 7 (codes "packets") (count l.packets) _ (same 7) (sized_count l.packets h.packets)
     (sized_put 1 10 4 (codes "time") (count l.time) no_members (same 4) (sized_count l.time h.time) sized_none))))
@@ -144,7 +151,8 @@ serial_size text h = middle (nat_le 1 (length text)) (nat_le (length text) 60) (
 
 front_size : (front name : List ℕ) → length front ≤ 4 → has_front front name ≡ true → length name ≤ 64
 front_size front name short h =
-    let long = and_parts (nat_le (length front) (length name)) (bytes_eq (take (length front) name) front && is_serial (drop (length front) name)) h in
+    let long = and_parts (nat_le (length front) (length name)) (bytes_eq (take (length front) name) front
+        && is_serial (drop (length front) name)) h in
     let parts = and_parts (bytes_eq (take (length front) name) front) (is_serial (drop (length front) name)) long.1 in
     let rest = serial_size (drop (length front) name) parts.1 in
     let size = length-drop (length front) name in
@@ -156,14 +164,16 @@ sad_size name h = elim (or_cases (has_front (codes "in/") name) (has_front (code
   | inr here ↦ front_size (codes "out/") name (omega arith) here
 ]
 
-sized_acquire : ShortPrefixes → (policy : List ℕ) (s : Selector) → is_spd_name policy ≡ true → has_many_ranges s ≡ false → IsTypedSelector s → IsSized 2672 (acquire_data policy s)
+sized_acquire : ShortPrefixes → (policy : List ℕ) (s : Selector) → is_spd_name policy ≡ true → has_many_ranges s ≡ false → IsTypedSelector s
+    → IsSized 2672 (acquire_data policy s)
 unfolding acquire_data
 sized_acquire short policy s is few h =
     sized_object 2671 _
     (sized_put 2179 386 17 (codes "ipsec-policy-name") (string policy) _ (same 17) (sized_string 64 policy (spd_size policy is))
     (sized_put 1 2078 16 (codes "traffic-selector") (selector_data s) no_members (same 16) (sized_selector short s few h) sized_none))
 
-sized_expire : (name : List ℕ) (soft : Bool) (l : Limits) → is_sad_name name ≡ true → IsTypedLimits l → IsSized 989 (expire_data name soft l)
+sized_expire : (name : List ℕ) (soft : Bool) (l : Limits) → is_sad_name name ≡ true → IsTypedLimits l
+    → IsSized 989 (expire_data name soft l)
 unfolding expire_data
 sized_expire name soft l is h =
     sized_object 988 _
@@ -173,10 +183,12 @@ sized_expire name soft l is h =
 
 sized_event : ShortPrefixes → (n : Notice) → IsNotice n → IsTypedNotice n → IsSized 2672 (event_data n)
 sized_event short (notices.Acquire policy s) is h = sized_acquire short policy s is.0 is.1.1 h
-sized_event short (notices.Expire name soft l) is h = sized_more 989 2672 (expire_data name soft l) (omega arith) (sized_expire name soft l is h)
+sized_event short (notices.Expire name soft l) is h = sized_more 989 2672 (expire_data name soft l) (omega arith)
+    (sized_expire name soft l is h)
 sized_event short (notices.SeqOverflow name) is h =
     sized_more 470 2672 (overflow_data name) (omega arith)
-    (sized_object 469 _ (sized_put 1 386 13 (codes "ipsec-sa-name") (string name) no_members (same 13) (sized_string 64 name (sad_size name is)) sized_none))
+    (sized_object 469 _ (sized_put 1 386 13 (codes "ipsec-sa-name") (string name) no_members (same 13)
+        (sized_string 64 name (sad_size name is)) sized_none))
 sized_event short (notices.BadSpi spi) is h =
     sized_more 34 2672 (bad_spi_data spi) (omega arith)
     (sized_object 33 _ (sized_put 1 10 3 (codes "spi") (count spi) no_members (same 3) (sized_count spi h) sized_none))
@@ -187,14 +199,17 @@ name_size (notices.Expire name soft l) = omega arith
 name_size (notices.SeqOverflow name) = omega arith
 name_size (notices.BadSpi spi) = omega arith
 
-sized_envelope : (stamp name : List ℕ) (event : Data) → length stamp ≤ 20 → length name ≤ 36 → IsSized 2672 event → IsSized 3074 (envelope_data stamp name event)
+sized_envelope : (stamp name : List ℕ) (event : Data) → length stamp ≤ 20 → length name ≤ 36 → IsSized 2672 event
+    → IsSized 3074 (envelope_data stamp name event)
 unfolding envelope_data
 sized_envelope stamp name event time short h =
     sized_object 3073 _
     (sized_put 2893 122 9 (codes "eventTime") (string stamp) _ (same 9) (sized_string 20 stamp time)
     (sized_put 1 2672 36 name event no_members short h sized_none))
 
-pub sized_notice : ShortPrefixes → (n : Notice) (stamp : List ℕ) → length stamp ≤ 20 → IsNotice n → IsTypedNotice n → length (compact_text (notice_data n stamp)) ≤ 3236
+pub sized_notice : ShortPrefixes → (n : Notice) (stamp : List ℕ) → length stamp ≤ 20 → IsNotice n → IsTypedNotice n
+    → length (compact_text (notice_data n stamp)) ≤ 3236
 sized_notice short n stamp time is h =
-    (sized_object 3235 _ (sized_put 1 3074 26 (codes "ietf-restconf:notification") (envelope_data stamp (event_name n) (event_data n)) no_members (same 26)
+    (sized_object 3235 _ (sized_put 1 3074 26 (codes "ietf-restconf:notification") (envelope_data stamp (event_name n) (event_data n))
+        no_members (same 26)
     (sized_envelope stamp (event_name n) (event_data n) time (name_size n) (sized_event short n is h)) sized_none)).size

@@ -30,12 +30,15 @@ self_none : (x : ℕ) → nat_lt x 32 ≡ false → (x == 10) ≡ false
 self_none x e = grind (arith, nat_tests)
 
 byte_by : (b s : Bool) (x : ℕ) → nat_lt x 32 ≡ s
-    → line_end (cond b (92 ∷ escape_letter x ∷ []) (cond s (92 ∷ 117 ∷ 48 ∷ 48 ∷ digit_char (x / 16) ∷ digit_char (x % 16) ∷ []) (x ∷ []))) ≡ None
+    → line_end (cond b (92 ∷ escape_letter x ∷ []) (cond s (92 ∷ 117 ∷ 48 ∷ 48 ∷ digit_char (x / 16) ∷ digit_char (x % 16) ∷ []) (x ∷ [])))
+        ≡ None
 byte_by true s x e = more_none 92 (escape_letter x ∷ []) refl (more_none (escape_letter x) [] (letter_none x) refl)
 byte_by false true x e =
     let digits = digit_char (x / 16) ∷ digit_char (x % 16) ∷ [] in
-    let none = more_none (digit_char (x / 16)) (digit_char (x % 16) ∷ []) (digit_none (x / 16)) (more_none (digit_char (x % 16)) [] (digit_none (x % 16)) refl) in
-    more_none 92 (117 ∷ 48 ∷ 48 ∷ digits) refl (more_none 117 (48 ∷ 48 ∷ digits) refl (more_none 48 (48 ∷ digits) refl (more_none 48 digits refl none)))
+    let none = more_none (digit_char (x / 16)) (digit_char (x % 16) ∷ []) (digit_none (x / 16))
+        (more_none (digit_char (x % 16)) [] (digit_none (x % 16)) refl) in
+    more_none 92 (117 ∷ 48 ∷ 48 ∷ digits) refl
+        (more_none 117 (48 ∷ 48 ∷ digits) refl (more_none 48 (48 ∷ digits) refl (more_none 48 digits refl none)))
 byte_by false false x e = more_none x [] (self_none x e) refl
 
 byte_none : (x : ℕ) → line_end (escape_byte x) ≡ None
@@ -103,7 +106,8 @@ mutual
   items_none : PlainNumbers → (later : Bool) (ds : Items) → ItemsNarrow ds → line_end (items_text later ds) ≡ None
   items_none plain later no_items h = refl
   items_none plain later (item d ds) h =
-      comma_none later (compact_text d ++ items_text true ds) (end_none (compact_text d) (items_text true ds) (text_none plain d h.0) (items_none plain true ds h.1))
+      comma_none later (compact_text d ++ items_text true ds) (end_none (compact_text d) (items_text true ds) (text_none plain d h.0)
+          (items_none plain true ds h.1))
 
   members_none : PlainNumbers → (later : Bool) (ms : Members) → MembersNarrow ms → line_end (members_text later ms) ≡ None
   members_none plain later no_members h = refl
@@ -113,7 +117,8 @@ mutual
       (more_none 58 (compact_text d ++ members_text true ms) refl
       (end_none (compact_text d) (members_text true ms) (text_none plain d h.0) (members_none plain true ms h.1))))
 
-narrow_order : (o : Ordering) (a b c : Members) → MembersNarrow a → MembersNarrow b → MembersNarrow c → MembersNarrow (match_ordering o a b c)
+narrow_order : (o : Ordering) (a b c : Members) → MembersNarrow a → MembersNarrow b → MembersNarrow c
+    → MembersNarrow (match_ordering o a b c)
 narrow_order Less a b c x y z = x
 narrow_order Equal a b c x y z = y
 narrow_order Greater a b c x y z = z
@@ -150,7 +155,9 @@ plain_number n h = record { is = h }
 
 -- ---- lengths
 
-byte_size_by : (b s : Bool) (x : ℕ) → length (cond b (92 ∷ escape_letter x ∷ []) (cond s (92 ∷ 117 ∷ 48 ∷ 48 ∷ digit_char (x / 16) ∷ digit_char (x % 16) ∷ []) (x ∷ []))) ≤ 6
+byte_size_by : (b s : Bool) (x : ℕ)
+    → length (cond b (92 ∷ escape_letter x ∷ []) (cond s (92 ∷ 117 ∷ 48 ∷ 48 ∷ digit_char (x / 16) ∷ digit_char (x % 16) ∷ []) (x ∷ []))) ≤
+    6
 byte_size_by true s x = omega arith
 byte_size_by false true x = omega arith
 byte_size_by false false x = omega arith
@@ -182,18 +189,21 @@ pub record AreSized (m : ℕ) (ms : Members) : Type 0 where
 pub record AreSizedItems (m : ℕ) (ds : Items) : Type 0 where
   pub size : length (items_text true ds) ≤ m
 
-member_size : (k : List ℕ) (d : Data) (ms : Members) → length (members_text true (member k d ms)) ≡ length (quoted k) + length (compact_text d) + length (members_text true ms) + 2
+member_size : (k : List ℕ) (d : Data) (ms : Members) → length (members_text true (member k d ms)) ≡ length (quoted k) + length
+    (compact_text d) + length (members_text true ms) + 2
 member_size k d ms =
     let outer = length-append (quoted k) (58 ∷ (compact_text d ++ members_text true ms)) in
     let inner = length-append (compact_text d) (members_text true ms) in
     omega (arith, outer, inner)
 
-order_size : (o : Ordering) (a b c : Members) (n : ℕ) → length (members_text true a) ≤ n → length (members_text true b) ≤ n → length (members_text true c) ≤ n → length (members_text true (match_ordering o a b c)) ≤ n
+order_size : (o : Ordering) (a b c : Members) (n : ℕ) → length (members_text true a) ≤ n → length (members_text true b) ≤ n
+    → length (members_text true c) ≤ n → length (members_text true (match_ordering o a b c)) ≤ n
 order_size Less a b c n x y z = x
 order_size Equal a b c n x y z = y
 order_size Greater a b c n x y z = z
 
-put_size : (k : List ℕ) (d : Data) (ms : Members) → length (members_text true (put k d ms)) ≤ length (members_text true ms) + length (quoted k) + length (compact_text d) + 2
+put_size : (k : List ℕ) (d : Data) (ms : Members) → length (members_text true (put k d ms)) ≤ length (members_text true ms) + length
+    (quoted k) + length (compact_text d) + 2
 put_size k d no_members = let one = member_size k d no_members in omega (arith, one)
 put_size k d (member l e ms) =
     let one = member_size k d (member l e ms) in
@@ -204,7 +214,8 @@ put_size k d (member l e ms) =
     order_size (slice_cmp nat_cmp k l) (member k d (member l e ms)) (member l d ms) (member l e (put k d ms)) _
     (omega (arith, one)) (omega (arith, two, old)) (omega (arith, three, old, ih))
 
-pub sized_put : (m a n : ℕ) (k : List ℕ) (d : Data) (ms : Members) → length k ≤ n → IsSized a d → AreSized m ms → AreSized (m + a + 6 * n + 4) (put k d ms)
+pub sized_put : (m a n : ℕ) (k : List ℕ) (d : Data) (ms : Members) → length k ≤ n → IsSized a d → AreSized m ms
+    → AreSized (m + a + 6 * n + 4) (put k d ms)
 sized_put m a n k d ms short f g =
     let all = put_size k d ms in
     let name = quoted_size k in

@@ -47,7 +47,8 @@ event_name (notices.BadSpi spi) = bad_spi_name
 
 -- the policy that asks for an association, and the packets that it is for
 unfoldable pub acquire_data : List ℕ → Selector → Data
-acquire_data policy selector = object (put (codes "ipsec-policy-name") (string policy) (put (codes "traffic-selector") (selector_data selector) no_members))
+acquire_data policy selector =
+    object (put (codes "ipsec-policy-name") (string policy) (put (codes "traffic-selector") (selector_data selector) no_members))
 
 -- the half, its counts at that moment, and whether the limit was a soft one
 unfoldable pub expire_data : List ℕ → Bool → Limits → Data
@@ -104,7 +105,8 @@ whole s =
 
 -- both members are needed
 unfoldable pub acquire_shape : Data → Result ⊤ Fault
-acquire_shape d = shape (codes "ipsec-policy-name" ∷ codes "traffic-selector" ∷ []) (codes "ipsec-policy-name" ∷ codes "traffic-selector" ∷ []) d
+acquire_shape d = shape (codes "ipsec-policy-name" ∷ codes "traffic-selector" ∷ []) (codes "ipsec-policy-name" ∷ codes "traffic-selector"
+    ∷ []) d
 
 -- the acquire of an object
 unfoldable pub acquire_in : Data → Result Notice Fault

@@ -16,11 +16,13 @@ equal n k h = grind (arith, nat_tests, h)
 abbrev HasStatus : Order → HttpMessage → Answer → Type 0
 HasStatus o m a = (a.status ≡ m.status) × (is_status_of o a.status ≡ true)
 
-with_status : (o : Order) (m : HttpMessage) (a : Answer) (n : ℕ) → is_status_of o n ≡ true → (m.status == n) ≡ true → a.status ≡ n → HasStatus o m a
+with_status : (o : Order) (m : HttpMessage) (a : Answer) (n : ℕ) → is_status_of o n ≡ true → (m.status == n) ≡ true → a.status ≡ n
+    → HasStatus o m a
 with_status o m a n allowed is same = (same ∙ sym (equal m.status n is), rw same allowed)
 
 -- an answer that is made of what was read
-made_of : {A : Type 0} (found : Result A BadAnswer) (f : A → Answer) (n : ℕ) (a : Answer) → ((x : A) → (f x).status ≡ n) → (found >>= (λ x. Ok (f x))) ≡ Ok a → a.status ≡ n
+made_of : {A : Type 0} (found : Result A BadAnswer) (f : A → Answer) (n : ℕ) (a : Answer) → ((x : A) → (f x).status ≡ n)
+    → (found >>= (λ x. Ok (f x))) ≡ Ok a → a.status ≡ n
 made_of (Ok x) f n a same h = let e : f x ≡ a = cc in subst (λ (b : Answer). b.status ≡ n) e (same x)
 made_of (Err e) f n a same h = absurd (let no : ⊥ = cc in no)
 
@@ -30,7 +32,8 @@ is_done n a h = let e : done n ≡ a = cc in subst (λ (b : Answer). b.status �
 reading_has : (m : HttpMessage) (a : Answer) → reading_of m ≡ Ok a → HasStatus orders.Read m a
 reading_has m a h = by_test (m.status == 200) refl h
   where
-    by_test : (b : Bool) → (m.status == 200) ≡ b → (if b then names_of m.body >>= (λ names. Ok (shown names)) else Err bad) ≡ Ok a → HasStatus orders.Read m a
+    by_test : (b : Bool) → (m.status == 200) ≡ b → (if b then names_of m.body >>= (λ names. Ok (shown names)) else Err bad) ≡ Ok a
+        → HasStatus orders.Read m a
     by_test true t h = with_status orders.Read m a 200 refl t (made_of (names_of m.body) shown 200 a (λ names. refl) h)
     by_test false t h = absurd (let no : ⊥ = cc in no)
 
@@ -44,11 +47,13 @@ policies_have list m a h = by_test (m.status == 204) refl h
 refusal_has : (o : Order) (n : ℕ) (m : HttpMessage) (a : Answer) → is_status_of o n ≡ true → refusal_of n m ≡ Ok a → HasStatus o m a
 refusal_has o n m a allowed h = by_test (m.status == n) refl h
   where
-    by_test : (b : Bool) → (m.status == n) ≡ b → (if b then error_of m.body >>= (λ found. Ok (refused n found)) else Err bad) ≡ Ok a → HasStatus o m a
+    by_test : (b : Bool) → (m.status == n) ≡ b → (if b then error_of m.body >>= (λ found. Ok (refused n found)) else Err bad) ≡ Ok a
+        → HasStatus o m a
     by_test true t h = with_status o m a n allowed t (made_of (error_of m.body) (refused n) n a (λ found. refl) h)
     by_test false t h = absurd (let no : ⊥ = cc in no)
 
-change_has : (o : Order) (success failure : ℕ) (m : HttpMessage) (a : Answer) → is_status_of o success ≡ true → is_status_of o failure ≡ true → change_of success failure m ≡ Ok a → HasStatus o m a
+change_has : (o : Order) (success failure : ℕ) (m : HttpMessage) (a : Answer) → is_status_of o success ≡ true
+    → is_status_of o failure ≡ true → change_of success failure m ≡ Ok a → HasStatus o m a
 change_has o success failure m a good other h = by_test (m.status == success) refl h
   where
     by_test : (b : Bool) → (m.status == success) ≡ b → (if b then Ok (done success) else refusal_of failure m) ≡ Ok a → HasStatus o m a

@@ -29,7 +29,8 @@ looks_by : (kind : Kind) (xs : List ℕ) (o : Looked) (r : Option ℕ) → head_
 unfolding Looks
 looks_by kind xs o r e x = subst (LooksBy kind xs o) (sym e) x
 
-pub looks_after : (kind : Kind) (xs : List ℕ) (o : Looked) (n : ℕ) → head_len xs ≡ Some n → n ≤ 8192 → LooksAfter kind xs n o → Looks kind xs o
+pub looks_after : (kind : Kind) (xs : List ℕ) (o : Looked) (n : ℕ) → head_len xs ≡ Some n → n ≤ 8192 → LooksAfter kind xs n o
+    → Looks kind xs o
 looks_after kind xs o n e le x =
     looks_by kind xs o (Some n) e (subst (LooksWithin kind xs n o) (sym (le_true n 8192 le)) x)
 
@@ -56,7 +57,8 @@ unique_after kind xs n o p (inl x) (inr y) = absurd (y.0 x.0 x.1)
 unique_after kind xs n o p (inr x) (inl y) = absurd (x.0 y.0 y.1)
 unique_after kind xs n o p (inr x) (inr y) = x.1 ∙ sym y.1
 
-unique_within : (kind : Kind) (xs : List ℕ) (n : ℕ) (o p : Looked) (b : Bool) → LooksWithin kind xs n o b → LooksWithin kind xs n p b → o ≡ p
+unique_within : (kind : Kind) (xs : List ℕ) (n : ℕ) (o p : Looked) (b : Bool) → LooksWithin kind xs n o b → LooksWithin kind xs n p b
+    → o ≡ p
 unique_within kind xs n o p true x y = unique_after kind xs n o p x y
 unique_within kind xs n o p false x y = x ∙ sym y
 
@@ -73,7 +75,8 @@ body_by : (xs ys : List ℕ) (n : ℕ) (h : Head) (len : ℕ) → n ≤ length x
     → with_body xs n h (Ok len) ≢ Waits → with_body xs n h (Ok len) ≡ with_body (xs ++ ys) n h (Ok len)
 body_by xs ys n h len le true e other =
     let fits : n + len ≤ length xs = grind (arith, e) in
-    let more : nat_le (n + len) (length (xs ++ ys)) ≡ true = le_true (n + len) (length (xs ++ ys)) (omega (arith, fits, length-append xs ys)) in
+    let more : nat_le (n + len) (length (xs ++ ys)) ≡ true =
+        le_true (n + len) (length (xs ++ ys)) (omega (arith, fits, length-append xs ys)) in
     let same : take len (drop n (xs ++ ys)) ≡ take len (drop n xs) =
     ap (take len) (drop-append-le n xs ys le) ∙ take-append-le len (drop n xs) ys (omega (arith, fits, length-drop n xs)) in
     rw (e, more, same) refl
@@ -84,7 +87,8 @@ body_kept : (xs ys : List ℕ) (n : ℕ) (h : Head) (r : Result ℕ HttpFault) �
 body_kept xs ys n h (Err f) le other = refl
 body_kept xs ys n h (Ok len) le other = body_by xs ys n h len le (nat_le (n + len) (length xs)) refl other
 
-kept_after : (kind : Kind) (xs ys : List ℕ) (n : ℕ) (o : Looked) → n ≤ length xs → o ≢ Waits → LooksAfter kind xs n o → LooksAfter kind (xs ++ ys) n o
+kept_after : (kind : Kind) (xs ys : List ℕ) (n : ℕ) (o : Looked) → n ≤ length xs → o ≢ Waits → LooksAfter kind xs n o
+    → LooksAfter kind (xs ++ ys) n o
 kept_after kind xs ys n o le other (inl x) =
     inl (
       x.0,
@@ -94,7 +98,8 @@ kept_after kind xs ys n o le other (inl x) =
 kept_after kind xs ys n o le other (inr x) =
     inr ((λ h r. x.0 h (subst (λ l. Reads kind l h) (take-append-le n xs ys le) r)), x.1)
 
-kept_within : (kind : Kind) (xs ys : List ℕ) (n : ℕ) (o : Looked) (b : Bool) → n ≤ length xs → o ≢ Waits → LooksWithin kind xs n o b → LooksWithin kind (xs ++ ys) n o b
+kept_within : (kind : Kind) (xs ys : List ℕ) (n : ℕ) (o : Looked) (b : Bool) → n ≤ length xs → o ≢ Waits → LooksWithin kind xs n o b
+    → LooksWithin kind (xs ++ ys) n o b
 kept_within kind xs ys n o true le other x = kept_after kind xs ys n o le other x
 kept_within kind xs ys n o false le other x = x
 
@@ -111,7 +116,8 @@ kept_none kind xs ys o false t e other x =
     let is : o ≡ Fails faults.TooBig = x ∙ rw t refl in
     subst (Looks kind (xs ++ ys)) (sym is) (kept_long kind xs ys (head_len (xs ++ ys)) e le refl)
 
-kept_by : (kind : Kind) (xs ys : List ℕ) (o : Looked) (r : Option ℕ) → head_len xs ≡ r → o ≢ Waits → LooksBy kind xs o r → Looks kind (xs ++ ys) o
+kept_by : (kind : Kind) (xs ys : List ℕ) (o : Looked) (r : Option ℕ) → head_len xs ≡ r → o ≢ Waits → LooksBy kind xs o r
+    → Looks kind (xs ++ ys) o
 kept_by kind xs ys o None e other x = kept_none kind xs ys o (nat_lt (length xs) most_head) refl e other x
 kept_by kind xs ys o (Some n) e other x =
     let kept = head_kept n xs ys e in

@@ -43,7 +43,8 @@ given_len kind xs m n head e short parts reads len l true t is =
     let same : Gives m n ≡ Gives (message_of parts (take len (drop head xs))) (head + len) = is ∙ rw t refl in
     let whole : n ≡ head + len = cc in
     let message : m ≡ message_of parts (take len (drop head xs)) = cc in
-    record { head = head; head_is = e; short = short; parts = parts; reads = reads; len = len; len_is = l; fits = omega (arith, whole, fits); whole = whole; message = message }
+    record { head = head; head_is = e; short = short; parts = parts; reads = reads; len = len; len_is = l; fits =
+        omega (arith, whole, fits); whole = whole; message = message }
 given_len kind xs m n head e short parts reads len l false t is =
     let wait : Gives m n ≡ Waits = is ∙ rw t refl in absurd (gives_waits m n wait)
 
@@ -83,7 +84,8 @@ given kind xs m n x = given_by kind xs m n (head_len xs) refl x
 gives_from : (kind : Kind) (xs : List ℕ) (m : HttpMessage) (n : ℕ) → IsGiven kind xs m n → Looks kind xs (Gives m n)
 gives_from kind xs m n g =
     let test : nat_le (g.head + g.len) (length xs) ≡ true = le_true (g.head + g.len) (length xs) (omega (arith, g.fits, g.whole)) in
-    let is : with_body xs g.head g.parts (body_len kind g.parts) ≡ Gives (message_of g.parts (take g.len (drop g.head xs))) (g.head + g.len) =
+    let is : with_body xs g.head g.parts (body_len kind g.parts) ≡ Gives (message_of g.parts (take g.len (drop g.head xs)))
+        (g.head + g.len) =
     rw (g.len_is, test) refl in
     let same : Gives m n ≡ Gives (message_of g.parts (take g.len (drop g.head xs))) (g.head + g.len) = cc (g.message, g.whole) in
     looks_after kind xs (Gives m n) g.head g.head_is g.short (inl (g.parts, g.reads, same ∙ sym is))
@@ -94,7 +96,8 @@ module _ (kind : Kind) (xs : List ℕ) (m : HttpMessage) (n : ℕ) (g : IsGiven 
   front_head : (k : ℕ) → g.head ≤ k → k ≤ length xs → (head_len (take k xs) ≡ Some g.head) × (take g.head (take k xs) ≡ take g.head xs)
   front_head k le fits =
       let same : take g.head (take k xs) ≡ take g.head xs =
-      sym (take-append-le g.head (take k xs) (drop k xs) (omega (arith, le, length-take-le k xs fits))) ∙ ap (take g.head) (take-append-drop k xs) in
+      sym (take-append-le g.head (take k xs) (drop k xs) (omega (arith, le, length-take-le k xs fits)))
+          ∙ ap (take g.head) (take-append-drop k xs) in
       let whole : head_len (take g.head (take k xs)) ≡ Some g.head = ap head_len same ∙ head_front g.head xs g.head_is in
       let all = head_kept g.head (take g.head (take k xs)) (drop g.head (take k xs)) whole in
       (ap head_len (sym (take-append-drop g.head (take k xs))) ∙ all.0, same)
@@ -212,7 +215,8 @@ pub pieces : (f after : Feeding) (octets piece : List ℕ) (messages : List Http
 pieces f after octets piece messages (Ok NoneYet) same gives x =
     reads_same f after octets piece messages same (λ since is. (gives since is).1) x
 pieces f after octets piece messages (Ok (Whole m taken)) same gives x =
-    reads_more f after octets (take taken piece) messages (m ∷ []) same (λ since is. whole_next f after piece since m taken same (gives since is)) x
+    reads_more f after octets (take taken piece) messages (m ∷ []) same (λ since is. whole_next f after piece since m taken same
+        (gives since is)) x
 pieces f after octets piece messages (Err (Refused fault)) same gives x =
     reads_same f after octets piece messages same (λ since is. (gives since is).1) x
 pieces f after octets piece messages (Err NoMemory) same gives x = tt
@@ -229,7 +233,8 @@ since_gives : (f : Feeding) (kind : Kind) (octets : List ℕ) (m : HttpMessage) 
 since_gives f kind octets m n same x y =
     since_by f.kind f.octets octets f.fault m n x (subst (λ k. Looks k octets (Gives m n)) (sym same) y)
 
-pub cuts : (f g : Feeding) (octets : List ℕ) (xs ys : List HttpMessage) → f.kind ≡ g.kind → HasRead f octets xs → HasRead g octets ys → xs ≡ ys
+pub cuts : (f g : Feeding) (octets : List ℕ) (xs ys : List HttpMessage) → f.kind ≡ g.kind → HasRead f octets xs → HasRead g octets ys
+    → xs ≡ ys
 cuts f g octets [] [] same x y = refl
 cuts f g octets [] (b ∷ ys) same x y = absurd (since_gives f g.kind octets b y.0 same x y.1)
 cuts f g octets (a ∷ xs) [] same x y = absurd (since_gives g f.kind octets a x.0 (sym same) y x.1)

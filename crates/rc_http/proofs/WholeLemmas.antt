@@ -95,7 +95,8 @@ section_through (f ∷ fs) last xs all =
     let begins = line_begins f.name (58 ∷ f.raw ++ rest) is.name in
     let assoc : f.name ++ (58 ∷ f.raw ++ rest) ≡ field_text f ++ rest = simp (append_assoc, cons-append) in
     let long : length (field_text f) + (length (print_end f.end) + length (print_section fs last)) ≡ length (print_section (f ∷ fs) last) =
-    sym (length-append (field_text f) (print_end f.end ++ print_section fs last) ∙ ap (λ k. length (field_text f) + k) (length-append (print_end f.end) (print_section fs last)))
+    sym (length-append (field_text f) (print_end f.end ++ print_section fs last)
+        ∙ ap (λ k. length (field_text f) + k) (length-append (print_end f.end) (print_section fs last)))
     ∙ ap length (simp (append_assoc, cons-append)) in
     ap line_len (field_split f fs last xs ∙ sym assoc) ∙ begins ∙ ap text_len assoc
     ∙ text_through (field_text f) (print_section fs last ++ xs) f.end (field_line_is f is)
@@ -110,7 +111,8 @@ blank_through : (ends : List LineEnd) (xs : List ℕ)
 blank_through [] xs = sym (shift_none (head_len xs))
 blank_through (crlf ∷ ends) xs =
     ap (λ o. option_map suc (option_map suc o)) (blank_through ends xs)
-    ∙ ap (option_map suc) (shift_more (length (print_blank ends)) (head_len xs)) ∙ shift_more (suc (length (print_blank ends))) (head_len xs)
+    ∙ ap (option_map suc) (shift_more (length (print_blank ends)) (head_len xs))
+        ∙ shift_more (suc (length (print_blank ends))) (head_len xs)
 blank_through (lf ∷ ends) xs = ap (option_map suc) (blank_through ends xs) ∙ shift_more (length (print_blank ends)) (head_len xs)
 
 -- a first line that isn't empty, and the fields
@@ -130,7 +132,8 @@ request_split : (h : RequestHead) (xs : List ℕ) → print_request h ++ xs
 unfolding print_request
 request_split h xs = simp (append_assoc, cons-append)
 
-start_begins : (method rest : List ℕ) → IsToken method → (more : List ℕ) → head_len ((method ++ rest) ++ more) ≡ text_len ((method ++ rest) ++ more)
+start_begins : (method rest : List ℕ) → IsToken method → (more : List ℕ) → head_len ((method ++ rest) ++ more) ≡ text_len ((method ++ rest)
+    ++ more)
 start_begins [] rest t more = absurd (omega (arith, t.0))
 start_begins (b ∷ method) rest t more =
     let first = token_octet b (All-head (λ c. IsTrue (is_token_byte c)) b method t.1) in
@@ -210,10 +213,12 @@ response_line_is h is =
     (All-weaker (λ c. IsTrue (is_ascii_digit c)) (λ b. b ≢ 10) digit_octet h.digits is.digits.1)
     (reason_line h.reason is.reason)))
 
-version_begins : (minor : ℕ) (rest more : List ℕ) → head_len ((print_version minor ++ rest) ++ more) ≡ text_len ((print_version minor ++ rest) ++ more)
+version_begins : (minor : ℕ) (rest more : List ℕ) → head_len ((print_version minor ++ rest) ++ more) ≡ text_len
+    ((print_version minor ++ rest) ++ more)
 version_begins minor rest more = refl
 
-pub whole_response : (h : ResponseHead) (xs : List ℕ) → IsResponseHead h → head_len (print_response h ++ xs) ≡ Some (length (print_response h))
+pub whole_response : (h : ResponseHead) (xs : List ℕ) → IsResponseHead h
+    → head_len (print_response h ++ xs) ≡ Some (length (print_response h))
 unfolding print_response
 whole_response h xs is =
     let found = start_through (response_start h) h.line_end h.fields h.last xs (response_line_is h is)

@@ -127,7 +127,8 @@ body_is list = refl
 
 below_body : (r : Result (List SpdEntry) Fault) → IsGood 230 (in_body r) → IsGood 207 (within (codes "spd-entry") r)
 below_body (Ok list) g = record { is = tt }
-below_body (Err f) g = record { is = below_text 207 230 (codes "ietf-i2nsf-ikeless:spd") (deeper (codes "spd-entry") f.path) (omega arith) g.is }
+below_body (Err f) g = record { is = below_text 207 230 (codes "ietf-i2nsf-ikeless:spd") (deeper (codes "spd-entry") f.path) (omega arith)
+    g.is }
 
 good_entries : (o : Option Data) → IsGood 207 (entries_of o)
 good_entries None = good_here 207 kinds.Missing
@@ -168,7 +169,8 @@ good_prefix name d ascii short = good_member 207 name (prefix_leaf (get name d))
 good_first : (d : Data) → IsGood 207 (first_in d)
 unfolding first_in
 good_first d =
-    good_then 207 _ _ (good_member 207 (codes "anti-replay-window-size") (needed_number 32 4096 (get (codes "anti-replay-window-size") d)) refl (omega arith)) (λ window.
+    good_then 207 _ _ (good_member 207 (codes "anti-replay-window-size") (needed_number 32 4096 (get (codes "anti-replay-window-size") d))
+        refl (omega arith)) (λ window.
     good_then 207 _ _ (good_member 207 (codes "first") (name_leaf is_gateway (get (codes "first") d)) refl (omega arith)) (λ name.
     good_then 207 _ _ (good_prefix (codes "first-prefix") d refl (omega arith)) (λ prefix.
     good_then 207 _ _ (good_limits_of (codes "hard") refl (omega arith) (get (codes "hard") d)) (λ hard. good_ok 207 _))))
@@ -191,11 +193,13 @@ good_tunnel d =
 
 good_reqid : (d : Data) → IsGood 207 (only_reqid d)
 unfolding only_reqid
-good_reqid d = good_then 207 _ _ (good_only 207 (codes "reqid") d) (λ leaf. good_member 207 (codes "reqid") (needed_wide (Some leaf)) refl (omega arith))
+good_reqid d = good_then 207 _ _ (good_only 207 (codes "reqid") d) (λ leaf. good_member 207 (codes "reqid") (needed_wide (Some leaf)) refl
+    (omega arith))
 
 good_key : (d : Data) → IsGood 207 (only_key d)
 unfolding only_key
-good_key d = good_then 207 _ _ (good_only 207 (codes "key") d) (λ leaf. good_member 207 (codes "key") (octets_leaf (Some leaf)) refl (omega arith))
+good_key d = good_then 207 _ _ (good_only 207 (codes "key") d) (λ leaf. good_member 207 (codes "key") (octets_leaf (Some leaf)) refl
+    (omega arith))
 
 good_end : (d : Data) → IsGood 207 (end_command d)
 unfolding end_command

@@ -34,7 +34,8 @@ command_writable c is =
       body_size = is.short;
     })
 
-pub command_requested : (c : Command) → command_of (operation_of c) (command_body c) ≡ Ok c → requested (request_again (command_message c)) ≡ Ok c
+pub command_requested : (c : Command) → command_of (operation_of c) (command_body c) ≡ Ok c
+    → requested (request_again (command_message c)) ≡ Ok c
 unfolding requested
 command_requested (commands.Policy gateway list) reads = ap commanded reads
 command_requested (commands.Tunnel spec) reads = ap commanded reads

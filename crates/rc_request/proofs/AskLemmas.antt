@@ -37,12 +37,14 @@ list_passes : (body : List ℕ) (list : List SpdEntry) → spd_of body ≡ Ok li
 list_passes body list h = (body_ok spd_in (λ d. IsSpd list d × (spd_fault list ≡ None)) list (λ d k. spd_ok list d k) body h).3.1
 
 entry_passes : (body : List ℕ) (e : SpdEntry) → spd_entry_of body ≡ Ok e → spd_fault (e ∷ []) ≡ None
-entry_passes body e h = (body_ok one_spd_entry_in (λ d. IsOneSpdEntry e d × (spd_fault (e ∷ []) ≡ None)) e (λ d k. one_spd_ok e d k) body h).3.1
+entry_passes body e h = (body_ok one_spd_entry_in (λ d. IsOneSpdEntry e d × (spd_fault (e ∷ []) ≡ None)) e (λ d k. one_spd_ok e d k) body
+    h).3.1
 
 half_passes : (body : List ℕ) (e : SadEntry) → sad_entry_of body ≡ Ok e → sad_fault e ≡ None
 half_passes body e h = (body_ok one_sad_entry_in (λ d. IsOneSadEntry e d × (sad_fault e ≡ None)) e (λ d k. one_sad_ok e d k) body h).3.1
 
-asked_list : (read : Result (List SpdEntry) CodecFault) → ((list : List SpdEntry) → read ≡ Ok list → spd_fault list ≡ None) → IsRead (asked asks.PutSpd read)
+asked_list : (read : Result (List SpdEntry) CodecFault) → ((list : List SpdEntry) → read ≡ Ok list → spd_fault list ≡ None)
+    → IsRead (asked asks.PutSpd read)
 asked_list (Ok list) h = h list refl
 asked_list (Err f) h = tt
 
@@ -50,11 +52,13 @@ asked_half : (read : Result SadEntry CodecFault) → ((e : SadEntry) → read �
 asked_half (Ok e) h = h e refl
 asked_half (Err f) h = tt
 
-posted_entry : (place : Place) (read : Result SpdEntry CodecFault) → ((e : SpdEntry) → read ≡ Ok e → spd_fault (e ∷ []) ≡ None) → IsRead (posted place read)
+posted_entry : (place : Place) (read : Result SpdEntry CodecFault) → ((e : SpdEntry) → read ≡ Ok e → spd_fault (e ∷ []) ≡ None)
+    → IsRead (posted place read)
 posted_entry place (Ok e) h = h e refl
 posted_entry place (Err f) h = tt
 
-named_entry : (name : List ℕ) (read : Result SpdEntry CodecFault) → ((e : SpdEntry) → read ≡ Ok e → spd_fault (e ∷ []) ≡ None) → IsRead (if_named name read)
+named_entry : (name : List ℕ) (read : Result SpdEntry CodecFault) → ((e : SpdEntry) → read ≡ Ok e → spd_fault (e ∷ []) ≡ None)
+    → IsRead (if_named name read)
 named_entry name (Ok e) h = by_test (bytes_eq e.name name)
   where
     by_test : (b : Bool) → IsRead (cond b (Ok (asks.PutSpdEntry e)) (Err other_name))

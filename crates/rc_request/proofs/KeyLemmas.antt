@@ -20,13 +20,15 @@ flip false false x y e = grind rules
 
 pub octet_same : (b : ℕ) → b < 256 → encode_byte KEY b ≡ escape_octet b
 unfolding percent_encode_byte
-octet_same b l = flip (should_percent_encode KEY b) (is_unreserved b) (percent_encode_byte b) (b ∷ []) (agree_below_at (should_percent_encode KEY) (λ x. not (is_unreserved x)) 256 b below l)
+octet_same b l = flip (should_percent_encode KEY b) (is_unreserved b) (percent_encode_byte b) (b ∷ [])
+    (agree_below_at (should_percent_encode KEY) (λ x. not (is_unreserved x)) 256 b below l)
 
 -- of octets, the escaped text is that of the definition
 pub text_same : (bs : List ℕ) → All IsByte bs → percent_encode KEY bs ≡ escaped bs
 unfolding percent_encode escaped
 text_same [] small = refl
-text_same (b ∷ bs) small = rw (octet_same b (All-head IsByte b bs small)) (ap (λ t. escape_octet b ++ t) (text_same bs (All-tail IsByte b bs small)))
+text_same (b ∷ bs) small =
+    rw (octet_same b (All-head IsByte b bs small)) (ap (λ t. escape_octet b ++ t) (text_same bs (All-tail IsByte b bs small)))
 
 pub back_again : (bs : List ℕ) → All IsByte bs → percent_decode (escaped bs) ≡ bs
 back_again bs small = rw (← text_same bs small) (crate_round_trip KEY bs refl small)

@@ -72,4 +72,5 @@ joined (t ∷ u ∷ ts) = t ++ codes ", " ++ joined (u ∷ ts)
 
 -- the methods of a resource, as Allow has them (RFC 9110 section 10.2.1)
 abbrev pub allow_text : Resource → List ℕ
-allow_text r = joined (map method_text (filter (λ method. is_some (operation_of r method)) (methods.Get ∷ methods.Put ∷ methods.Post ∷ methods.Delete ∷ [])))
+allow_text r = joined (map method_text (filter (λ method. is_some (operation_of r method)) (methods.Get ∷ methods.Put ∷ methods.Post
+    ∷ methods.Delete ∷ [])))

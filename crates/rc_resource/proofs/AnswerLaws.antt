@@ -46,9 +46,11 @@ error_found app None tag = rw (tag_again tag, app_again app) refl
 error_found app (Some pointer) tag = rw (tag_again tag, app_again app) refl
 
 -- the body of a refusal is read as its tags
-pub error_again : (app : App) (path : Option (List ℕ)) (tag : Tag) → IfSome path IsUtf8 → error_of (compact_text (error_data app path tag)) ≡ Ok (record { tag = tag; app = app })
+pub error_again : (app : App) (path : Option (List ℕ)) (tag : Tag) → IfSome path IsUtf8 → error_of (compact_text (error_data app path tag))
+    ≡ Ok (record { tag = tag; app = app })
 unfolding error_of
-error_again app path tag utf8 = rw (json_again (error_data app path tag) (write_error app path tag utf8) (shallow_error app path tag)) (error_found app path tag)
+error_again app path tag utf8 = rw (json_again (error_data app path tag) (write_error app path tag utf8) (shallow_error app path tag))
+    (error_found app path tag)
 
 -- ---- names
 
@@ -104,7 +106,8 @@ remove_again t name =
     either (orders.Remove name) (list_any (is_row name) t.sad) (done (changes.Gone name) (with_sad t (without_row name t.sad))) (absent t)
     refl (refused_remove name tags.InvalidValue apps.Absent t)
 
-pub reply_again : (t : Tree) (o : Order) → IsTree t → AreTypedRows t.sad → answer_of o (reply_message (reply_of (reply t (ask_of o)))) ≡ Ok (answer_by (reply t (ask_of o)))
+pub reply_again : (t : Tree) (o : Order) → IsTree t → AreTypedRows t.sad → answer_of o (reply_message (reply_of (reply t (ask_of o)))) ≡ Ok
+    (answer_by (reply t (ask_of o)))
 unfolding reply
 reply_again t orders.Read is typed = shown_again t is typed
 reply_again t (orders.Policy list) is typed = refl

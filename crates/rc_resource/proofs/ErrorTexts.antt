@@ -65,17 +65,20 @@ type_ascii (Some pointer) app = refl
 write_type : (path : Option (List ℕ)) (app : App) → HaveWritable (put (codes "error-type") (string (type_text path app)) no_members)
 write_type path app = write_member (codes "error-type") _ _ refl (write_word (type_text path app) (type_ascii path app)) write_none
 
-write_tag : (path : Option (List ℕ)) (app : App) (tag : Tag) → HaveWritable (put (codes "error-tag") (string (tag_text tag)) (put (codes "error-type") (string (type_text path app)) no_members))
+write_tag : (path : Option (List ℕ)) (app : App) (tag : Tag)
+    → HaveWritable (put (codes "error-tag") (string (tag_text tag)) (put (codes "error-type") (string (type_text path app)) no_members))
 write_tag path app tag = write_member (codes "error-tag") _ _ refl (write_word (tag_text tag) (tag_ascii tag)) (write_type path app)
 
 write_message : (path : Option (List ℕ)) (ms : Members) → IfSome path IsUtf8 → HaveWritable ms → HaveWritable (with_message path ms)
 write_message None ms utf8 h = h
 write_message (Some pointer) ms utf8 h =
-    write_member (codes "error-message") _ ms refl (write_text (codes "at " ++ pointer) (IsUtf8-append (codes "at ") pointer (IsUtf8-are_ascii (codes "at ") refl) utf8)) h
+    write_member (codes "error-message") _ ms refl
+        (write_text (codes "at " ++ pointer) (IsUtf8-append (codes "at ") pointer (IsUtf8-are_ascii (codes "at ") refl) utf8)) h
 
 pub write_error : (app : App) (path : Option (List ℕ)) (tag : Tag) → IfSome path IsUtf8 → IsWritable (error_data app path tag)
 write_error app path tag utf8 =
     write_only (codes "ietf-restconf:errors") _ refl
     (write_only (codes "error") _ refl (write_array _ (write_item _ _
-    (write_object _ (write_member (codes "error-app-tag") _ _ refl (write_word (app_text app) (app_ascii app)) (write_message path _ utf8 (write_tag path app tag))))
+    (write_object _ (write_member (codes "error-app-tag") _ _ refl (write_word (app_text app) (app_ascii app))
+        (write_message path _ utf8 (write_tag path app tag))))
     write_no_items)))

@@ -13,24 +13,31 @@ use Rattle.rc_resource.specs.Lists.{at_most_once, AreDistinct}
 use Rattle.rc_resource.proofs.PlaceLemmas.{insert_next}
 
 -- an entry that is put before the first of this name, and one that is put after it
-pub before_is : (name : List ℕ) (e : SpdEntry) (list : List SpdEntry) → put_before name e list ≡ insert list (position_or_len (is_named name) list) e
+pub before_is : (name : List ℕ) (e : SpdEntry) (list : List SpdEntry)
+    → put_before name e list ≡ insert list (position_or_len (is_named name) list) e
 before_is name e [] = refl
 before_is name e (x ∷ xs) = by_test (is_named name x) refl (before_is name e xs)
   where
-    by_test : (b : Bool) → is_named name x ≡ b → put_before name e xs ≡ insert xs (position_or_len (is_named name) xs) e → put_before name e (x ∷ xs) ≡ insert (x ∷ xs) (position_or_len (is_named name) (x ∷ xs)) e
+    by_test : (b : Bool) → is_named name x ≡ b → put_before name e xs ≡ insert xs (position_or_len (is_named name) xs) e
+        → put_before name e (x ∷ xs) ≡ insert (x ∷ xs) (position_or_len (is_named name) (x ∷ xs)) e
     by_test true t ih = rw t refl
     by_test false t ih = rw t (ap (λ ys. x ∷ ys) ih ∙ sym (insert_next x xs (position_or_len (is_named name) xs) e))
 
 next : (k : ℕ) → 1 + (k + 1) ≡ (1 + k) + 1
 next k = omega arith
 
-pub after_is : (name : List ℕ) (e : SpdEntry) (list : List SpdEntry) → list_any (is_named name) list ≡ true → put_after name e list ≡ insert list (position_or_len (is_named name) list + 1) e
+pub after_is : (name : List ℕ) (e : SpdEntry) (list : List SpdEntry) → list_any (is_named name) list ≡ true
+    → put_after name e list ≡ insert list (position_or_len (is_named name) list + 1) e
 after_is name e [] h = cc
 after_is name e (x ∷ xs) h = by_test (is_named name x) refl h (after_is name e xs)
   where
-    by_test : (b : Bool) → is_named name x ≡ b → list_any (is_named name) (x ∷ xs) ≡ true → (list_any (is_named name) xs ≡ true → put_after name e xs ≡ insert xs (position_or_len (is_named name) xs + 1) e) → put_after name e (x ∷ xs) ≡ insert (x ∷ xs) (position_or_len (is_named name) (x ∷ xs) + 1) e
+    by_test : (b : Bool) → is_named name x ≡ b → list_any (is_named name) (x ∷ xs) ≡ true
+        → (list_any (is_named name) xs ≡ true → put_after name e xs ≡ insert xs (position_or_len (is_named name) xs + 1) e)
+        → put_after name e (x ∷ xs) ≡ insert (x ∷ xs) (position_or_len (is_named name) (x ∷ xs) + 1) e
     by_test true t h ih = rw t refl
-    by_test false t h ih = let rest : list_any (is_named name) xs ≡ true = cc in rw t (ap (λ ys. x ∷ ys) (ih rest) ∙ sym (insert_next x xs (position_or_len (is_named name) xs + 1) e) ∙ ap (λ k. insert (x ∷ xs) k e) (next (position_or_len (is_named name) xs)))
+    by_test false t h ih = let rest : list_any (is_named name) xs ≡ true = cc in
+        rw t (ap (λ ys. x ∷ ys) (ih rest) ∙ sym (insert_next x xs (position_or_len (is_named name) xs + 1) e)
+        ∙ ap (λ k. insert (x ∷ xs) k e) (next (position_or_len (is_named name) xs)))
 
 -- ---- names of policies
 
@@ -51,18 +58,22 @@ sooner : {X : Type 0} (p : X → Bool) (xs : List X) (x : X) → list_any p xs �
 sooner p [] x h = cc
 sooner p (y ∷ ys) x h = by_test (p y) refl h (sooner p ys x)
   where
-    by_test : (b : Bool) → p y ≡ b → list_any p (y ∷ ys) ≡ true → (list_any p ys ≡ true → list_any p (ys ++ x ∷ []) ≡ true) → list_any p ((y ∷ ys) ++ x ∷ []) ≡ true
+    by_test : (b : Bool) → p y ≡ b → list_any p (y ∷ ys) ≡ true → (list_any p ys ≡ true → list_any p (ys ++ x ∷ []) ≡ true)
+        → list_any p ((y ∷ ys) ++ x ∷ []) ≡ true
     by_test true t g ih = rw t refl
     by_test false t g ih = let rest : list_any p ys ≡ true = cc in rw t (ih rest)
 
 -- a name that stood before doesn't stand in what comes after
-pub no_more : (name : List ℕ) (before es : List SpdEntry) → list_any (is_named name) before ≡ true → entries_fault before es ≡ None → list_any (is_named name) es ≡ false
+pub no_more : (name : List ℕ) (before es : List SpdEntry) → list_any (is_named name) before ≡ true → entries_fault before es ≡ None
+    → list_any (is_named name) es ≡ false
 no_more name before [] there h = refl
 no_more name before (e ∷ es) there h =
     let parts = first_none (entry_fault before e) (entries_fault (before ++ e ∷ []) es) h in
-    by_test (is_named name e) refl (entry_new before e parts.0) (no_more name (before ++ e ∷ []) es (sooner (is_named name) before e there) parts.1)
+    by_test (is_named name e) refl (entry_new before e parts.0) (no_more name (before ++ e ∷ []) es (sooner (is_named name) before e there)
+        parts.1)
   where
-    by_test : (b : Bool) → is_named name e ≡ b → list_any (is_named e.name) before ≡ false → list_any (is_named name) es ≡ false → list_any (is_named name) (e ∷ es) ≡ false
+    by_test : (b : Bool) → is_named name e ≡ b → list_any (is_named e.name) before ≡ false → list_any (is_named name) es ≡ false
+        → list_any (is_named name) (e ∷ es) ≡ false
     by_test true t new rest =
         let same : e.name ≡ name = (bytes_eq-Decides e.name name).0 t in
         let old : list_any (is_named e.name) before ≡ true = rw same there in
@@ -75,7 +86,8 @@ policies_once name before (e ∷ es) h =
     let parts = first_none (entry_fault before e) (entries_fault (before ++ e ∷ []) es) h in
     by_test (is_named name e) refl (policies_once name (before ++ e ∷ []) es parts.1) parts.1
   where
-    by_test : (b : Bool) → is_named name e ≡ b → at_most_once (is_named name) es ≡ true → entries_fault (before ++ e ∷ []) es ≡ None → at_most_once (is_named name) (e ∷ es) ≡ true
+    by_test : (b : Bool) → is_named name e ≡ b → at_most_once (is_named name) es ≡ true → entries_fault (before ++ e ∷ []) es ≡ None
+        → at_most_once (is_named name) (e ∷ es) ≡ true
     by_test true t rest after = rw (t, no_more name (before ++ e ∷ []) es (at_end (is_named name) before e t) after) refl
     by_test false t rest after = rw t rest
 
@@ -87,13 +99,15 @@ alone_of : (e : SpdEntry) → entry_fault [] e ≡ None → spd_fault (e ∷ [])
 unfolding spd_fault
 alone_of e h = rw h refl
 
-found_passed : (p : SpdEntry → Bool) (before es : List SpdEntry) (e : SpdEntry) → entries_fault before es ≡ None → find p es ≡ Some e → entry_fault [] e ≡ None
+found_passed : (p : SpdEntry → Bool) (before es : List SpdEntry) (e : SpdEntry) → entries_fault before es ≡ None → find p es ≡ Some e
+    → entry_fault [] e ≡ None
 found_passed p before [] e h found = cc
 found_passed p before (x ∷ xs) e h found =
     let parts = first_none (entry_fault before x) (entries_fault (before ++ x ∷ []) xs) h in
     by_test (p x) refl found (entry_alone before x parts.0) (λ rest. found_passed p (before ++ x ∷ []) xs e parts.1 rest)
   where
-    by_test : (b : Bool) → p x ≡ b → find p (x ∷ xs) ≡ Some e → entry_fault [] x ≡ None → (find p xs ≡ Some e → entry_fault [] e ≡ None) → entry_fault [] e ≡ None
+    by_test : (b : Bool) → p x ≡ b → find p (x ∷ xs) ≡ Some e → entry_fault [] x ≡ None → (find p xs ≡ Some e → entry_fault [] e ≡ None)
+        → entry_fault [] e ≡ None
     by_test true t f here ih =
         let same : Some x ≡ Some e = cc in
         let eq : x ≡ e = cc in
@@ -103,7 +117,8 @@ found_passed p before (x ∷ xs) e h found =
         ih rest
 
 -- an entry that is found in a list without a fault has none alone
-pub policy_found : (p : SpdEntry → Bool) (list : List SpdEntry) (e : SpdEntry) → spd_fault list ≡ None → find p list ≡ Some e → spd_fault (e ∷ []) ≡ None
+pub policy_found : (p : SpdEntry → Bool) (list : List SpdEntry) (e : SpdEntry) → spd_fault list ≡ None → find p list ≡ Some e
+    → spd_fault (e ∷ []) ≡ None
 policy_found p list e h found = alone_of e (found_passed p [] list e (unfaulted list h) found)
 
 -- ---- names of halves
@@ -112,7 +127,8 @@ pub half_once : (name : List ℕ) (rows : List SadRow) → AreDistinct rows → 
 half_once name [] h = refl
 half_once name (r ∷ rows) h = by_test (is_row name r) refl h (half_once name rows h.1)
   where
-    by_test : (b : Bool) → is_row name r ≡ b → AreDistinct (r ∷ rows) → at_most_once (is_row name) rows ≡ true → at_most_once (is_row name) (r ∷ rows) ≡ true
+    by_test : (b : Bool) → is_row name r ≡ b → AreDistinct (r ∷ rows) → at_most_once (is_row name) rows ≡ true
+        → at_most_once (is_row name) (r ∷ rows) ≡ true
     by_test true t d rest =
         let same : r.entry.name ≡ name = (bytes_eq-Decides r.entry.name name).0 t in
         let none : list_any (is_row name) rows ≡ false = subst (λ n. list_any (is_row n) rows ≡ false) same d.0 in
@@ -123,7 +139,8 @@ pub half_found : (p : SadRow → Bool) (rows : List SadRow) (r : SadRow) → Are
 half_found p [] r h found = cc
 half_found p (x ∷ xs) r h found = by_test (p x) refl found h.0 (half_found p xs r h.1)
   where
-    by_test : (b : Bool) → p x ≡ b → find p (x ∷ xs) ≡ Some r → sad_fault x.entry ≡ None → (find p xs ≡ Some r → sad_fault r.entry ≡ None) → sad_fault r.entry ≡ None
+    by_test : (b : Bool) → p x ≡ b → find p (x ∷ xs) ≡ Some r → sad_fault x.entry ≡ None → (find p xs ≡ Some r → sad_fault r.entry ≡ None)
+        → sad_fault r.entry ≡ None
     by_test true t f g ih =
         let same : Some x ≡ Some r = cc in
         let eq : x ≡ r = cc in

@@ -45,7 +45,8 @@ before_whole : (p : ℕ → Bool) (xs : List ℕ) → list_any p xs ≡ false �
 before_whole p [] h = refl
 before_whole p (x ∷ xs) h = by_test (p x) refl h (before_whole p xs)
   where
-    by_test : (b : Bool) → p x ≡ b → list_any p (x ∷ xs) ≡ false → (list_any p xs ≡ false → before_first p xs ≡ xs) → before_first p (x ∷ xs) ≡ x ∷ xs
+    by_test : (b : Bool) → p x ≡ b → list_any p (x ∷ xs) ≡ false → (list_any p xs ≡ false → before_first p xs ≡ xs)
+        → before_first p (x ∷ xs) ≡ x ∷ xs
     by_test true t h ih = let wrong : ⊥ = cc in absurd wrong
     by_test false t h ih =
         let rest : list_any p xs ≡ false = cc in
@@ -67,7 +68,8 @@ no_query_in = refl
 none_joined : (p : ℕ → Bool) (xs ys : List ℕ) → list_any p xs ≡ false → list_any p ys ≡ false → list_any p (xs ++ ys) ≡ false
 none_joined p xs ys h k = list_any-append p xs ys ∙ rw (h, k) refl
 
-none_escaped : (p : ℕ → Bool) → agree_below (λ b. list_any p (escape_octet b)) (λ b. false) 256 ≡ true → (name : List ℕ) → All IsByte name → list_any p (escaped name) ≡ false
+none_escaped : (p : ℕ → Bool) → agree_below (λ b. list_any p (escape_octet b)) (λ b. false) 256 ≡ true → (name : List ℕ) → All IsByte name
+    → list_any p (escaped name) ≡ false
 unfolding escaped
 none_escaped p none [] small = refl
 none_escaped p none (b ∷ bs) small =
@@ -104,7 +106,8 @@ path_whole name h = none_joined (λ c. c == 63) (codes "/restconf/data/ietf-i2ns
 
 -- ---- requests of orders
 
-removal : (host : Addr) (name : List ℕ) → is_sad_name name ≡ true → request_of (order_message host (orders.Remove name)) ≡ Ok (ask_of (orders.Remove name))
+removal : (host : Addr) (name : List ℕ) → is_sad_name name ≡ true → request_of (order_message host (orders.Remove name)) ≡ Ok
+    (ask_of (orders.Remove name))
 unfolding request_of method_of
 removal host name h =
     let whole = path_whole name h in
@@ -112,16 +115,20 @@ removal host name h =
 
 -- what the codec says of its bodies
 abbrev PoliciesReadAgain : Type 0
-PoliciesReadAgain = (text : List ℕ) (es : List SpdEntry) → AreTypedPolicies es → spd_fault es ≡ None → IsUtf8 text → read text ≡ Some (all_policies es) → spd_of text ≡ Ok es
+PoliciesReadAgain = (text : List ℕ) (es : List SpdEntry) → AreTypedPolicies es → spd_fault es ≡ None → IsUtf8 text
+    → read text ≡ Some (all_policies es) → spd_of text ≡ Ok es
 
 abbrev HalfReadsAgain : Type 0
-HalfReadsAgain = (text : List ℕ) (e : SadEntry) → IsTypedHalf e → sad_fault e ≡ None → IsUtf8 text → read text ≡ Some (one_sad_entry e) → sad_entry_of text ≡ Ok e
+HalfReadsAgain = (text : List ℕ) (e : SadEntry) → IsTypedHalf e → sad_fault e ≡ None → IsUtf8 text → read text ≡ Some (one_sad_entry e)
+    → sad_entry_of text ≡ Ok e
 
-policies_again : PoliciesReadAgain → (es : List SpdEntry) → AreTypedPolicies es → spd_fault es ≡ None → spd_of (compact_text (all_policies es)) ≡ Ok es
+policies_again : PoliciesReadAgain → (es : List SpdEntry) → AreTypedPolicies es → spd_fault es ≡ None
+    → spd_of (compact_text (all_policies es)) ≡ Ok es
 policies_again codec es typed h =
     let plain = write_policies es typed h in
     let shallow : depth (all_policies es) ≤ 8 = (flat_all_policies es).shallow in
-    codec (compact_text (all_policies es)) es typed h (utf8_again (all_policies es) plain) (read_again (all_policies es) plain (omega arith))
+    codec (compact_text (all_policies es)) es typed h (utf8_again (all_policies es) plain)
+        (read_again (all_policies es) plain (omega arith))
 
 put_again : HalfReadsAgain → (e : SadEntry) → IsTypedHalf e → sad_fault e ≡ None → sad_entry_of (compact_text (one_sad_entry e)) ≡ Ok e
 put_again codec e typed h =
@@ -129,7 +136,8 @@ put_again codec e typed h =
     let shallow : depth (one_sad_entry e) ≤ 7 = (flat_one_sad_entry e).shallow in
     codec (compact_text (one_sad_entry e)) e typed h (utf8_again (one_sad_entry e) plain) (read_again (one_sad_entry e) plain (omega arith))
 
-pub order_again : PoliciesReadAgain → HalfReadsAgain → (host : Addr) (o : Order) → IsOrder o → IsTypedOrder o → request_of (order_message host o) ≡ Ok (ask_of o)
+pub order_again : PoliciesReadAgain → HalfReadsAgain → (host : Addr) (o : Order) → IsOrder o → IsTypedOrder o
+    → request_of (order_message host o) ≡ Ok (ask_of o)
 unfolding request_of resource_of method_of
 order_again policies half host orders.Read h typed = refl
 order_again policies half host (orders.Policy list) h typed = rw (policies_again policies list typed h) refl

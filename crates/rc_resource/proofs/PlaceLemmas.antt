@@ -19,7 +19,8 @@ any_at p [] = refl
 any_at p (x ∷ xs) = let ih = any_at p xs in grind (arith, ih)
 
 -- the clause of `position` as the definition of the first place
-pub first_from_position : {X : Type 0} (p : X → Bool) (xs : List X) → IsFirst p xs (cond (nat_lt (position_or_len p xs) (length xs)) (Some (position_or_len p xs)) None)
+pub first_from_position : {X : Type 0} (p : X → Bool) (xs : List X)
+    → IsFirst p xs (cond (nat_lt (position_or_len p xs) (length xs)) (Some (position_or_len p xs)) None)
 first_from_position {X} p xs = by_test (nat_lt (position_or_len p xs) (length xs)) refl
   where
     by_test : (b : Bool) → nat_lt (position_or_len p xs) (length xs) ≡ b → IsFirst p xs (cond b (Some (position_or_len p xs)) None)
@@ -31,7 +32,8 @@ pub none_replaced : {X : Type 0} (p : X → Bool) (e : X) (xs : List X) → list
 none_replaced p e [] h = refl
 none_replaced p e (x ∷ xs) h = by_test (p x) refl h (none_replaced p e xs)
   where
-    by_test : (b : Bool) → p x ≡ b → list_any p (x ∷ xs) ≡ false → (list_any p xs ≡ false → map (λ y. cond (p y) e y) xs ≡ xs) → map (λ y. cond (p y) e y) (x ∷ xs) ≡ x ∷ xs
+    by_test : (b : Bool) → p x ≡ b → list_any p (x ∷ xs) ≡ false → (list_any p xs ≡ false → map (λ y. cond (p y) e y) xs ≡ xs)
+        → map (λ y. cond (p y) e y) (x ∷ xs) ≡ x ∷ xs
     by_test true t h ih = let wrong : ⊥ = cc in absurd wrong
     by_test false t h ih = let rest : list_any p xs ≡ false = cc in rw t (ap (λ ys. x ∷ ys) (ih rest))
 
@@ -39,7 +41,8 @@ pub none_left_out : {X : Type 0} (p : X → Bool) (xs : List X) → list_any p x
 none_left_out p [] h = refl
 none_left_out p (x ∷ xs) h = by_test (p x) refl h (none_left_out p xs)
   where
-    by_test : (b : Bool) → p x ≡ b → list_any p (x ∷ xs) ≡ false → (list_any p xs ≡ false → filter (λ y. not (p y)) xs ≡ xs) → filter (λ y. not (p y)) (x ∷ xs) ≡ x ∷ xs
+    by_test : (b : Bool) → p x ≡ b → list_any p (x ∷ xs) ≡ false → (list_any p xs ≡ false → filter (λ y. not (p y)) xs ≡ xs)
+        → filter (λ y. not (p y)) (x ∷ xs) ≡ x ∷ xs
     by_test true t h ih = let wrong : ⊥ = cc in absurd wrong
     by_test false t h ih = let rest : list_any p xs ≡ false = cc in rw t (ap (λ ys. x ∷ ys) (ih rest))
 
@@ -48,11 +51,14 @@ not_false true h = cc
 not_false false h = refl
 
 -- where at most one passes, replacing each is setting the first
-pub replaced_once : {X : Type 0} (p : X → Bool) (e : X) (xs : List X) → at_most_once p xs ≡ true → map (λ x. cond (p x) e x) xs ≡ slice_set xs (position_or_len p xs) e
+pub replaced_once : {X : Type 0} (p : X → Bool) (e : X) (xs : List X) → at_most_once p xs ≡ true
+    → map (λ x. cond (p x) e x) xs ≡ slice_set xs (position_or_len p xs) e
 replaced_once p e [] h = refl
 replaced_once p e (x ∷ xs) h = by_test (p x) refl h (replaced_once p e xs)
   where
-    by_test : (b : Bool) → p x ≡ b → at_most_once p (x ∷ xs) ≡ true → (at_most_once p xs ≡ true → map (λ y. cond (p y) e y) xs ≡ slice_set xs (position_or_len p xs) e) → map (λ y. cond (p y) e y) (x ∷ xs) ≡ slice_set (x ∷ xs) (position_or_len p (x ∷ xs)) e
+    by_test : (b : Bool) → p x ≡ b → at_most_once p (x ∷ xs) ≡ true
+        → (at_most_once p xs ≡ true → map (λ y. cond (p y) e y) xs ≡ slice_set xs (position_or_len p xs) e)
+        → map (λ y. cond (p y) e y) (x ∷ xs) ≡ slice_set (x ∷ xs) (position_or_len p (x ∷ xs)) e
     by_test true t h ih =
         let no_more : not (list_any p xs) ≡ true = cc in
         rw t (ap (λ ys. e ∷ ys) (none_replaced p e xs (not_false _ no_more)))
@@ -60,11 +66,14 @@ replaced_once p e (x ∷ xs) h = by_test (p x) refl h (replaced_once p e xs)
         let rest : at_most_once p xs ≡ true = cc in
         rw t (ap (λ ys. x ∷ ys) (ih rest) ∙ sym (set_next x xs (position_or_len p xs) e))
 
-pub left_out_once : {X : Type 0} (p : X → Bool) (xs : List X) → at_most_once p xs ≡ true → filter (λ x. not (p x)) xs ≡ remove xs (position_or_len p xs)
+pub left_out_once : {X : Type 0} (p : X → Bool) (xs : List X) → at_most_once p xs ≡ true
+    → filter (λ x. not (p x)) xs ≡ remove xs (position_or_len p xs)
 left_out_once p [] h = refl
 left_out_once p (x ∷ xs) h = by_test (p x) refl h (left_out_once p xs)
   where
-    by_test : (b : Bool) → p x ≡ b → at_most_once p (x ∷ xs) ≡ true → (at_most_once p xs ≡ true → filter (λ y. not (p y)) xs ≡ remove xs (position_or_len p xs)) → filter (λ y. not (p y)) (x ∷ xs) ≡ remove (x ∷ xs) (position_or_len p (x ∷ xs))
+    by_test : (b : Bool) → p x ≡ b → at_most_once p (x ∷ xs) ≡ true
+        → (at_most_once p xs ≡ true → filter (λ y. not (p y)) xs ≡ remove xs (position_or_len p xs))
+        → filter (λ y. not (p y)) (x ∷ xs) ≡ remove (x ∷ xs) (position_or_len p (x ∷ xs))
     by_test true t h ih =
         let no_more : not (list_any p xs) ≡ true = cc in
         rw t (none_left_out p xs (not_false _ no_more))
@@ -83,8 +92,10 @@ found_none p (x ∷ xs) h = by_test (p x) refl h (found_none p xs)
     by_test true t h ih = let wrong : ⊥ = cc in absurd wrong
     by_test false t h ih = let rest : list_any p xs ≡ false = cc in rw t (ih rest)
 
-pub replaced_at : {X : Type 0} (p : X → Bool) (e : X) (xs : List X) (i : ℕ) → at_most_once p xs ≡ true → IsFirst p xs (Some i) → slice_set xs i e ≡ map (λ x. cond (p x) e x) xs
+pub replaced_at : {X : Type 0} (p : X → Bool) (e : X) (xs : List X) (i : ℕ) → at_most_once p xs ≡ true → IsFirst p xs (Some i)
+    → slice_set xs i e ≡ map (λ x. cond (p x) e x) xs
 replaced_at p e xs i once h = ap (λ k. slice_set xs k e) h.2 ∙ sym (replaced_once p e xs once)
 
-pub removed_at : {X : Type 0} (p : X → Bool) (xs : List X) (i : ℕ) → at_most_once p xs ≡ true → IsFirst p xs (Some i) → remove xs i ≡ filter (λ x. not (p x)) xs
+pub removed_at : {X : Type 0} (p : X → Bool) (xs : List X) (i : ℕ) → at_most_once p xs ≡ true → IsFirst p xs (Some i)
+    → remove xs i ≡ filter (λ x. not (p x)) xs
 removed_at p xs i once h = ap (remove xs) h.2 ∙ sym (left_out_once p xs once)

@@ -70,7 +70,8 @@ inserted_at (places.After name) e xs = inserted_after name e xs
 inserted_length : {X : Type 0} (e : X) (xs ys : List X) → Inserted e xs ys → length ys ≡ length xs + 1
 inserted_length e [] ys i = ap length i
 inserted_length e (x ∷ xs) ys (inl s) = rw s (omega arith)
-inserted_length e (x ∷ xs) ys (inr s) = let ih = inserted_length e xs s.0 s.2 in let l : length ys ≡ length (x ∷ s.0) = ap length s.1 in l ∙ omega (arith, ih)
+inserted_length e (x ∷ xs) ys (inr s) = let ih = inserted_length e xs s.0 s.2 in let l : length ys ≡ length (x ∷ s.0) = ap length s.1 in
+    l ∙ omega (arith, ih)
 
 none_here : {X : Type 0} (p : X → Bool) (x : X) (xs : List X) → list_any p (x ∷ xs) ≡ false → (p x ≡ false) × (list_any p xs ≡ false)
 none_here p x xs h = by_test (p x) refl
@@ -79,14 +80,16 @@ none_here p x xs h = by_test (p x) refl
     by_test true t = let wrong : ⊥ = cc in absurd wrong
     by_test false t = (t, cc)
 
-inserted_none : {X : Type 0} (p : X → Bool) (e : X) (xs ys : List X) → Inserted e xs ys → p e ≡ false → list_any p xs ≡ false → list_any p ys ≡ false
+inserted_none : {X : Type 0} (p : X → Bool) (e : X) (xs ys : List X) → Inserted e xs ys → p e ≡ false → list_any p xs ≡ false
+    → list_any p ys ≡ false
 inserted_none p e [] ys i h none = rw (i, h) refl
 inserted_none p e (x ∷ xs) ys (inl s) h none = rw (s, h) none
 inserted_none p e (x ∷ xs) ys (inr s) h none =
     let parts = none_here p x xs none in
     rw (s.1, parts.0) (inserted_none p e xs s.0 s.2 h parts.1)
 
-inserted_apart : {X : Type 0} (name : X → List ℕ) (e : X) (xs ys : List X) → Inserted e xs ys → list_any (λ y. bytes_eq (name y) (name e)) xs ≡ false → AreApart name xs → AreApart name ys
+inserted_apart : {X : Type 0} (name : X → List ℕ) (e : X) (xs ys : List X) → Inserted e xs ys
+    → list_any (λ y. bytes_eq (name y) (name e)) xs ≡ false → AreApart name xs → AreApart name ys
 inserted_apart name e [] ys i new apart = subst (AreApart name) (sym i) (refl, tt)
 inserted_apart name e (x ∷ xs) ys (inl s) new apart = subst (AreApart name) (sym s) (new, apart)
 inserted_apart name e (x ∷ xs) ys (inr s) new apart =
@@ -102,7 +105,8 @@ replaced_names : (n : List ℕ) (e : SpdEntry) (xs : List SpdEntry) → list_any
 replaced_names n e [] = refl
 replaced_names n e (x ∷ xs) = by_test (is_named e.name x) refl (replaced_names n e xs)
   where
-    by_test : (b : Bool) → is_named e.name x ≡ b → list_any (is_named n) (replaced e xs) ≡ list_any (is_named n) xs → list_any (is_named n) (replaced e (x ∷ xs)) ≡ list_any (is_named n) (x ∷ xs)
+    by_test : (b : Bool) → is_named e.name x ≡ b → list_any (is_named n) (replaced e xs) ≡ list_any (is_named n) xs
+        → list_any (is_named n) (replaced e (x ∷ xs)) ≡ list_any (is_named n) (x ∷ xs)
     by_test true t ih = let same : x.name ≡ e.name = (bytes_eq-Decides x.name e.name).0 t in rw (t, same, ih) refl
     by_test false t ih = rw (t, ih) refl
 
@@ -183,7 +187,8 @@ apart_in : (before es : List SpdEntry) → entries_fault before es ≡ None → 
 apart_in before [] h = tt
 apart_in before (e ∷ es) h =
     let parts = first_none (entry_fault before e) (entries_fault (before ++ e ∷ []) es) h in
-    (no_more e.name (before ++ e ∷ []) es (at_end (is_named e.name) before e ((bytes_eq-Decides e.name e.name).1 refl)) parts.1, apart_in (before ++ e ∷ []) es parts.1)
+    (no_more e.name (before ++ e ∷ []) es (at_end (is_named e.name) before e ((bytes_eq-Decides e.name e.name).1 refl)) parts.1, apart_in
+        (before ++ e ∷ []) es parts.1)
 
 -- no entry has the name of one before it
 abbrev AreNew : List SpdEntry → List SpdEntry → Type 0
@@ -193,13 +198,15 @@ AreNew before (e ∷ es) = (list_any (is_named e.name) before ≡ false) × AreN
 none_behind : {X : Type 0} (p : X → Bool) (xs : List X) (x : X) → list_any p xs ≡ false → p x ≡ false → list_any p (xs ++ x ∷ []) ≡ false
 none_behind p xs x none h = inserted_none p x xs (xs ++ x ∷ []) (inserted_last x xs) h none
 
-still_new : (before : List SpdEntry) (e : SpdEntry) (es : List SpdEntry) → AreNew before es → list_any (is_named e.name) es ≡ false → AreNew (before ++ e ∷ []) es
+still_new : (before : List SpdEntry) (e : SpdEntry) (es : List SpdEntry) → AreNew before es → list_any (is_named e.name) es ≡ false
+    → AreNew (before ++ e ∷ []) es
 still_new before e [] new none = tt
 still_new before e (x ∷ xs) new none =
     let parts = none_here (is_named e.name) x xs none in
     (none_behind (is_named x.name) before e new.0 (bytes_eq_sym x.name e.name parts.0), still_new before e xs new.1 parts.1)
 
-entry_passes : (before : List SpdEntry) (e : SpdEntry) → list_any (is_named e.name) before ≡ false → entry_fault [] e ≡ None → entry_fault before e ≡ None
+entry_passes : (before : List SpdEntry) (e : SpdEntry) → list_any (is_named e.name) before ≡ false → entry_fault [] e ≡ None
+    → entry_fault before e ≡ None
 unfolding entry_fault
 entry_passes before e new alone = rw new alone
 
@@ -240,7 +247,8 @@ with_policies t list tree p = record { policies = passed list p; halves = tree.h
 one_passes : (e : SpdEntry) → spd_fault (e ∷ []) ≡ None → entry_fault [] e ≡ None
 one_passes e h = (passes (e ∷ []) h).alone.0
 
-inserted_passes : (e : SpdEntry) (list more : List SpdEntry) → spd_fault (e ∷ []) ≡ None → spd_fault list ≡ None → Inserted e list more → list_any (is_named e.name) list ≡ false → length list < 256 → Passes more
+inserted_passes : (e : SpdEntry) (list more : List SpdEntry) → spd_fault (e ∷ []) ≡ None → spd_fault list ≡ None → Inserted e list more
+    → list_any (is_named e.name) list ≡ false → length list < 256 → Passes more
 inserted_passes e list more ask rules there new room =
     let p = passes list rules in
     let size = inserted_length e list more there in
@@ -253,7 +261,8 @@ inserted_passes e list more ask rules there new room =
 pub post_keeps : (t : Tree) (e : SpdEntry) (place : Place) → IsTree t → spd_fault (e ∷ []) ≡ None → IsTree (post_spd t e place).tree
 post_keeps t e place tree ask = by_name (has_policy e.name t.spd) refl
   where
-    by_point : (b : Bool) → has_point place t.spd ≡ b → has_policy e.name t.spd ≡ false → is_spd_full t.spd ≡ false → IsTree (post_spd t e place).tree
+    by_point : (b : Bool) → has_point place t.spd ≡ b → has_policy e.name t.spd ≡ false → is_spd_full t.spd ≡ false
+        → IsTree (post_spd t e place).tree
     by_point false p n f = rw (n, f, p) tree
     by_point true p n f =
         rw (n, f, p) (with_policies t (put_at place e t.spd) tree
@@ -320,7 +329,8 @@ left_out_passed q (x ∷ xs) rules = by_test (q x) refl (left_out_passed q xs ru
 pub install_keeps : (t : Tree) (e : SadEntry) → IsTree t → sad_fault e ≡ None → IsTree (post_sad t e).tree
 install_keeps t e tree ask = by_name (list_any (is_row e.name) t.sad) refl
   where
-    by_room : (b : Bool) → is_sad_full t.sad ≡ b → (is_inbound e.name && has_spi e.spi t.sad) ≡ false → list_any (is_row e.name) t.sad ≡ false → IsTree (post_sad t e).tree
+    by_room : (b : Bool) → is_sad_full t.sad ≡ b → (is_inbound e.name && has_spi e.spi t.sad) ≡ false
+        → list_any (is_row e.name) t.sad ≡ false → IsTree (post_sad t e).tree
     by_room true f s n = rw (n, s, f) tree
     by_room false f s n =
         let size = inserted_length (new_row e) t.sad (t.sad ++ new_row e ∷ []) (inserted_last (new_row e) t.sad) in
@@ -329,10 +339,12 @@ install_keeps t e tree ask = by_name (list_any (is_row e.name) t.sad) refl
           policies = tree.policies;
           halves = new_passed t.sad (new_row e) tree.halves ask;
           few = omega (arith, size, room);
-          distinct = inserted_apart (λ r. r.entry.name) (new_row e) t.sad (t.sad ++ new_row e ∷ []) (inserted_last (new_row e) t.sad) n tree.distinct;
+          distinct = inserted_apart (λ r. r.entry.name) (new_row e) t.sad (t.sad ++ new_row e ∷ []) (inserted_last (new_row e) t.sad) n
+              tree.distinct;
         })
 
-    by_spi : (b : Bool) → (is_inbound e.name && has_spi e.spi t.sad) ≡ b → list_any (is_row e.name) t.sad ≡ false → IsTree (post_sad t e).tree
+    by_spi : (b : Bool) → (is_inbound e.name && has_spi e.spi t.sad) ≡ b → list_any (is_row e.name) t.sad ≡ false
+        → IsTree (post_sad t e).tree
     by_spi true s n = rw (n, s) tree
     by_spi false s n = by_room (is_sad_full t.sad) refl s n
 
@@ -379,7 +391,8 @@ keeps t (asks.GetSadEntry name) tree ask = half_shown t (find (is_row name) t.sa
 keeps t (asks.DeleteSad name) tree ask = remove_keeps t name tree
 
 -- what is done, or not done for want of memory, keeps them so
-pub done_keeps : {A E : Type 0} (r : Result A E) (old new after : Tree) → OnOk r (new ≡ after) → OnErr r (new ≡ old) → IsTree old → IsTree after → IsTree new
+pub done_keeps : {A E : Type 0} (r : Result A E) (old new after : Tree) → OnOk r (new ≡ after) → OnErr r (new ≡ old) → IsTree old
+    → IsTree after → IsTree new
 done_keeps (Ok x) old new after done undone before then = subst IsTree (sym done) then
 done_keeps (Err e) old new after done undone before then = subst IsTree (sym undone) before
 

@@ -35,7 +35,8 @@ either-apart n a b below above same (inl lt) = sym (rests-apart n b a (omega ari
 either-apart n a b below above same (inr le) = rests-apart n a b le above same
 
 word-by : (n a b : ℕ) (s t : Bool) → a < b + n → b < a + n → (a % n == b % n) ≡ s → (a == b) ≡ t → s ≡ t
-word-by n a b true t below above e f = sym (own-number a b (either-apart n a b below above (same-number (a % n) (b % n) e) (cases_lt b a))) ∙ f
+word-by n a b true t below above e f = sym (own-number a b (either-apart n a b below above (same-number (a % n) (b % n) e) (cases_lt b a)))
+    ∙ f
 word-by n a b false true below above e f = sym e ∙ own-number (a % n) (b % n) (ap (λ m. m % n) (same-number a b f))
 word-by n a b false false below above e f = refl
 

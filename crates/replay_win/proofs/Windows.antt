@@ -8,8 +8,10 @@ use Rattle.replay_win.specs.Marks.{marked, no_marks, Marks, greatest, is_among, 
 use Rattle.replay_win.specs.Bitmap.{is_bit_set, is_held}
 use Rattle.replay_win.proofs.Among.{is_among-filter, is_among-range, filter-same, filter-none}
 
-pub is_among-spanned : (size top : ℕ) (test : ℕ → Bool) (k : ℕ) → is_among k (spanned size top test) ≡ (test k && (nat_le (top + 1 - size) k && nat_lt k (top + 1 - size + size)))
-is_among-spanned size top test k = is_among-filter test k (range_with_len (top + 1 - size) size) ∙ ap (λ b. test k && b) (is_among-range k (top + 1 - size) size)
+pub is_among-spanned : (size top : ℕ) (test : ℕ → Bool) (k : ℕ)
+    → is_among k (spanned size top test) ≡ (test k && (nat_le (top + 1 - size) k && nat_lt k (top + 1 - size + size)))
+is_among-spanned size top test k = is_among-filter test k (range_with_len (top + 1 - size) size)
+    ∙ ap (λ b. test k && b) (is_among-range k (top + 1 - size) size)
 
 pub spanned-none : (size top : ℕ) (test : ℕ → Bool) → ((k : ℕ) → test k ≡ false) → spanned size top test ≡ []
 spanned-none size top test none = filter-none test (range_with_len (top + 1 - size) size) none
@@ -27,11 +29,13 @@ size-window_after size [] = refl
 size-window_after size (s ∷ taken) = size-window_after size taken
 
 -- a number that was taken and isn't below lies in the range
-in_range : (size top s q : ℕ) (inside taken : Bool) → inside ≡ taken → (taken ≡ true → q ≤ top) → max top s < q + size → (((s == q) || inside) && (nat_le (max top s + 1 - size) q && nat_lt q (max top s + 1 - size + size))) ≡ ((q == s) || taken)
+in_range : (size top s q : ℕ) (inside taken : Bool) → inside ≡ taken → (taken ≡ true → q ≤ top) → max top s < q + size
+    → (((s == q) || inside) && (nat_le (max top s + 1 - size) q && nat_lt q (max top s + 1 - size + size))) ≡ ((q == s) || taken)
 in_range size top s q inside taken same most above = grind (arith, nat_tests)
 
 -- of the numbers that aren't below, the window has those that were taken
-is_among-window_after : (size : ℕ) (taken : List ℕ) (q : ℕ) → greatest taken < q + size → is_among q (window_after size taken).inside ≡ is_among q taken
+is_among-window_after : (size : ℕ) (taken : List ℕ) (q : ℕ) → greatest taken < q + size
+    → is_among q (window_after size taken).inside ≡ is_among q taken
 is_among-window_after size [] q h = refl
 is_among-window_after size (s ∷ taken) q h =
     let w : Marks = window_after size taken in
@@ -82,7 +86,8 @@ judged-fold size taken s =
 -- ---- a bitmap
 
 -- the numbers inside are those held
-is_among-held : (size top : ℕ) (words : List ℕ) (k : ℕ) → is_below size top k ≡ false → is_among k (spanned size top (is_held words top)) ≡ is_held words top k
+is_among-held : (size top : ℕ) (words : List ℕ) (k : ℕ) → is_below size top k ≡ false → is_among k (spanned size top (is_held words top)) ≡
+    is_held words top k
 is_among-held size top words k above =
     let has = is_among-spanned size top (is_held words top) k in
     let e : is_held words top k ≡ (nat_le k top && is_bit_set words k) = refl in
@@ -92,10 +97,12 @@ is_among-held size top words k above =
 abbrev pub view_of : ℕ → ℕ → List ℕ → Marks
 view_of size top words = record { size = size; top = top; inside = spanned size top (is_held words top) }
 
-pub judged-view_of : (size top : ℕ) (words : List ℕ) (s : ℕ) (taken : Bool) → (s == 0) ≡ false → is_below size top s ≡ false → is_held words top s ≡ taken →
+pub judged-view_of : (size top : ℕ) (words : List ℕ) (s : ℕ) (taken : Bool) → (s == 0) ≡ false → is_below size top s ≡ false
+    → is_held words top s ≡ taken →
     judged (view_of size top words) s ≡ (if taken then Seen else Fresh)
 judged-view_of size top words s taken some above has =
-    ap (λ b. if b then Zero else if is_below size top s then Old else if is_among s (view_of size top words).inside then Seen else Fresh) some
+    ap (λ b. if b then Zero else if is_below size top s then Old else if is_among s (view_of size top words).inside then Seen else Fresh)
+        some
     ∙ ap (λ b. if b then Old else if is_among s (view_of size top words).inside then Seen else Fresh) above
     ∙ ap (λ b. if b then Seen else Fresh) (is_among-held size top words s above ∙ has)
 
@@ -111,9 +118,11 @@ fresh-above w s is = let above = fresh_by (s == 0) (is_below w.size w.top s) (is
 -- the numbers inside after a number was marked
 pub spanned-after : (size top s : ℕ) (old new : List ℕ) →
     ((k : ℕ) → max top s < k + size → is_held new (max top s) k ≡ ((s == k) || is_held old top k)) →
-    spanned size (max top s) (is_held new (max top s)) ≡ spanned size (max top s) (λ k. (s == k) || is_among k (spanned size top (is_held old top)))
+    spanned size (max top s) (is_held new (max top s)) ≡ spanned size (max top s) (λ k. (s == k)
+        || is_among k (spanned size top (is_held old top)))
 spanned-after size top s old new held =
-    filter-same (is_held new (max top s)) (λ k. (s == k) || is_among k (spanned size top (is_held old top))) (range_with_len (max top s + 1 - size) size)
+    filter-same (is_held new (max top s)) (λ k. (s == k) || is_among k (spanned size top (is_held old top)))
+        (range_with_len (max top s + 1 - size) size)
     (λ k h.
     let within = is_among-range k (max top s + 1 - size) size in
     let near : max top s < k + size = grind (arith, nat_tests, within) in

@@ -17,7 +17,8 @@ own-number : (a : ℕ) → (a == a) ≡ true
 own-number a = grind (arith, nat_tests)
 
 -- a word with one more bit
-with-bit-by : (w a b : ℕ) (same : Bool) → a < 64 → b < 64 → (a == b) ≡ same → (bit_at (bit_or w (1 * 2 ^ a % 18446744073709551616)) b == 1) ≡ (same || (bit_at w b == 1))
+with-bit-by : (w a b : ℕ) (same : Bool) → a < 64 → b < 64 → (a == b) ≡ same → (bit_at (bit_or w (1 * 2 ^ a % 18446744073709551616)) b == 1)
+    ≡ (same || (bit_at w b == 1))
 with-bit-by w a b true low high e =
     let is = same-number a b e in
     let here = bit_at_set_same w64 w a low in
@@ -32,7 +33,8 @@ one-bit-by a b true low e =
 one-bit-by a b false low e = ap (λ n. bit_at n b == 1) (one_shl a 64 low) ∙ ap (λ n. n == 1) (bit_at-pow_other a b (other-number a b e))
 
 -- the words after one of them was written
-written-by : (ws : List ℕ) (i j v : ℕ) (same : Bool) → i < length ws → (i == j) ≡ same → slice_index (slice_set ws i v) j ≡ (if same then v else slice_index ws j)
+written-by : (ws : List ℕ) (i j v : ℕ) (same : Bool) → i < length ws → (i == j) ≡ same
+    → slice_index (slice_set ws i v) j ≡ (if same then v else slice_index ws j)
 written-by ws i j v true low e = ap (slice_index (slice_set ws i v)) (sym (same-number i j e)) ∙ get_or-set_same ws i v 0 low
 written-by ws i j v false low e = get_or-set_other ws i j v 0 (other-number i j e)
 
@@ -56,32 +58,38 @@ bit-set-by ws i s k true one low e f =
     bit-written-by ws i (bit_or (slice_index ws i) (1 * 2 ^ (s % 64) % 18446744073709551616)) k true low e
     ∙ (with-bit-by (slice_index ws i) (s % 64) (k % 64) one (low-bits s) (low-bits k) f
     ∙ ap (λ j. one || (bit_at (slice_index ws j) (k % 64) == 1)) (same-number i (k / 64 % length ws) e))
-bit-set-by ws i s k false one low e f = bit-written-by ws i (bit_or (slice_index ws i) (1 * 2 ^ (s % 64) % 18446744073709551616)) k false low e
+bit-set-by ws i s k false one low e f = bit-written-by ws i (bit_or (slice_index ws i) (1 * 2 ^ (s % 64) % 18446744073709551616)) k false
+    low e
 
 pub bit-set : (ws : List ℕ) (i s k : ℕ) → i < length ws → i ≡ s / 64 % length ws →
-    is_bit_set (slice_set ws i (bit_or (slice_index ws i) (1 * 2 ^ (s % 64) % 18446744073709551616))) k ≡ (is_one_bit (length ws) s k || is_bit_set ws k)
+    is_bit_set (slice_set ws i (bit_or (slice_index ws i) (1 * 2 ^ (s % 64) % 18446744073709551616))) k ≡ (is_one_bit (length ws) s k
+        || is_bit_set ws k)
 bit-set ws i s k low is =
     bit-set-by ws i s k (i == k / 64 % length ws) (s % 64 == k % 64) low refl refl
     ∙ ap (λ j. ((j == k / 64 % length ws) && (s % 64 == k % 64)) || is_bit_set ws k) is
 
 -- a word that has one bit alone
 pub bit-begun : (ws : List ℕ) (i s k : ℕ) → i < length ws → i ≡ s / 64 % length ws →
-    is_bit_set (slice_set ws i (1 * 2 ^ (s % 64) % 18446744073709551616)) k ≡ (if is_one_word (length ws) s k then s % 64 == k % 64 else is_bit_set ws k)
+    is_bit_set (slice_set ws i (1 * 2 ^ (s % 64) % 18446744073709551616)) k ≡ (if is_one_word (length ws) s k then s % 64 == k % 64
+        else is_bit_set ws k)
 bit-begun ws i s k low is =
     bit-written-by ws i (1 * 2 ^ (s % 64) % 18446744073709551616) k (i == k / 64 % length ws) low refl
     ∙ (ap (λ b. if i == k / 64 % length ws then b else is_bit_set ws k) (one-bit-by (s % 64) (k % 64) (s % 64 == k % 64) (low-bits s) refl)
     ∙ ap (λ j. if j == k / 64 % length ws then s % 64 == k % 64 else is_bit_set ws k) is)
 
 -- a word without a bit
-bit-cleared-by : (ws : List ℕ) (i k : ℕ) (same : Bool) → i < length ws → (i == k / 64 % length ws) ≡ same → is_bit_set (slice_set ws i 0) k ≡ (not same && is_bit_set ws k)
+bit-cleared-by : (ws : List ℕ) (i k : ℕ) (same : Bool) → i < length ws → (i == k / 64 % length ws) ≡ same
+    → is_bit_set (slice_set ws i 0) k ≡ (not same && is_bit_set ws k)
 bit-cleared-by ws i k true low e = bit-written-by ws i 0 k true low e ∙ ap (λ n. n == 1) (bit_at-zero (k % 64))
 bit-cleared-by ws i k false low e = bit-written-by ws i 0 k false low e
 
-pub bit-cleared : (ws : List ℕ) (i k : ℕ) → i < length ws → is_bit_set (slice_set ws i 0) k ≡ (not (i == k / 64 % length ws) && is_bit_set ws k)
+pub bit-cleared : (ws : List ℕ) (i k : ℕ) → i < length ws → is_bit_set (slice_set ws i 0) k ≡ (not (i == k / 64 % length ws)
+    && is_bit_set ws k)
 bit-cleared ws i k low = bit-cleared-by ws i k (i == k / 64 % length ws) low refl
 
 -- one block more
-pub block-more : (n first block i : ℕ) → first ≤ block → is_block_word n first (block + 1 - first) i ≡ (is_block_word n first (block - first) i || (i == block % n))
+pub block-more : (n first block i : ℕ) → first ≤ block
+    → is_block_word n first (block + 1 - first) i ≡ (is_block_word n first (block - first) i || (i == block % n))
 block-more n first block i le =
     let next : block + 1 - first ≡ suc (block - first) = omega arith in
     let here : first + (block - first) ≡ block = omega arith in

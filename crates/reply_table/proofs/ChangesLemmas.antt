@@ -13,7 +13,8 @@ use Rattle.reply_table.specs.declared.ask.Ask.TheVariants as asks
 use Rattle.reply_table.specs.declared.ask.Change.TheVariants as changes
 use Rattle.reply_table.specs.Reply.{Outcome, reply, made, done, exists, spi_taken, full, absent, no_point, has_policy, is_spd_full, has_point, put_at, with_spd, replaced, without_policy, post_spd, put_spd_entry, show_policy, At_policy, At_half, is_row, has_spi, is_sad_full, new_row, with_sad, without_row, post_sad, show_half, Fits, Makes}
 
-pick : (t : Tree) (b : Bool) (x y : Outcome) → (b ≡ true → Fits t x.change) → (b ≡ false → Fits t y.change) → Fits t (if b then x else y).change
+pick : (t : Tree) (b : Bool) (x y : Outcome) → (b ≡ true → Fits t x.change) → (b ≡ false → Fits t y.change)
+    → Fits t (if b then x else y).change
 pick t true x y p q = p refl
 pick t false x y p q = q refl
 
@@ -62,11 +63,13 @@ fits-reply t asks.GetSad = tt
 fits-reply t (asks.PostSad e) = fits-post_sad t e
 fits-reply t (asks.GetSadEntry name) = fits-show_half t (find (is_row name) t.sad)
 fits-reply t (asks.DeleteSad name) =
-    pick t (list_any (is_row name) t.sad) (done (changes.Gone name) (with_sad t (without_row name t.sad))) (absent t) (λ there. there) (λ _. tt)
+    pick t (list_any (is_row name) t.sad) (done (changes.Gone name) (with_sad t (without_row name t.sad))) (absent t) (λ there. there)
+        (λ _. tt)
 
 -- ---- what is there after it
 
-makes-if : (t : Tree) (b : Bool) (x y : Outcome) → Makes t x x.change → Makes t y y.change → Makes t (if b then x else y) (if b then x else y).change
+makes-if : (t : Tree) (b : Bool) (x y : Outcome) → Makes t x x.change → Makes t y y.change
+    → Makes t (if b then x else y) (if b then x else y).change
 makes-if t true x y p q = p
 makes-if t false x y p q = q
 
@@ -76,7 +79,8 @@ makes-post_spd t e place =
     let p : Outcome = if not (has_point place t.spd) then no_point t else m in
     let f : Outcome = if is_spd_full t.spd then full t else p in
     makes-if t (has_policy e.name t.spd) (exists t) f (refl, refl)
-    (makes-if t (is_spd_full t.spd) (full t) p (refl, refl) (makes-if t (not (has_point place t.spd)) (no_point t) m (refl, refl) (refl, refl)))
+    (makes-if t (is_spd_full t.spd) (full t) p (refl, refl) (makes-if t (not (has_point place t.spd)) (no_point t) m (refl, refl)
+        (refl, refl)))
 
 makes-put_spd_entry : (t : Tree) (e : SpdEntry) → Makes t (put_spd_entry t e) (put_spd_entry t e).change
 makes-put_spd_entry t e =
@@ -99,7 +103,8 @@ makes-post_sad t e =
     let f : Outcome = if is_sad_full t.sad then full t else m in
     let s : Outcome = if is_inbound e.name && has_spi e.spi t.sad then spi_taken t else f in
     makes-if t (list_any (is_row e.name) t.sad) (exists t) s (refl, refl)
-    (makes-if t (is_inbound e.name && has_spi e.spi t.sad) (spi_taken t) f (refl, refl) (makes-if t (is_sad_full t.sad) (full t) m (refl, refl) (refl, refl)))
+    (makes-if t (is_inbound e.name && has_spi e.spi t.sad) (spi_taken t) f (refl, refl)
+        (makes-if t (is_sad_full t.sad) (full t) m (refl, refl) (refl, refl)))
 
 pub makes-reply : (t : Tree) (a : Ask) → Makes t (reply t a) (reply t a).change
 unfolding reply
@@ -114,4 +119,5 @@ makes-reply t asks.GetSad = (refl, refl)
 makes-reply t (asks.PostSad e) = makes-post_sad t e
 makes-reply t (asks.GetSadEntry name) = makes-show_half t (find (is_row name) t.sad)
 makes-reply t (asks.DeleteSad name) =
-    makes-if t (list_any (is_row name) t.sad) (done (changes.Gone name) (with_sad t (without_row name t.sad))) (absent t) (refl, refl) (refl, refl)
+    makes-if t (list_any (is_row name) t.sad) (done (changes.Gone name) (with_sad t (without_row name t.sad))) (absent t) (refl, refl)
+        (refl, refl)

@@ -35,14 +35,17 @@ good-post_spd t e place =
     let f : Outcome = if is_spd_full t.spd then full t else p in
     either t (has_policy e.name t.spd) (exists t) f (λ _. (refl, refl))
     (either t (is_spd_full t.spd) (full t) p (λ _. (refl, refl))
-    (either t (not (has_point place t.spd)) (no_point t) m (λ _. (refl, refl)) (good-made t (At_policy e.name) changes.Spd (with_spd t (put_at place e t.spd)))))
+    (either t (not (has_point place t.spd)) (no_point t) m (λ _. (refl, refl))
+        (good-made t (At_policy e.name) changes.Spd (with_spd t (put_at place e t.spd)))))
 
 good-put_spd_entry : (t : Tree) (e : SpdEntry) → Harmless t (put_spd_entry t e)
 good-put_spd_entry t e =
     let m : Outcome = made (At_policy e.name) changes.Spd (with_spd t (t.spd ++ e ∷ [])) in
     let f : Outcome = if is_spd_full t.spd then full t else m in
-    either t (has_policy e.name t.spd) (done changes.Spd (with_spd t (replaced e t.spd))) f (good-done t changes.Spd (with_spd t (replaced e t.spd)))
-    (either t (is_spd_full t.spd) (full t) m (λ _. (refl, refl)) (good-made t (At_policy e.name) changes.Spd (with_spd t (t.spd ++ e ∷ []))))
+    either t (has_policy e.name t.spd) (done changes.Spd (with_spd t (replaced e t.spd))) f
+        (good-done t changes.Spd (with_spd t (replaced e t.spd)))
+    (either t (is_spd_full t.spd) (full t) m (λ _. (refl, refl))
+        (good-made t (At_policy e.name) changes.Spd (with_spd t (t.spd ++ e ∷ []))))
 
 good-show_policy : (t : Tree) (e : Option SpdEntry) → Harmless t (show_policy t e)
 good-show_policy t None = λ _. (refl, refl)
@@ -59,7 +62,8 @@ good-post_sad t e =
     let s : Outcome = if is_inbound e.name && has_spi e.spi t.sad then spi_taken t else f in
     either t (list_any (is_row e.name) t.sad) (exists t) s (λ _. (refl, refl))
     (either t (is_inbound e.name && has_spi e.spi t.sad) (spi_taken t) f (λ _. (refl, refl))
-    (either t (is_sad_full t.sad) (full t) m (λ _. (refl, refl)) (good-made t (At_half e.name) (changes.Put e) (with_sad t (t.sad ++ new_row e ∷ [])))))
+    (either t (is_sad_full t.sad) (full t) m (λ _. (refl, refl))
+        (good-made t (At_half e.name) (changes.Put e) (with_sad t (t.sad ++ new_row e ∷ [])))))
 
 pub good-reply : (t : Tree) (a : Ask) → Harmless t (reply t a)
 unfolding reply
@@ -68,11 +72,14 @@ good-reply t (asks.PutSpd list) = good-done t changes.Spd (with_spd t list)
 good-reply t (asks.PostSpd e place) = good-post_spd t e place
 good-reply t (asks.GetSpdEntry name) = good-show_policy t (find (is_named name) t.spd)
 good-reply t (asks.PutSpdEntry e) = good-put_spd_entry t e
-good-reply t (asks.DeleteSpdEntry name) = either t (has_policy name t.spd) (done changes.Spd (with_spd t (without_policy name t.spd))) (absent t) (good-done t changes.Spd (with_spd t (without_policy name t.spd))) (λ _. (refl, refl))
+good-reply t (asks.DeleteSpdEntry name) = either t (has_policy name t.spd) (done changes.Spd (with_spd t (without_policy name t.spd)))
+    (absent t) (good-done t changes.Spd (with_spd t (without_policy name t.spd))) (λ _. (refl, refl))
 good-reply t asks.GetSad = λ _. (refl, refl)
 good-reply t (asks.PostSad e) = good-post_sad t e
 good-reply t (asks.GetSadEntry name) = good-show_half t (find (is_row name) t.sad)
-good-reply t (asks.DeleteSad name) = either t (list_any (is_row name) t.sad) (done (changes.Gone name) (with_sad t (without_row name t.sad))) (absent t) (good-done t (changes.Gone name) (with_sad t (without_row name t.sad))) (λ _. (refl, refl))
+good-reply t (asks.DeleteSad name) =
+    either t (list_any (is_row name) t.sad) (done (changes.Gone name) (with_sad t (without_row name t.sad))) (absent t)
+    (good-done t (changes.Gone name) (with_sad t (without_row name t.sad))) (λ _. (refl, refl))
 
 -- the statuses of an order's reply
 abbrev pub Is : ℕ → ℕ → Outcome → Type 0
@@ -94,4 +101,5 @@ put-is t e =
 
 pub remove-is : (t : Tree) (name : List ℕ) → Is 204 404 (reply t (asks.DeleteSad name))
 unfolding reply
-remove-is t name = either-is 204 404 (list_any (is_row name) t.sad) (done (changes.Gone name) (with_sad t (without_row name t.sad))) (absent t) (inl refl) (inr refl)
+remove-is t name = either-is 204 404 (list_any (is_row name) t.sad) (done (changes.Gone name) (with_sad t (without_row name t.sad)))
+    (absent t) (inl refl) (inr refl)

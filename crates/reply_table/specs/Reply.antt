@@ -61,7 +61,8 @@ done c t = record { status = 204; tag = None; app = None; shown = Nothing; names
 -- a refusal with its status and error tags; it shows and changes nothing
 abbrev pub refused : ℕ → Tag → App → Tree → Outcome
 refused status tag app t =
-    record { status = status; tag = Some tag; app = Some app; shown = Nothing; names = []; location = Nowhere; change = changes.Nothing; tree = t }
+    record { status = status; tag = Some tag; app = Some app; shown = Nothing; names = []; location = Nowhere; change = changes.Nothing;
+        tree = t }
 
 -- a name that is there, an SPI that an inbound half has, and a list that is full
 abbrev pub exists : Tree → Outcome
@@ -205,7 +206,8 @@ show_half t (Some r) = shows t (Half r)
 
 -- all halves with their counts, and their names
 abbrev pub get_sad : Tree → Outcome
-get_sad t = record { status = 200; tag = None; app = None; shown = Halves t.sad; names = row_names t.sad; location = Nowhere; change = changes.Nothing; tree = t }
+get_sad t = record { status = 200; tag = None; app = None; shown = Halves t.sad; names = row_names t.sad; location = Nowhere; change =
+    changes.Nothing; tree = t }
 
 -- the reply to a request that was read, over these databases
 unfoldable pub reply : Tree → Ask → Outcome
@@ -227,7 +229,8 @@ reply t (asks.DeleteSad name) = delete_sad t name
 abbrev pub Fits : Tree → Change → Type 0
 Fits t changes.Nothing = Unit {0}
 Fits t changes.Spd = Unit {0}
-Fits t (changes.Put e) = (list_any (is_row e.name) t.sad ≡ false) × ((is_inbound e.name && has_spi e.spi t.sad) ≡ false) × (is_sad_full t.sad ≡ false)
+Fits t (changes.Put e) = (list_any (is_row e.name) t.sad ≡ false) × ((is_inbound e.name && has_spi e.spi t.sad) ≡ false)
+    × (is_sad_full t.sad ≡ false)
 Fits t (changes.Gone name) = list_any (is_row name) t.sad ≡ true
 
 -- ---- what a change says of the databases after it

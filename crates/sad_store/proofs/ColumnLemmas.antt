@@ -8,11 +8,13 @@ use Rattle.sad_store.specs.Columns.{are_keys_apart, is_among, is_key, IsIndexed,
 
 -- ---- one key more
 
-later-more : (k : ℕ) (y : Option ℕ) (b : Bool) (place : Option ℕ) (n : ℕ) → later k y (cond b (Some n) place) ≡ cond b (Some (n + 1)) (later k y place)
+later-more : (k : ℕ) (y : Option ℕ) (b : Bool) (place : Option ℕ) (n : ℕ) → later k y (cond b (Some n) place) ≡ cond b (Some (n + 1))
+    (later k y place)
 later-more k y true place n = refl
 later-more k y false place n = refl
 
-pub last-end : (k : ℕ) (xs : List (Option ℕ)) (x : Option ℕ) → last_place k (xs ++ x ∷ []) ≡ cond (is_key k x) (Some (length xs)) (last_place k xs)
+pub last-end : (k : ℕ) (xs : List (Option ℕ)) (x : Option ℕ) → last_place k (xs ++ x ∷ []) ≡ cond (is_key k x) (Some (length xs))
+    (last_place k xs)
 last-end k [] x = refl
 last-end k (y ∷ xs) x =
     ap (later k y) (last-end k xs x) ∙ (later-more k y (is_key k x) (last_place k xs) (length xs)
@@ -25,28 +27,33 @@ module _ {S : Type 0} where
   pub indexed-none : (m : IndexMap ℕ ℕ S) (xs : List (Option ℕ)) → IsIndexed xs (Some m) → IsIndexed (xs ++ None ∷ []) (Some m)
   indexed-none m xs is = λ k. is k ∙ sym (last-end k xs None)
 
-  pub indexed-more : (m n : IndexMap ℕ ℕ S) (xs : List (Option ℕ)) (key : ℕ) → IsIndexed xs (Some m) → Updates nat_eq m n key (Some (length xs)) →
+  pub indexed-more : (m n : IndexMap ℕ ℕ S) (xs : List (Option ℕ)) (key : ℕ) → IsIndexed xs (Some m)
+      → Updates nat_eq m n key (Some (length xs)) →
       IsIndexed (xs ++ Some key ∷ []) (Some n)
-  indexed-more m n xs key is updates = λ k. updates.0 k ∙ (ap (cond (nat_eq key k) (Some (length xs))) (is k) ∙ sym (last-end k xs (Some key)))
+  indexed-more m n xs key is updates = λ k. updates.0 k ∙ (ap (cond (nat_eq key k) (Some (length xs))) (is k)
+      ∙ sym (last-end k xs (Some key)))
 
 -- ---- a walk from the end
 
 pub take-more : (xs : List (Option ℕ)) (i : ℕ) (d : Option ℕ) → i < length xs → take i xs ++ get_or xs i d ∷ [] ≡ take (i + 1) xs
 take-more [] i d e = absurd (omega arith)
 take-more (x ∷ xs) zero d e = refl
-take-more (x ∷ xs) (suc i) d e = let next : suc i + 1 ≡ suc (i + 1) = omega arith in rw next (ap (λ ys. x ∷ ys) (take-more xs i d (omega arith)))
+take-more (x ∷ xs) (suc i) d e = let next : suc i + 1 ≡ suc (i + 1) = omega arith in
+    rw next (ap (λ ys. x ∷ ys) (take-more xs i d (omega arith)))
 
 length-take : (xs : List (Option ℕ)) (i : ℕ) → i < length xs → length (take i xs) ≡ i
 length-take [] i e = absurd (omega arith)
 length-take (x ∷ xs) zero e = refl
 length-take (x ∷ xs) (suc i) e = let ih = length-take xs i (omega arith) in omega (arith, ih)
 
-got-there : (k : ℕ) (xs : List (Option ℕ)) (j : ℕ) (d : Option ℕ) (b : Bool) → j < length xs → option_map (is_key k) (slice_get xs j) ≡ Some b → is_key k (get_or xs j d) ≡ b
+got-there : (k : ℕ) (xs : List (Option ℕ)) (j : ℕ) (d : Option ℕ) (b : Bool) → j < length xs
+    → option_map (is_key k) (slice_get xs j) ≡ Some b → is_key k (get_or xs j d) ≡ b
 got-there k [] j d b e is = absurd (omega arith)
 got-there k (x ∷ xs) zero d b e is = cc
 got-there k (x ∷ xs) (suc j) d b e is = got-there k xs j d b (omega arith) is
 
-pub last-back : (k : ℕ) (xs : List (Option ℕ)) (i j : ℕ) (b : Bool) → j + 1 ≡ i → j < length xs → last_place k xs ≡ last_place k (take i xs) →
+pub last-back : (k : ℕ) (xs : List (Option ℕ)) (i j : ℕ) (b : Bool) → j + 1 ≡ i → j < length xs → last_place k xs ≡ last_place k (take i xs)
+    →
     option_map (is_key k) (slice_get xs j) ≡ Some b → last_place k xs ≡ cond b (Some j) (last_place k (take j xs))
 last-back k xs i j b next e rest is =
     rest ∙ (ap (λ n. last_place k (take n xs)) (sym next)
@@ -107,13 +114,15 @@ among-turned : (x y : Option ℕ) (xs : List (Option ℕ)) → is_among x (y ∷
 among-turned None None xs e = refl
 among-turned None (Some b) xs e = refl
 among-turned (Some a) None xs e = refl
-among-turned (Some a) (Some b) xs e = let own = (or-parts (nat_eq b a) (list_any (is_key a) xs) e).0 in let turned = key-turned a b ∙ own in rw turned refl
+among-turned (Some a) (Some b) xs e = let own = (or-parts (nat_eq b a) (list_any (is_key a) xs) e).0 in let turned = key-turned a b ∙ own in
+    rw turned refl
 
 among-rest : (x y : Option ℕ) (xs : List (Option ℕ)) → is_among x (y ∷ xs) ≡ false → is_among x xs ≡ false
 among-rest None y xs e = refl
 among-rest (Some a) y xs e = (or-parts (is_key a y) (list_any (is_key a) xs) e).1
 
-among-end : (x y : Option ℕ) (xs : List (Option ℕ)) → is_among y xs ≡ false → is_among y (x ∷ []) ≡ false → is_among y (xs ++ x ∷ []) ≡ false
+among-end : (x y : Option ℕ) (xs : List (Option ℕ)) → is_among y xs ≡ false → is_among y (x ∷ []) ≡ false
+    → is_among y (xs ++ x ∷ []) ≡ false
 among-end x None xs e own = refl
 among-end x (Some b) xs e own = any-end (is_key b) xs x ∙ (let o = (or-parts (is_key b x) false own).0 in rw (o, e) refl)
 
@@ -121,7 +130,8 @@ among-remove : (y : Option ℕ) (xs : List (Option ℕ)) (i : ℕ) → is_among 
 among-remove None xs i e = refl
 among-remove (Some b) xs i e = any-remove (is_key b) xs i e
 
-pub keys-apart-end : (x : Option ℕ) (xs : List (Option ℕ)) → is_among x xs ≡ false → are_keys_apart xs ≡ true → are_keys_apart (xs ++ x ∷ []) ≡ true
+pub keys-apart-end : (x : Option ℕ) (xs : List (Option ℕ)) → is_among x xs ≡ false → are_keys_apart xs ≡ true
+    → are_keys_apart (xs ++ x ∷ []) ≡ true
 keys-apart-end None [] new e = refl
 keys-apart-end (Some a) [] new e = refl
 keys-apart-end x (y ∷ xs) new e =

@@ -34,7 +34,8 @@ past [] (suc i) e = refl
 past (x ∷ xs) zero e = absurd (omega arith)
 past (x ∷ xs) (suc i) e = past xs i (omega arith)
 
-at_place : (xs : List Half) (n : ℕ) (b : Bool) → nat_lt n (length xs) ≡ b → option_and_then (slice_get xs) (cond b (Some n) None) ≡ slice_get xs n
+at_place : (xs : List Half) (n : ℕ) (b : Bool) → nat_lt n (length xs) ≡ b → option_and_then (slice_get xs) (cond b (Some n) None) ≡
+    slice_get xs n
 at_place xs n true e = refl
 at_place xs n false e = past xs n (grind (arith, common_steps))
 
@@ -58,7 +59,8 @@ pub none-there : (p : Half → Bool) (xs : List Half) → position p xs ≡ None
 none-there p xs e = any-at p xs ∙ none-by (nat_lt (position_or_len p xs) (length xs)) (position_or_len p xs) e
 
 pub some-within : (p : Half → Bool) (xs : List Half) (i : ℕ) → position p xs ≡ Some i → i < length xs
-some-within p xs i e = let s = some-by (nat_lt (position_or_len p xs) (length xs)) (position_or_len p xs) i e in let t = s.0 in let is = s.1 in grind (arith, common_steps)
+some-within p xs i e = let s = some-by (nat_lt (position_or_len p xs) (length xs)) (position_or_len p xs) i e in let t = s.0 in
+    let is = s.1 in grind (arith, common_steps)
 
 pub some-there : (p : Half → Bool) (xs : List Half) (i : ℕ) → position p xs ≡ Some i → (list_any p xs ≡ true) × (position_or_len p xs ≡ i)
 some-there p xs i e = let s = some-by (nat_lt (position_or_len p xs) (length xs)) (position_or_len p xs) i e in (any-at p xs ∙ s.0, s.1)
@@ -77,7 +79,8 @@ not-true : (b : Bool) → not b ≡ true → b ≡ false
 not-true true e = cc
 not-true false e = refl
 
-without-by : (name : List ℕ) (x : Half) (xs : List Half) (b : Bool) → bytes_eq x.entry.name name ≡ b → b ≡ false → halves_without name xs ≡ xs → halves_without name (x ∷ xs) ≡ x ∷ xs
+without-by : (name : List ℕ) (x : Half) (xs : List Half) (b : Bool) → bytes_eq x.entry.name name ≡ b → b ≡ false
+    → halves_without name xs ≡ xs → halves_without name (x ∷ xs) ≡ x ∷ xs
 without-by name x xs true own away ih = cc
 without-by name x xs false own away ih = rw own (ap (λ ys. x ∷ ys) ih)
 
@@ -95,21 +98,26 @@ names-any name (x ∷ xs) = ap (λ b. bytes_eq x.entry.name name || b) (names-an
 remove-next : (x : Half) (xs : List Half) (k : ℕ) → remove (x ∷ xs) (1 + k) ≡ x ∷ remove xs k
 remove-next x xs k = let next : 1 + k ≡ suc k = omega arith in rw next refl
 
-removed-by : (name : List ℕ) (x : Half) (xs : List Half) (b : Bool) → bytes_eq x.entry.name name ≡ b → list_any (λ y. bytes_eq y x.entry.name) (names_of xs) ≡ false →
-    remove xs (position_or_len (is_half_named name) xs) ≡ halves_without name xs → remove (x ∷ xs) (position_or_len (is_half_named name) (x ∷ xs)) ≡ halves_without name (x ∷ xs)
+removed-by : (name : List ℕ) (x : Half) (xs : List Half) (b : Bool) → bytes_eq x.entry.name name ≡ b
+    → list_any (λ y. bytes_eq y x.entry.name) (names_of xs) ≡ false →
+    remove xs (position_or_len (is_half_named name) xs) ≡ halves_without name xs
+        → remove (x ∷ xs) (position_or_len (is_half_named name) (x ∷ xs)) ≡ halves_without name (x ∷ xs)
 removed-by name x xs true own away ih =
     let same : x.entry.name ≡ name = name-same x.entry.name name own in
     let gone : has_half_named name xs ≡ false = ap (λ n. has_half_named n xs) (sym same) ∙ (sym (names-any x.entry.name xs) ∙ away) in
     rw own (sym (without-absent name xs gone))
 removed-by name x xs false own away ih = rw own (remove-next x xs (position_or_len (is_half_named name) xs) ∙ ap (λ ys. x ∷ ys) ih)
 
-removed-first : (name : List ℕ) (xs : List Half) → are_names_apart (names_of xs) ≡ true → remove xs (position_or_len (is_half_named name) xs) ≡ halves_without name xs
+removed-first : (name : List ℕ) (xs : List Half) → are_names_apart (names_of xs) ≡ true
+    → remove xs (position_or_len (is_half_named name) xs) ≡ halves_without name xs
 removed-first name [] e = refl
 removed-first name (x ∷ xs) e =
     let parts = and-parts (not (list_any (λ y. bytes_eq y x.entry.name) (names_of xs))) (are_names_apart (names_of xs)) e in
-    removed-by name x xs (bytes_eq x.entry.name name) refl (not-true (list_any (λ y. bytes_eq y x.entry.name) (names_of xs)) parts.0) (removed-first name xs parts.1)
+    removed-by name x xs (bytes_eq x.entry.name name) refl (not-true (list_any (λ y. bytes_eq y x.entry.name) (names_of xs)) parts.0)
+        (removed-first name xs parts.1)
 
-pub removed-there : (name : List ℕ) (xs : List Half) (i : ℕ) → are_names_apart (names_of xs) ≡ true → position (is_half_named name) xs ≡ Some i → remove xs i ≡ halves_without name xs
+pub removed-there : (name : List ℕ) (xs : List Half) (i : ℕ) → are_names_apart (names_of xs) ≡ true
+    → position (is_half_named name) xs ≡ Some i → remove xs i ≡ halves_without name xs
 removed-there name xs i apart e = ap (remove xs) (sym (some-there (is_half_named name) xs i e).1) ∙ removed-first name xs apart
 
 -- ---- what is kept
@@ -126,7 +134,8 @@ name-back x y false false p q = refl
 name-sym : (x y : List ℕ) → bytes_eq x y ≡ bytes_eq y x
 name-sym x y = name-back x y (bytes_eq x y) (bytes_eq y x) refl refl
 
-apart-end : (n : List ℕ) (ns : List (List ℕ)) → list_any (λ y. bytes_eq y n) ns ≡ false → are_names_apart ns ≡ true → are_names_apart (ns ++ n ∷ []) ≡ true
+apart-end : (n : List ℕ) (ns : List (List ℕ)) → list_any (λ y. bytes_eq y n) ns ≡ false → are_names_apart ns ≡ true
+    → are_names_apart (ns ++ n ∷ []) ≡ true
 apart-end n [] new e = refl
 apart-end n (m ∷ ns) new e =
     let fresh = or-parts (bytes_eq m n) (list_any (λ y. bytes_eq y n) ns) new in
@@ -143,11 +152,13 @@ names-end : (xs : List Half) (x : Half) → names_of (xs ++ x ∷ []) ≡ names_
 names-end [] x = refl
 names-end (y ∷ xs) x = ap (λ ns. y.entry.name ∷ ns) (names-end xs x)
 
-keys-end : (f : SadEntry → Option ℕ) (xs : List Half) (x : Half) → map f (entries_of (xs ++ x ∷ [])) ≡ map f (entries_of xs) ++ f x.entry ∷ []
+keys-end : (f : SadEntry → Option ℕ) (xs : List Half) (x : Half) → map f (entries_of (xs ++ x ∷ [])) ≡ map f (entries_of xs) ++ f x.entry
+    ∷ []
 keys-end f [] x = refl
 keys-end f (y ∷ xs) x = ap (λ ks. f y.entry ∷ ks) (keys-end f xs x)
 
-pub kept-end : (xs : List Half) (spis reqids : List (Option ℕ)) (now : ℕ) (e : SadEntry) → IsKept xs spis reqids → has_half_named e.name xs ≡ false →
+pub kept-end : (xs : List Half) (spis reqids : List (Option ℕ)) (now : ℕ) (e : SadEntry) → IsKept xs spis reqids
+    → has_half_named e.name xs ≡ false →
     IsKept (xs ++ fresh now e ∷ []) (spis ++ spi_key e ∷ []) (reqids ++ reqid_key e ∷ [])
 kept-end xs spis reqids now e kept new = record {
   apart = ap are_names_apart (names-end xs (fresh now e)) ∙ apart-end e.name (names_of xs) (names-any e.name xs ∙ new) kept.apart;
@@ -159,7 +170,8 @@ names-entries : (xs : List Half) → names_of xs ≡ map (λ e. e.name) (entries
 names-entries [] = refl
 names-entries (x ∷ xs) = ap (λ ns. x.entry.name ∷ ns) (names-entries xs)
 
-pub kept-same : (xs ys : List Half) (spis reqids : List (Option ℕ)) → entries_of ys ≡ entries_of xs → IsKept xs spis reqids → IsKept ys spis reqids
+pub kept-same : (xs ys : List Half) (spis reqids : List (Option ℕ)) → entries_of ys ≡ entries_of xs → IsKept xs spis reqids
+    → IsKept ys spis reqids
 kept-same xs ys spis reqids same kept = record {
   apart = ap are_names_apart (names-entries ys ∙ (ap (map (λ (e : SadEntry). e.name)) same ∙ sym (names-entries xs))) ∙ kept.apart;
   spis = kept.spis ∙ ap (map spi_key) (sym same);
@@ -169,14 +181,16 @@ kept-same xs ys spis reqids same kept = record {
 any-without : (n name : List ℕ) (xs : List Half) → has_half_named n xs ≡ false → has_half_named n (halves_without name xs) ≡ false
 any-without n name [] e = refl
 any-without n name (x ∷ xs) e =
-    let parts = or-parts (bytes_eq x.entry.name n) (has_half_named n xs) e in any-by n name x xs (bytes_eq x.entry.name name) refl parts.0 (any-without n name xs parts.1)
+    let parts = or-parts (bytes_eq x.entry.name n) (has_half_named n xs) e in
+        any-by n name x xs (bytes_eq x.entry.name name) refl parts.0 (any-without n name xs parts.1)
   where
     any-by : (n name : List ℕ) (x : Half) (xs : List Half) (b : Bool) → bytes_eq x.entry.name name ≡ b → bytes_eq x.entry.name n ≡ false →
         has_half_named n (halves_without name xs) ≡ false → has_half_named n (halves_without name (x ∷ xs)) ≡ false
     any-by n name x xs true own away ih = rw own ih
     any-by n name x xs false own away ih = rw (own, away) ih
 
-apart-without : (name : List ℕ) (xs : List Half) → are_names_apart (names_of xs) ≡ true → are_names_apart (names_of (halves_without name xs)) ≡ true
+apart-without : (name : List ℕ) (xs : List Half) → are_names_apart (names_of xs) ≡ true
+    → are_names_apart (names_of (halves_without name xs)) ≡ true
 apart-without name [] e = refl
 apart-without name (x ∷ xs) e =
     let parts = and-parts (not (list_any (λ y. bytes_eq y x.entry.name) (names_of xs))) (are_names_apart (names_of xs)) e in
@@ -184,7 +198,8 @@ apart-without name (x ∷ xs) e =
     let gone = any-without x.entry.name name xs (sym (names-any x.entry.name xs) ∙ away) in
     apart-by (bytes_eq x.entry.name name) refl (names-any x.entry.name (halves_without name xs) ∙ gone) (apart-without name xs parts.1)
   where
-    apart-by : (b : Bool) → bytes_eq x.entry.name name ≡ b → list_any (λ y. bytes_eq y x.entry.name) (names_of (halves_without name xs)) ≡ false →
+    apart-by : (b : Bool) → bytes_eq x.entry.name name ≡ b → list_any (λ y. bytes_eq y x.entry.name) (names_of (halves_without name xs)) ≡
+        false →
         are_names_apart (names_of (halves_without name xs)) ≡ true → are_names_apart (names_of (halves_without name (x ∷ xs))) ≡ true
     apart-by true own away ih = rw own ih
     apart-by false own away ih = rw (own, away) ih
@@ -195,7 +210,8 @@ keys-without f [] (suc i) = refl
 keys-without f (x ∷ xs) zero = refl
 keys-without f (x ∷ xs) (suc i) = ap (λ ks. f x.entry ∷ ks) (keys-without f xs i)
 
-pub kept-without : (name : List ℕ) (xs : List Half) (spis reqids : List (Option ℕ)) (i : ℕ) → IsKept xs spis reqids → remove xs i ≡ halves_without name xs →
+pub kept-without : (name : List ℕ) (xs : List Half) (spis reqids : List (Option ℕ)) (i : ℕ) → IsKept xs spis reqids
+    → remove xs i ≡ halves_without name xs →
     IsKept (halves_without name xs) (remove spis i) (remove reqids i)
 kept-without name xs spis reqids i kept e = record {
   apart = apart-without name xs kept.apart;
@@ -209,10 +225,12 @@ key-is : (k spi : ℕ) (b : Bool) → is_key k (if b then Some spi else None) �
 key-is k spi true = refl
 key-is k spi false = refl
 
-spi-prefix : (spi : ℕ) (xs : List Half) → position_or_len (is_key spi) (map spi_key (entries_of xs)) ≡ position_or_len (is_half_of_spi spi) xs
+spi-prefix : (spi : ℕ) (xs : List Half) → position_or_len (is_key spi) (map spi_key (entries_of xs)) ≡ position_or_len (is_half_of_spi spi)
+    xs
 spi-prefix spi [] = refl
 spi-prefix spi (x ∷ xs) =
-    ap (λ b. cond (not b) (1 + position_or_len (is_key spi) (map spi_key (entries_of xs))) 0) (key-is spi x.entry.spi (is_inbound x.entry.name))
+    ap (λ b. cond (not b) (1 + position_or_len (is_key spi) (map spi_key (entries_of xs))) 0)
+        (key-is spi x.entry.spi (is_inbound x.entry.name))
     ∙ ap (λ n. cond (not (is_half_of_spi spi x)) (1 + n) 0) (spi-prefix spi xs)
 
 keys-length : (f : SadEntry → Option ℕ) (xs : List Half) → length (map f (entries_of xs)) ≡ length xs
@@ -222,7 +240,8 @@ keys-length f (x ∷ xs) = let ih = keys-length f xs in omega (arith, ih)
 spi-place : (spi : ℕ) (xs : List Half) → position (is_key spi) (map spi_key (entries_of xs)) ≡ position (is_half_of_spi spi) xs
 spi-place spi xs =
     ap (λ n. cond (nat_lt n (length (map spi_key (entries_of xs)))) (Some n) None) (spi-prefix spi xs)
-    ∙ ap (λ l. cond (nat_lt (position_or_len (is_half_of_spi spi) xs) l) (Some (position_or_len (is_half_of_spi spi) xs)) None) (keys-length spi_key xs)
+    ∙ ap (λ l. cond (nat_lt (position_or_len (is_half_of_spi spi) xs) l) (Some (position_or_len (is_half_of_spi spi) xs)) None)
+        (keys-length spi_key xs)
 
 spi-any : (spi : ℕ) (xs : List Half) → list_any (is_key spi) (map spi_key (entries_of xs)) ≡ list_any (is_half_of_spi spi) xs
 spi-any spi [] = refl
@@ -235,11 +254,13 @@ pub spi-there : (spi : ℕ) (xs : List Half) (keys : List (Option ℕ)) → keys
     last_place spi keys ≡ position (is_half_of_spi spi) xs
 spi-there spi xs keys is apart = last-first spi keys apart ∙ (ap (position (is_key spi)) is ∙ spi-place spi xs)
 
-pub spi-taken : (spi : ℕ) (xs : List Half) (keys : List (Option ℕ)) → keys ≡ map spi_key (entries_of xs) → is_some (last_place spi keys) ≡ list_any (is_half_of_spi spi) xs
+pub spi-taken : (spi : ℕ) (xs : List Half) (keys : List (Option ℕ)) → keys ≡ map spi_key (entries_of xs)
+    → is_some (last_place spi keys) ≡ list_any (is_half_of_spi spi) xs
 spi-taken spi xs keys is = last-any spi keys ∙ (ap (list_any (is_key spi)) is ∙ spi-any spi xs)
 
 -- an SPI that no inbound half has stands nowhere in the column
-pub spi-new : (e : SadEntry) (xs : List Half) (keys : List (Option ℕ)) → keys ≡ map spi_key (entries_of xs) → is_spi_taken e xs ≡ false → is_among (spi_key e) keys ≡ false
+pub spi-new : (e : SadEntry) (xs : List Half) (keys : List (Option ℕ)) → keys ≡ map spi_key (entries_of xs) → is_spi_taken e xs ≡ false
+    → is_among (spi_key e) keys ≡ false
 spi-new e xs keys is free = by (is_inbound e.name) free
   where
     by : (b : Bool) → (b && list_any (is_half_of_spi e.spi) xs) ≡ false → is_among (if b then Some e.spi else None) keys ≡ false
@@ -253,11 +274,13 @@ seal-by : (r own : ℕ) (b c : Bool) → is_key r (if b then None else Some own)
 seal-by r own true c e = refl
 seal-by r own false c e = rw e refl
 
-pub seal-other : (r : ℕ) (v : Packet) (xs : List Half) (i : ℕ) → i < length xs → option_map (is_key r) (slice_get (map reqid_key (entries_of xs)) i) ≡ Some false →
+pub seal-other : (r : ℕ) (v : Packet) (xs : List Half) (i : ℕ) → i < length xs
+    → option_map (is_key r) (slice_get (map reqid_key (entries_of xs)) i) ≡ Some false →
     option_map (λ x. may_seal r v x.entry) (slice_get xs i) ≡ Some false
 seal-other r v [] i e other = absurd (omega arith)
 seal-other r v (x ∷ xs) zero e other =
-    ap Some (seal-by r x.entry.reqid (is_inbound x.entry.name) (holds_packet x.entry.selector Out v) (some-same (is_key r (reqid_key x.entry)) false other))
+    ap Some (seal-by r x.entry.reqid (is_inbound x.entry.name) (holds_packet x.entry.selector Out v)
+        (some-same (is_key r (reqid_key x.entry)) false other))
   where
     some-same : (a b : Bool) → Some a ≡ Some b → a ≡ b
     some-same a b e = cc
@@ -296,7 +319,8 @@ which-later k x None p e = by (is_key k x) e
     by true e = let q : 0 ≡ p = cc in Front refl (omega (arith, q))
     by false e = cc
 
-within-rest : (r : ℕ) (v : Packet) (x : Half) (xs : List Half) (p i : ℕ) → p ≡ suc i → (i < length xs) × (newest_place r v xs ≡ newest_place r v (take (i + 1) xs)) →
+within-rest : (r : ℕ) (v : Packet) (x : Half) (xs : List Half) (p i : ℕ) → p ≡ suc i → (i < length xs)
+    × (newest_place r v xs ≡ newest_place r v (take (i + 1) xs)) →
     (p < length (x ∷ xs)) × (newest_place r v (x ∷ xs) ≡ newest_place r v (take (p + 1) (x ∷ xs)))
 within-rest r v x xs p i next ih =
     let within = ih.0 in
@@ -310,8 +334,10 @@ within-front r v x xs p front none =
     (omega (arith, front), rw one (ap (later_place r v x) none))
 
 -- no half after the last one with the reqid seals
-newest-by : (r : ℕ) (v : Packet) (x : Half) (xs : List Half) (p : ℕ) → Later r (reqid_key x.entry) (last_place r (map reqid_key (entries_of xs))) p →
-    ((i : ℕ) → last_place r (map reqid_key (entries_of xs)) ≡ Some i → (i < length xs) × (newest_place r v xs ≡ newest_place r v (take (i + 1) xs))) →
+newest-by : (r : ℕ) (v : Packet) (x : Half) (xs : List Half) (p : ℕ)
+    → Later r (reqid_key x.entry) (last_place r (map reqid_key (entries_of xs))) p →
+    ((i : ℕ) → last_place r (map reqid_key (entries_of xs)) ≡ Some i → (i < length xs)
+        × (newest_place r v xs ≡ newest_place r v (take (i + 1) xs))) →
     (p < length (x ∷ xs)) × (newest_place r v (x ∷ xs) ≡ newest_place r v (take (p + 1) (x ∷ xs)))
 newest-by r v x xs p (Rest i rest next) ih = within-rest r v x xs p i next (ih i rest)
 newest-by r v x xs p (Front none front) ih = within-front r v x xs p front (newest-none r v xs none)
@@ -320,7 +346,8 @@ pub newest-within : (r : ℕ) (v : Packet) (xs : List Half) (p : ℕ) → last_p
     (p < length xs) × (newest_place r v xs ≡ newest_place r v (take (p + 1) xs))
 newest-within r v [] p e = cc
 newest-within r v (x ∷ xs) p e =
-    newest-by r v x xs p (which-later r (reqid_key x.entry) (last_place r (map reqid_key (entries_of xs))) p e) (λ i rest. newest-within r v xs i rest)
+    newest-by r v x xs p (which-later r (reqid_key x.entry) (last_place r (map reqid_key (entries_of xs))) p e)
+        (λ i rest. newest-within r v xs i rest)
 
 take-last : (xs : List Half) (i : ℕ) (d : Half) → i < length xs → take (suc i) xs ≡ take i xs ++ get_or xs i d ∷ []
 take-last [] i d e = absurd (omega arith)
@@ -332,7 +359,8 @@ seal-later : (r : ℕ) (v : Packet) (y : Half) (b : Bool) (place : Option ℕ) (
 seal-later r v y true place n = refl
 seal-later r v y false place n = refl
 
-newest-end : (r : ℕ) (v : Packet) (xs : List Half) (x : Half) → newest_place r v (xs ++ x ∷ []) ≡ (if may_seal r v x.entry then Some (length xs) else newest_place r v xs)
+newest-end : (r : ℕ) (v : Packet) (xs : List Half) (x : Half)
+    → newest_place r v (xs ++ x ∷ []) ≡ (if may_seal r v x.entry then Some (length xs) else newest_place r v xs)
 newest-end r v [] x = refl
 newest-end r v (y ∷ xs) x =
     ap (later_place r v y) (newest-end r v xs x) ∙ (seal-later r v y (may_seal r v x.entry) (newest_place r v xs) (length xs)
@@ -343,14 +371,16 @@ length-take [] i e = absurd (omega arith)
 length-take (x ∷ xs) zero e = refl
 length-take (x ∷ xs) (suc i) e = let ih = length-take xs i (omega arith) in omega (arith, ih)
 
-seals-there : (r : ℕ) (v : Packet) (xs : List Half) (i : ℕ) (d : Half) (b : Bool) → i < length xs → option_map (λ x. may_seal r v x.entry) (slice_get xs i) ≡ Some b →
+seals-there : (r : ℕ) (v : Packet) (xs : List Half) (i : ℕ) (d : Half) (b : Bool) → i < length xs
+    → option_map (λ x. may_seal r v x.entry) (slice_get xs i) ≡ Some b →
     may_seal r v (get_or xs i d).entry ≡ b
 seals-there r v [] i d b e is = absurd (omega arith)
 seals-there r v (x ∷ xs) zero d b e is = cc
 seals-there r v (x ∷ xs) (suc i) d b e is = seals-there r v xs i d b (omega arith) is
 
 -- the newest place among the first halves, one more of which is looked at
-newest-more : (r : ℕ) (v : Packet) (xs : List Half) (i : ℕ) (d : Half) (b : Bool) → i < length xs → option_map (λ x. may_seal r v x.entry) (slice_get xs i) ≡ Some b →
+newest-more : (r : ℕ) (v : Packet) (xs : List Half) (i : ℕ) (d : Half) (b : Bool) → i < length xs
+    → option_map (λ x. may_seal r v x.entry) (slice_get xs i) ≡ Some b →
     newest_place r v (take (i + 1) xs) ≡ (if b then Some i else newest_place r v (take i xs))
 newest-more r v xs i d b e is =
     let next : i + 1 ≡ suc i = omega arith in
@@ -364,8 +394,10 @@ first-of : (xs : List Half) (i : ℕ) → i < length xs → Half
 first-of [] i e = absurd (omega arith)
 first-of (x ∷ xs) i e = x
 
-pub newest-back : (r : ℕ) (v : Packet) (xs : List Half) (i j : ℕ) (b : Bool) → j + 1 ≡ i → j < length xs → newest_place r v xs ≡ newest_place r v (take i xs) →
-    option_map (λ x. may_seal r v x.entry) (slice_get xs j) ≡ Some b → newest_place r v xs ≡ (if b then Some j else newest_place r v (take j xs))
+pub newest-back : (r : ℕ) (v : Packet) (xs : List Half) (i j : ℕ) (b : Bool) → j + 1 ≡ i → j < length xs
+    → newest_place r v xs ≡ newest_place r v (take i xs) →
+    option_map (λ x. may_seal r v x.entry) (slice_get xs j) ≡ Some b
+        → newest_place r v xs ≡ (if b then Some j else newest_place r v (take j xs))
 newest-back r v xs i j b next e rest is =
     rest ∙ (ap (λ n. newest_place r v (take n xs)) (sym next) ∙ newest-more r v xs j (first-of xs j e) b e is)
 

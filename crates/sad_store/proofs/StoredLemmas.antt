@@ -11,7 +11,8 @@ use Rattle.sad_store.specs.Stored.{IsStored}
 use Rattle.sad_store.proofs.ColumnLemmas.{keys-apart-end, keys-apart-remove}
 use Rattle.sad_store.proofs.PlaceLemmas.{kept-end, kept-same, kept-without, spi-new}
 
-pub stored-new : (s r : KeyColumn) → s.keys.items ≡ [] → r.keys.items ≡ [] → IsIndexed s.keys.items s.places → IsIndexed r.keys.items r.places → IsStored [] s r
+pub stored-new : (s r : KeyColumn) → s.keys.items ≡ [] → r.keys.items ≡ [] → IsIndexed s.keys.items s.places
+    → IsIndexed r.keys.items r.places → IsStored [] s r
 stored-new s r e f by_spi by_reqid = record {
   kept = record { apart = refl; spis = e; reqids = f };
   apart = ap are_keys_apart e;
@@ -20,7 +21,8 @@ stored-new s r e f by_spi by_reqid = record {
 }
 
 -- other columns of the same keys
-pub stored-moved : (xs : List Half) (s r s' r' : KeyColumn) → s'.keys.items ≡ s.keys.items → s'.places ≡ s.places → r'.keys.items ≡ r.keys.items → r'.places ≡ r.places →
+pub stored-moved : (xs : List Half) (s r s' r' : KeyColumn) → s'.keys.items ≡ s.keys.items → s'.places ≡ s.places
+    → r'.keys.items ≡ r.keys.items → r'.places ≡ r.places →
     IsStored xs s r → IsStored xs s' r'
 stored-moved xs s r s' r' e p f q is = record {
   kept = subst (λ ks. IsKept xs ks r'.keys.items) (sym e) (subst (λ ks. IsKept xs s.keys.items ks) (sym f) is.kept);
@@ -37,23 +39,29 @@ stored-same xs ys s r same is = record {
   by_reqid = is.by_reqid;
 }
 
-pub stored-end : (xs : List Half) (s r s' r' : KeyColumn) (now : ℕ) (e : SadEntry) → IsStored xs s r → has_half_named e.name xs ≡ false → is_spi_taken e xs ≡ false →
-    s'.keys.items ≡ s.keys.items ++ spi_key e ∷ [] → r'.keys.items ≡ r.keys.items ++ reqid_key e ∷ [] → IsIndexed s'.keys.items s'.places → IsIndexed r'.keys.items r'.places →
+pub stored-end : (xs : List Half) (s r s' r' : KeyColumn) (now : ℕ) (e : SadEntry) → IsStored xs s r → has_half_named e.name xs ≡ false
+    → is_spi_taken e xs ≡ false →
+    s'.keys.items ≡ s.keys.items ++ spi_key e ∷ [] → r'.keys.items ≡ r.keys.items ++ reqid_key e ∷ [] → IsIndexed s'.keys.items s'.places
+        → IsIndexed r'.keys.items r'.places →
     IsStored (xs ++ fresh now e ∷ []) s' r'
 stored-end xs s r s' r' now e is new alone es er by_spi by_reqid = record {
   kept = subst (λ ks. IsKept (xs ++ fresh now e ∷ []) ks r'.keys.items) (sym es)
-      (subst (λ ks. IsKept (xs ++ fresh now e ∷ []) (s.keys.items ++ spi_key e ∷ []) ks) (sym er) (kept-end xs s.keys.items r.keys.items now e is.kept new));
+      (subst (λ ks. IsKept (xs ++ fresh now e ∷ []) (s.keys.items ++ spi_key e ∷ []) ks) (sym er)
+          (kept-end xs s.keys.items r.keys.items now e is.kept new));
   apart = ap are_keys_apart es ∙ keys-apart-end (spi_key e) s.keys.items (spi-new e xs s.keys.items is.kept.spis alone) is.apart;
   by_spi = by_spi;
   by_reqid = by_reqid;
 }
 
-pub stored-without : (name : List ℕ) (xs : List Half) (s r s' r' : KeyColumn) (i : ℕ) → IsStored xs s r → remove xs i ≡ halves_without name xs →
-    s'.keys.items ≡ remove s.keys.items i → r'.keys.items ≡ remove r.keys.items i → IsIndexed s'.keys.items s'.places → IsIndexed r'.keys.items r'.places →
+pub stored-without : (name : List ℕ) (xs : List Half) (s r s' r' : KeyColumn) (i : ℕ) → IsStored xs s r
+    → remove xs i ≡ halves_without name xs →
+    s'.keys.items ≡ remove s.keys.items i → r'.keys.items ≡ remove r.keys.items i → IsIndexed s'.keys.items s'.places
+        → IsIndexed r'.keys.items r'.places →
     IsStored (halves_without name xs) s' r'
 stored-without name xs s r s' r' i is e es er by_spi by_reqid = record {
   kept = subst (λ ks. IsKept (halves_without name xs) ks r'.keys.items) (sym es)
-      (subst (λ ks. IsKept (halves_without name xs) (remove s.keys.items i) ks) (sym er) (kept-without name xs s.keys.items r.keys.items i is.kept e));
+      (subst (λ ks. IsKept (halves_without name xs) (remove s.keys.items i) ks) (sym er)
+          (kept-without name xs s.keys.items r.keys.items i is.kept e));
   apart = ap are_keys_apart es ∙ keys-apart-remove s.keys.items i is.apart;
   by_spi = by_spi;
   by_reqid = by_reqid;

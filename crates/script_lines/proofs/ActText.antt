@@ -86,63 +86,79 @@ packet_read : ReadsDigits → (gateways : List Peer) (g octets : List ℕ) → i
 unfolding packet_in
 packet_read digits gateways g octets named are = rw (named, hex_read digits octets are) refl
 
-packet_words : (what g octets : List ℕ) → list_all is_graph what ≡ true → is_gateway g ≡ true → AreOctets octets → AreWords (what ∷ g ∷ hex_text octets ∷ [])
+packet_words : (what g octets : List ℕ) → list_all is_graph what ≡ true → is_gateway g ≡ true → AreOctets octets
+    → AreWords (what ∷ g ∷ hex_text octets ∷ [])
 unfolding AreWords
 packet_words what g octets word spelled are = (word, (name_word g spelled, (hex_word octets are, tt)))
 
-let_line : ReadsDigits → (gateways : List Peer) (g octets : List ℕ) → is_gateway g ≡ true → is_gateway_of gateways g ≡ true → AreOctets octets
+let_line : ReadsDigits → (gateways : List Peer) (g octets : List ℕ) → is_gateway g ≡ true → is_gateway_of gateways g ≡ true
+    → AreOctets octets
     → act_of gateways (act_text (acts.Let g octets)) ≡ Ok (acts.Let g octets)
 unfolding act_in packet_act_in
 let_line digits gateways g octets spelled named are =
-    act_line gateways (acts.Let g octets) (codes "let") (g ∷ hex_text octets ∷ []) refl (packet_words (codes "let") g octets refl spelled are)
+    act_line gateways (acts.Let g octets) (codes "let") (g ∷ hex_text octets ∷ []) refl
+        (packet_words (codes "let") g octets refl spelled are)
     (rw (packet_read digits gateways g octets named are) refl)
 
-clear_line : ReadsDigits → (gateways : List Peer) (g octets : List ℕ) → is_gateway g ≡ true → is_gateway_of gateways g ≡ true → AreOctets octets
+clear_line : ReadsDigits → (gateways : List Peer) (g octets : List ℕ) → is_gateway g ≡ true → is_gateway_of gateways g ≡ true
+    → AreOctets octets
     → act_of gateways (act_text (acts.Clear g octets)) ≡ Ok (acts.Clear g octets)
 unfolding act_in packet_act_in
 clear_line digits gateways g octets spelled named are =
-    act_line gateways (acts.Clear g octets) (codes "clear") (g ∷ hex_text octets ∷ []) refl (packet_words (codes "clear") g octets refl spelled are)
+    act_line gateways (acts.Clear g octets) (codes "clear") (g ∷ hex_text octets ∷ []) refl
+        (packet_words (codes "clear") g octets refl spelled are)
     (rw (packet_read digits gateways g octets named are) refl)
 
-arrived_line : ReadsDigits → (gateways : List Peer) (g octets : List ℕ) → is_gateway g ≡ true → is_gateway_of gateways g ≡ true → AreOctets octets
+arrived_line : ReadsDigits → (gateways : List Peer) (g octets : List ℕ) → is_gateway g ≡ true → is_gateway_of gateways g ≡ true
+    → AreOctets octets
     → act_of gateways (act_text (acts.Arrived g octets)) ≡ Ok (acts.Arrived g octets)
 unfolding act_in packet_act_in
 arrived_line digits gateways g octets spelled named are =
-    act_line gateways (acts.Arrived g octets) (codes "arrived") (g ∷ hex_text octets ∷ []) refl (packet_words (codes "arrived") g octets refl spelled are)
+    act_line gateways (acts.Arrived g octets) (codes "arrived") (g ∷ hex_text octets ∷ []) refl
+        (packet_words (codes "arrived") g octets refl spelled are)
     (rw (packet_read digits gateways g octets named are) refl)
 
-pass_line : ReadsDigits → (gateways : List Peer) (g octets : List ℕ) → is_gateway g ≡ true → is_gateway_of gateways g ≡ true → AreOctets octets
+pass_line : ReadsDigits → (gateways : List Peer) (g octets : List ℕ) → is_gateway g ≡ true → is_gateway_of gateways g ≡ true
+    → AreOctets octets
     → act_of gateways (act_text (acts.Pass g octets)) ≡ Ok (acts.Pass g octets)
 unfolding act_in packet_act_in
 pass_line digits gateways g octets spelled named are =
-    act_line gateways (acts.Pass g octets) (codes "pass") (g ∷ hex_text octets ∷ []) refl (packet_words (codes "pass") g octets refl spelled are)
+    act_line gateways (acts.Pass g octets) (codes "pass") (g ∷ hex_text octets ∷ []) refl (packet_words (codes "pass") g octets refl spelled
+        are)
     (rw (packet_read digits gateways g octets named are) refl)
 
-sealed_read : ReadsDigits → (gateways : List Peer) (g name : List ℕ) (k : ℕ) (octets : List ℕ) → is_gateway_of gateways g ≡ true → is_sad_name name ≡ true → k < 2 ^ 64 → AreOctets octets
-    → sealed_in gateways (g ∷ name ∷ decimal k ∷ hex_text octets ∷ []) ≡ Ok (record { gateway = g; half = name; number = k; octets = octets })
+sealed_read : ReadsDigits → (gateways : List Peer) (g name : List ℕ) (k : ℕ) (octets : List ℕ) → is_gateway_of gateways g ≡ true
+    → is_sad_name name ≡ true → k < 2 ^ 64 → AreOctets octets
+    → sealed_in gateways (g ∷ name ∷ decimal k ∷ hex_text octets ∷ []) ≡ Ok (record { gateway = g; half = name; number = k; octets =
+        octets })
 unfolding sealed_in sealed_of
 sealed_read digits gateways g name k octets named half small are =
     rw (named, half, number_again faults.Number k (2 ^ 64 - 1) small (omega arith), hex_read digits octets are) refl
 
-sealed_words : (what g name : List ℕ) (k : ℕ) (octets : List ℕ) → list_all is_graph what ≡ true → is_gateway g ≡ true → is_sad_name name ≡ true → k < 2 ^ 64 → AreOctets octets
+sealed_words : (what g name : List ℕ) (k : ℕ) (octets : List ℕ) → list_all is_graph what ≡ true → is_gateway g ≡ true
+    → is_sad_name name ≡ true → k < 2 ^ 64 → AreOctets octets
     → AreWords (what ∷ g ∷ name ∷ decimal k ∷ hex_text octets ∷ [])
 unfolding AreWords
 sealed_words what g name k octets word spelled half small are =
     (word, (name_word g spelled, (half_name_word name half, (number_word k small, (hex_word octets are, tt)))))
 
-sent_line : ReadsDigits → (gateways : List Peer) (g name : List ℕ) (k : ℕ) (octets : List ℕ) → is_gateway g ≡ true → is_gateway_of gateways g ≡ true → is_sad_name name ≡ true
+sent_line : ReadsDigits → (gateways : List Peer) (g name : List ℕ) (k : ℕ) (octets : List ℕ) → is_gateway g ≡ true
+    → is_gateway_of gateways g ≡ true → is_sad_name name ≡ true
     → k < 2 ^ 64 → AreOctets octets → act_of gateways (act_text (acts.Sent g name k octets)) ≡ Ok (acts.Sent g name k octets)
 unfolding act_in
 sent_line digits gateways g name k octets spelled named half small are =
     act_line gateways (acts.Sent g name k octets) (codes "sent") (g ∷ name ∷ decimal k ∷ hex_text octets ∷ []) refl
-    (sealed_words (codes "sent") g name k octets refl spelled half small are) (rw (sealed_read digits gateways g name k octets named half small are) refl)
+    (sealed_words (codes "sent") g name k octets refl spelled half small are)
+        (rw (sealed_read digits gateways g name k octets named half small are) refl)
 
-gave_line : ReadsDigits → (gateways : List Peer) (g name : List ℕ) (k : ℕ) (octets : List ℕ) → is_gateway g ≡ true → is_gateway_of gateways g ≡ true → is_sad_name name ≡ true
+gave_line : ReadsDigits → (gateways : List Peer) (g name : List ℕ) (k : ℕ) (octets : List ℕ) → is_gateway g ≡ true
+    → is_gateway_of gateways g ≡ true → is_sad_name name ≡ true
     → k < 2 ^ 64 → AreOctets octets → act_of gateways (act_text (acts.Gave g name k octets)) ≡ Ok (acts.Gave g name k octets)
 unfolding act_in
 gave_line digits gateways g name k octets spelled named half small are =
     act_line gateways (acts.Gave g name k octets) (codes "gave") (g ∷ name ∷ decimal k ∷ hex_text octets ∷ []) refl
-    (sealed_words (codes "gave") g name k octets refl spelled half small are) (rw (sealed_read digits gateways g name k octets named half small are) refl)
+    (sealed_words (codes "gave") g name k octets refl spelled half small are)
+        (rw (sealed_read digits gateways g name k octets named half small are) refl)
 
 drop_line : (gateways : List Peer) (g : List ℕ) (w : DropWhy) → is_gateway g ≡ true → is_gateway_of gateways g ≡ true
     → act_of gateways (act_text (acts.Drop g w)) ≡ Ok (acts.Drop g w)
@@ -165,12 +181,14 @@ now_line gateways t small =
     act_line gateways (acts.Now t) (codes "now") (decimal t ∷ []) refl (refl, (number_word t (omega arith), tt))
     (rw (number_again faults.Number t (2 ^ 32 - 1) (omega arith) (omega arith)) refl)
 
-boot_line : (gateways : List Peer) (g : List ℕ) → is_gateway g ≡ true → is_gateway_of gateways g ≡ true → act_of gateways (act_text (acts.Boot g)) ≡ Ok (acts.Boot g)
+boot_line : (gateways : List Peer) (g : List ℕ) → is_gateway g ≡ true → is_gateway_of gateways g ≡ true
+    → act_of gateways (act_text (acts.Boot g)) ≡ Ok (acts.Boot g)
 unfolding act_in gateway_in AreWords
 boot_line gateways g spelled named =
     act_line gateways (acts.Boot g) (codes "boot") (g ∷ []) refl (refl, (name_word g spelled, tt)) (rw named refl)
 
-force_read : (gateways : List Peer) (g : List ℕ) (list : List SpdEntry) → is_gateway_of gateways g ≡ true → IsListed list → All IsTypedPolicy list
+force_read : (gateways : List Peer) (g : List ℕ) (list : List SpdEntry) → is_gateway_of gateways g ≡ true → IsListed list
+    → All IsTypedPolicy list
     → force_in gateways (g ∷ map entry_text list) ≡ Ok (acts.Policy g list)
 unfolding force_in
 force_read gateways g list named is are =
@@ -179,14 +197,16 @@ force_read gateways g list named is are =
     let fits = is.fits in
     rw (few, named, read, fits) refl
 
-policy_line : (gateways : List Peer) (g : List ℕ) (list : List SpdEntry) → is_gateway g ≡ true → is_gateway_of gateways g ≡ true → IsListed list → All IsTypedPolicy list
+policy_line : (gateways : List Peer) (g : List ℕ) (list : List SpdEntry) → is_gateway g ≡ true → is_gateway_of gateways g ≡ true
+    → IsListed list → All IsTypedPolicy list
     → act_of gateways (act_text (acts.Policy g list)) ≡ Ok (acts.Policy g list)
 unfolding act_in packet_act_in base_act_in AreWords
 policy_line gateways g list spelled named is are =
     act_line gateways (acts.Policy g list) (codes "policy") (g ∷ map entry_text list) refl
     (refl, (name_word g spelled, list_words list is are)) (force_read gateways g list named is are)
 
-gone_line : (gateways : List Peer) (g name : List ℕ) (w : GoneWhy) → is_gateway g ≡ true → is_gateway_of gateways g ≡ true → is_sad_name name ≡ true
+gone_line : (gateways : List Peer) (g name : List ℕ) (w : GoneWhy) → is_gateway g ≡ true → is_gateway_of gateways g ≡ true
+    → is_sad_name name ≡ true
     → act_of gateways (act_text (acts.Gone g name w)) ≡ Ok (acts.Gone g name w)
 unfolding act_in packet_act_in base_act_in gone_in gone_at AreWords
 gone_line gateways g name w spelled named half =
@@ -202,17 +222,20 @@ opened_line : (gateways : List Peer) (g : List ℕ) (s : ℕ) → is_gateway g �
     → act_of gateways (act_text (acts.Opened g s)) ≡ Ok (acts.Opened g s)
 unfolding act_in packet_act_in base_act_in AreWords
 opened_line gateways g s spelled named small =
-    act_line gateways (acts.Opened g s) (codes "opened") (g ∷ decimal s ∷ []) refl (refl, (name_word g spelled, (number_word s (omega arith), tt)))
+    act_line gateways (acts.Opened g s) (codes "opened") (g ∷ decimal s ∷ []) refl
+        (refl, (name_word g spelled, (number_word s (omega arith), tt)))
     (rw (opening_read gateways g s named small) refl)
 
 cut_line : (gateways : List Peer) (g : List ℕ) (s : ℕ) → is_gateway g ≡ true → is_gateway_of gateways g ≡ true → s < 2 ^ 32
     → act_of gateways (act_text (acts.Cut g s)) ≡ Ok (acts.Cut g s)
 unfolding act_in packet_act_in base_act_in AreWords
 cut_line gateways g s spelled named small =
-    act_line gateways (acts.Cut g s) (codes "cut") (g ∷ decimal s ∷ []) refl (refl, (name_word g spelled, (number_word s (omega arith), tt)))
+    act_line gateways (acts.Cut g s) (codes "cut") (g ∷ decimal s ∷ []) refl
+        (refl, (name_word g spelled, (number_word s (omega arith), tt)))
     (rw (opening_read gateways g s named small) refl)
 
-wire_line : ReadsDigits → (gateways : List Peer) (g : List ℕ) (l : Lane) (octets : List ℕ) → is_gateway g ≡ true → is_gateway_of gateways g ≡ true
+wire_line : ReadsDigits → (gateways : List Peer) (g : List ℕ) (l : Lane) (octets : List ℕ) → is_gateway g ≡ true
+    → is_gateway_of gateways g ≡ true
     → nat_le (length octets) 4096 ≡ true → AreOctets octets → act_of gateways (act_text (acts.Wire g l octets)) ≡ Ok (acts.Wire g l octets)
 unfolding act_in packet_act_in base_act_in under_way_in under_way_at AreWords
 wire_line digits gateways g l octets spelled named few are =
@@ -229,22 +252,33 @@ pub act_again : ReadsDigits → (gateways : List Peer) (a : Act) → are_spelled
 act_again digits gateways (acts.Took k) all under is = took_line gateways k is
 act_again digits gateways (acts.Now t) all under is = now_line gateways t is
 act_again digits gateways (acts.Boot g) all under is = boot_line gateways g (named_spelled gateways g all under) under
-act_again digits gateways (acts.Policy g list) all under is = policy_line gateways g list (named_spelled gateways g all under.0) under.0 under.1 is
-act_again digits gateways (acts.Put g e) all under is = put_line digits gateways g e (named_spelled gateways g all under.0) under.0 under.1 is
-act_again digits gateways (acts.Gone g name w) all under is = gone_line gateways g name w (named_spelled gateways g all under.0) under.0 under.1
+act_again digits gateways (acts.Policy g list) all under is = policy_line gateways g list (named_spelled gateways g all under.0) under.0
+    under.1 is
+act_again digits gateways (acts.Put g e) all under is = put_line digits gateways g e (named_spelled gateways g all under.0) under.0 under.1
+    is
+act_again digits gateways (acts.Gone g name w) all under is = gone_line gateways g name w (named_spelled gateways g all under.0) under.0
+    under.1
 act_again digits gateways (acts.Let g o) all under is = let_line digits gateways g o (named_spelled gateways g all under) under is
-act_again digits gateways (acts.Sent g name k o) all under is = sent_line digits gateways g name k o (named_spelled gateways g all under.0) under.0 under.1 is.0 is.1
+act_again digits gateways (acts.Sent g name k o) all under is = sent_line digits gateways g name k o (named_spelled gateways g all under.0)
+    under.0 under.1 is.0 is.1
 act_again digits gateways (acts.Clear g o) all under is = clear_line digits gateways g o (named_spelled gateways g all under) under is
 act_again digits gateways (acts.Drop g w) all under is = drop_line gateways g w (named_spelled gateways g all under) under
 act_again digits gateways (acts.Arrived g o) all under is = arrived_line digits gateways g o (named_spelled gateways g all under) under is
-act_again digits gateways (acts.Gave g name k o) all under is = gave_line digits gateways g name k o (named_spelled gateways g all under.0) under.0 under.1 is.0 is.1
+act_again digits gateways (acts.Gave g name k o) all under is = gave_line digits gateways g name k o (named_spelled gateways g all under.0)
+    under.0 under.1 is.0 is.1
 act_again digits gateways (acts.Pass g o) all under is = pass_line digits gateways g o (named_spelled gateways g all under) under is
 act_again digits gateways (acts.Opened g s) all under is = opened_line gateways g s (named_spelled gateways g all under) under is
 act_again digits gateways (acts.Cut g s) all under is = cut_line gateways g s (named_spelled gateways g all under) under is
-act_again digits gateways (acts.Order g s n o) all under is = order_line digits gateways g s n o (named_spelled gateways g all under.0) under.0 under.1 is.0 is.1 is.2
-act_again digits gateways (acts.Handled g s n a) all under is = handled_line digits gateways g s n a (named_spelled gateways g all under.0) under.0 under.1 is.0 is.1 is.2
-act_again digits gateways (acts.Answered g s n a) all under is = answered_line digits gateways g s n a (named_spelled gateways g all under.0) under.0 under.1 is.0 is.1 is.2
-act_again digits gateways (acts.Notice g s n) all under is = notice_line digits gateways g s n (named_spelled gateways g all under.0) under.0 under.1 is.0 is.1
-act_again digits gateways (acts.Heard g s n) all under is = heard_line digits gateways g s n (named_spelled gateways g all under.0) under.0 under.1 is.0 is.1
-act_again digits gateways (acts.Wire g l o) all under is = wire_line digits gateways g l o (named_spelled gateways g all under.0) under.0 under.1 is
+act_again digits gateways (acts.Order g s n o) all under is = order_line digits gateways g s n o (named_spelled gateways g all under.0)
+    under.0 under.1 is.0 is.1 is.2
+act_again digits gateways (acts.Handled g s n a) all under is = handled_line digits gateways g s n a (named_spelled gateways g all under.0)
+    under.0 under.1 is.0 is.1 is.2
+act_again digits gateways (acts.Answered g s n a) all under is =
+    answered_line digits gateways g s n a (named_spelled gateways g all under.0) under.0 under.1 is.0 is.1 is.2
+act_again digits gateways (acts.Notice g s n) all under is = notice_line digits gateways g s n (named_spelled gateways g all under.0)
+    under.0 under.1 is.0 is.1
+act_again digits gateways (acts.Heard g s n) all under is = heard_line digits gateways g s n (named_spelled gateways g all under.0) under.0
+    under.1 is.0 is.1
+act_again digits gateways (acts.Wire g l o) all under is = wire_line digits gateways g l o (named_spelled gateways g all under.0) under.0
+    under.1 is
 act_again digits gateways (acts.Refused w) all under is = refused_line gateways w

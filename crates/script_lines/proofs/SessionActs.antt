@@ -47,7 +47,8 @@ use Rattle.ikeless_tree.specs.Typed.{IsTypedHalf, IsTypedNotice, IsTypedOrder, I
 
 -- ---- halves
 
-pub put_line : ReadsDigits → (gateways : List Peer) (g : List ℕ) (e : SadEntry) → is_gateway g ≡ true → is_gateway_of gateways g ≡ true → IsInstallable e → IsTypedHalf e
+pub put_line : ReadsDigits → (gateways : List Peer) (g : List ℕ) (e : SadEntry) → is_gateway g ≡ true → is_gateway_of gateways g ≡ true
+    → IsInstallable e → IsTypedHalf e
     → act_of gateways (act_text (acts.Put g e)) ≡ Ok (acts.Put g e)
 unfolding act_in packet_act_in base_act_in install_in put_at AreWords
 put_line digits gateways g e spelled named fits is =
@@ -98,15 +99,18 @@ place_read : (gateways : List Peer) (g : List ℕ) (s n : ℕ) → is_gateway_of
     → place_of gateways g (decimal s) (decimal n) ≡ Ok (record { gateway = g; session = s; request = n })
 unfolding place_of
 place_read gateways g s n named small request =
-    rw (named, number_again faults.Number s (2 ^ 32 - 1) (omega arith) (omega arith), number_again faults.Number n (2 ^ 64 - 1) request (omega arith)) refl
+    rw (named, number_again faults.Number s (2 ^ 32 - 1) (omega arith) (omega arith), number_again faults.Number n (2 ^ 64 - 1) request
+        (omega arith)) refl
 
-order_in_read : ReadsDigits → (gateways : List Peer) (g : List ℕ) (s n : ℕ) (o : Order) → is_gateway_of gateways g ≡ true → IsOrderSpelled o → s < 2 ^ 32 → n < 2 ^ 64 → IsTypedOrder o
+order_in_read : ReadsDigits → (gateways : List Peer) (g : List ℕ) (s n : ℕ) (o : Order) → is_gateway_of gateways g ≡ true → IsOrderSpelled o
+    → s < 2 ^ 32 → n < 2 ^ 64 → IsTypedOrder o
     → order_in gateways (g ∷ decimal s ∷ decimal n ∷ order_first o ∷ order_more o) ≡ Ok (acts.Order g s n o)
 unfolding order_in order_at
 order_in_read digits gateways g s n o named written small request is =
     rw (place_read gateways g s n named small request, order_read digits o written is) refl
 
-pub order_line : ReadsDigits → (gateways : List Peer) (g : List ℕ) (s n : ℕ) (o : Order) → is_gateway g ≡ true → is_gateway_of gateways g ≡ true → IsOrderSpelled o
+pub order_line : ReadsDigits → (gateways : List Peer) (g : List ℕ) (s n : ℕ) (o : Order) → is_gateway g ≡ true
+    → is_gateway_of gateways g ≡ true → IsOrderSpelled o
     → s < 2 ^ 32 → n < 2 ^ 64 → IsTypedOrder o → act_of gateways (act_text (acts.Order g s n o)) ≡ Ok (acts.Order g s n o)
 unfolding act_in packet_act_in base_act_in session_act_in AreWords
 order_line digits gateways g s n o spelled named written small request is =
@@ -175,8 +179,10 @@ names_graph (n ∷ ns) all =
     ∙ and_from _ _ (half_name_word n all.0)
     (all_behind is_graph 44 refl ns (each_holds IsHalfName (λ t. list_all is_graph t ≡ true) (λ t is. half_name_word t is) ns all.1))
 
-replied_read : (gateways : List Peer) (g : List ℕ) (s n : ℕ) (a : Answer) → is_gateway_of gateways g ≡ true → AreHalfNames a.names → s < 2 ^ 32 → n < 2 ^ 64 → a.status < 65536
-    → replied_in gateways (g ∷ decimal s ∷ decimal n ∷ answer_words a) ≡ Ok (record { place = record { gateway = g; session = s; request = n }; answer = a })
+replied_read : (gateways : List Peer) (g : List ℕ) (s n : ℕ) (a : Answer) → is_gateway_of gateways g ≡ true → AreHalfNames a.names
+    → s < 2 ^ 32 → n < 2 ^ 64 → a.status < 65536
+    → replied_in gateways (g ∷ decimal s ∷ decimal n ∷ answer_words a) ≡ Ok
+        (record { place = record { gateway = g; session = s; request = n }; answer = a })
 unfolding replied_in replied_of answer_of
 replied_read gateways g s n a named halves small request status =
     rw (
@@ -186,7 +192,8 @@ replied_read gateways g s n a named halves small request status =
       names_read a.names (recursion_from_All IsHalfName a.names halves),
     ) refl
 
-replied_words : (what g : List ℕ) (s n : ℕ) (a : Answer) → list_all is_graph what ≡ true → is_gateway g ≡ true → AreHalfNames a.names → s < 2 ^ 32 → n < 2 ^ 64 → a.status < 65536
+replied_words : (what g : List ℕ) (s n : ℕ) (a : Answer) → list_all is_graph what ≡ true → is_gateway g ≡ true → AreHalfNames a.names
+    → s < 2 ^ 32 → n < 2 ^ 64 → a.status < 65536
     → AreWords (what ∷ g ∷ decimal s ∷ decimal n ∷ answer_words a)
 unfolding AreWords
 replied_words what g s n a word spelled halves small request status = (
@@ -209,19 +216,23 @@ replied_words what g s n a word spelled halves small request status = (
   ),
 )
 
-pub handled_line : ReadsDigits → (gateways : List Peer) (g : List ℕ) (s n : ℕ) (a : Answer) → is_gateway g ≡ true → is_gateway_of gateways g ≡ true → AreHalfNames a.names
+pub handled_line : ReadsDigits → (gateways : List Peer) (g : List ℕ) (s n : ℕ) (a : Answer) → is_gateway g ≡ true
+    → is_gateway_of gateways g ≡ true → AreHalfNames a.names
     → s < 2 ^ 32 → n < 2 ^ 64 → a.status < 65536 → act_of gateways (act_text (acts.Handled g s n a)) ≡ Ok (acts.Handled g s n a)
 unfolding act_in packet_act_in base_act_in session_act_in
 handled_line digits gateways g s n a spelled named halves small request status =
     act_line gateways (acts.Handled g s n a) (codes "handled") (g ∷ decimal s ∷ decimal n ∷ answer_words a) refl
-    (replied_words (codes "handled") g s n a refl spelled halves small request status) (rw (replied_read gateways g s n a named halves small request status) refl)
+    (replied_words (codes "handled") g s n a refl spelled halves small request status)
+        (rw (replied_read gateways g s n a named halves small request status) refl)
 
-pub answered_line : ReadsDigits → (gateways : List Peer) (g : List ℕ) (s n : ℕ) (a : Answer) → is_gateway g ≡ true → is_gateway_of gateways g ≡ true → AreHalfNames a.names
+pub answered_line : ReadsDigits → (gateways : List Peer) (g : List ℕ) (s n : ℕ) (a : Answer) → is_gateway g ≡ true
+    → is_gateway_of gateways g ≡ true → AreHalfNames a.names
     → s < 2 ^ 32 → n < 2 ^ 64 → a.status < 65536 → act_of gateways (act_text (acts.Answered g s n a)) ≡ Ok (acts.Answered g s n a)
 unfolding act_in packet_act_in base_act_in session_act_in
 answered_line digits gateways g s n a spelled named halves small request status =
     act_line gateways (acts.Answered g s n a) (codes "answered") (g ∷ decimal s ∷ decimal n ∷ answer_words a) refl
-    (replied_words (codes "answered") g s n a refl spelled halves small request status) (rw (replied_read gateways g s n a named halves small request status) refl)
+    (replied_words (codes "answered") g s n a refl spelled halves small request status)
+        (rw (replied_read gateways g s n a named halves small request status) refl)
 
 -- ---- notices
 
@@ -246,9 +257,11 @@ five a b c d e = simp (append_assoc, append-nil)
 
 selector_joined : (s : Selector) → selector_text s ≡ prefix_text s.local ++ flat_map (λ u. 44 ∷ u) (selector_rest s)
 unfolding selector_text selector_rest
-selector_joined s = five (prefix_text s.local) (prefix_text s.remote) (proto_text s.proto) (ports_text s.local_ports) (ports_text s.remote_ports)
+selector_joined s = five (prefix_text s.local) (prefix_text s.remote) (proto_text s.proto) (ports_text s.local_ports)
+    (ports_text s.remote_ports)
 
-selector_are_parts : (s : Selector) → IsTypedSelector s → AllByRecursion (λ t. list_all is_part t ≡ true) (prefix_text s.local ∷ selector_rest s)
+selector_are_parts : (s : Selector) → IsTypedSelector s → AllByRecursion (λ t. list_all is_part t ≡ true) (prefix_text s.local
+    ∷ selector_rest s)
 unfolding selector_rest
 selector_are_parts s is = (
   prefix_is_part s.local is.local,
@@ -264,12 +277,14 @@ selector_are_parts s is = (
   ),
 )
 
-selector_again : (s : Selector) → IsTypedSelector s → has_many_ranges s ≡ false → selector_in (slice_split is_comma (selector_text s)) ≡ Ok s
+selector_again : (s : Selector) → IsTypedSelector s → has_many_ranges s ≡ false → selector_in (slice_split is_comma (selector_text s)) ≡ Ok
+    s
 unfolding selector_rest selector_parts
 selector_again s is few =
     ap (λ t. selector_in (slice_split is_comma t)) (selector_joined s)
     ∙ ap selector_in (split_behind is_comma 44 refl (prefix_text s.local) (selector_rest s)
-    (each_holds (λ t. list_all is_part t ≡ true) (λ t. All (λ c. is_comma c ≡ false) t) no_comma (prefix_text s.local ∷ selector_rest s) (selector_are_parts s is)))
+    (each_holds (λ t. list_all is_part t ≡ true) (λ t. All (λ c. is_comma c ≡ false) t) no_comma (prefix_text s.local ∷ selector_rest s)
+        (selector_are_parts s is)))
     ∙ selector_read s is few
 
 selector_graph : (s : Selector) → IsTypedSelector s → list_all is_graph (selector_text s) ≡ true
@@ -278,7 +293,8 @@ selector_graph s is =
     ap (list_all is_graph) (selector_joined s)
     ∙ list_all-append is_graph (prefix_text s.local) (flat_map (λ u. 44 ∷ u) (selector_rest s))
     ∙ and_from _ _ (as_graph (prefix_text s.local) all.0)
-    (all_behind is_graph 44 refl (selector_rest s) (each_holds (λ t. list_all is_part t ≡ true) (λ t. list_all is_graph t ≡ true) as_graph (selector_rest s) all.1))
+    (all_behind is_graph 44 refl (selector_rest s) (each_holds (λ t. list_all is_part t ≡ true) (λ t. list_all is_graph t ≡ true) as_graph
+        (selector_rest s) all.1))
 
 policy_name_word : (name : List ℕ) → is_spd_name name ≡ true → list_all is_graph name ≡ true
 policy_name_word name is = as_graph name (also is_path_octet is_part path_part name (and_parts _ _ is).1)
@@ -331,18 +347,22 @@ notice_are_words (notices.Expire name soft counts) spelled is =
 notice_are_words (notices.SeqOverflow name) spelled is = (refl, (half_name_word name spelled, tt))
 notice_are_words (notices.BadSpi spi) spelled is = (refl, (number_word spi (omega (arith, is)), tt))
 
-noticed_read : (gateways : List Peer) (g : List ℕ) (s : ℕ) (n : Notice) → is_gateway_of gateways g ≡ true → IsNoticeSpelled n → s < 2 ^ 32 → IsTypedNotice n
+noticed_read : (gateways : List Peer) (g : List ℕ) (s : ℕ) (n : Notice) → is_gateway_of gateways g ≡ true → IsNoticeSpelled n → s < 2 ^ 32
+    → IsTypedNotice n
     → noticed_in gateways (g ∷ decimal s ∷ notice_first n ∷ notice_more n) ≡ Ok (record { gateway = g; session = s; notice = n })
 unfolding noticed_in noticed_of
 noticed_read gateways g s n named written small is =
     rw (named, number_again faults.Number s (2 ^ 32 - 1) (omega arith) (omega arith), notice_read n written is) refl
 
-noticed_words : (what g : List ℕ) (s : ℕ) (n : Notice) → list_all is_graph what ≡ true → is_gateway g ≡ true → IsNoticeSpelled n → s < 2 ^ 32 → IsTypedNotice n
+noticed_words : (what g : List ℕ) (s : ℕ) (n : Notice) → list_all is_graph what ≡ true → is_gateway g ≡ true → IsNoticeSpelled n
+    → s < 2 ^ 32 → IsTypedNotice n
     → AreWords (what ∷ g ∷ decimal s ∷ notice_first n ∷ notice_more n)
 unfolding AreWords
-noticed_words what g s n word spelled written small is = (word, (name_word g spelled, (number_word s (omega arith), notice_are_words n written is)))
+noticed_words what g s n word spelled written small is =
+    (word, (name_word g spelled, (number_word s (omega arith), notice_are_words n written is)))
 
-pub notice_line : ReadsDigits → (gateways : List Peer) (g : List ℕ) (s : ℕ) (n : Notice) → is_gateway g ≡ true → is_gateway_of gateways g ≡ true → IsNoticeSpelled n
+pub notice_line : ReadsDigits → (gateways : List Peer) (g : List ℕ) (s : ℕ) (n : Notice) → is_gateway g ≡ true
+    → is_gateway_of gateways g ≡ true → IsNoticeSpelled n
     → s < 2 ^ 32 → IsTypedNotice n → act_of gateways (act_text (acts.Notice g s n)) ≡ Ok (acts.Notice g s n)
 unfolding act_in packet_act_in base_act_in session_act_in
 notice_line digits gateways g s n spelled named written small is =
@@ -350,7 +370,8 @@ notice_line digits gateways g s n spelled named written small is =
     (ap (λ ws. codes "notice" ∷ g ∷ decimal s ∷ ws) (notice_both n)) (noticed_words (codes "notice") g s n refl spelled written small is)
     (rw (noticed_read gateways g s n named written small is) refl)
 
-pub heard_line : ReadsDigits → (gateways : List Peer) (g : List ℕ) (s : ℕ) (n : Notice) → is_gateway g ≡ true → is_gateway_of gateways g ≡ true → IsNoticeSpelled n
+pub heard_line : ReadsDigits → (gateways : List Peer) (g : List ℕ) (s : ℕ) (n : Notice) → is_gateway g ≡ true
+    → is_gateway_of gateways g ≡ true → IsNoticeSpelled n
     → s < 2 ^ 32 → IsTypedNotice n → act_of gateways (act_text (acts.Heard g s n)) ≡ Ok (acts.Heard g s n)
 unfolding act_in packet_act_in base_act_in session_act_in
 heard_line digits gateways g s n spelled named written small is =

@@ -78,14 +78,16 @@ put_spelled : (ws : List (List ℕ)) (o : Order) → put_in ws ≡ Ok o → IsOr
 unfolding put_in
 put_spelled [] o is = cc
 put_spelled (h ∷ []) o is =
-    after (IsOrderSpelled o) (half_of h) _ o is (λ e half same. let q : orders.Put e ≡ o = cc in subst IsOrderSpelled q (half_fits h e half))
+    after (IsOrderSpelled o) (half_of h) _ o is (λ e half same. let q : orders.Put e ≡ o = cc in
+        subst IsOrderSpelled q (half_fits h e half))
 put_spelled (h ∷ x ∷ ws) o is = cc
 
 remove_spelled : (ws : List (List ℕ)) (o : Order) → remove_in ws ≡ Ok o → IsOrderSpelled o
 unfolding remove_in remove_of
 remove_spelled [] o is = cc
 remove_spelled (w ∷ []) o is =
-    after (IsOrderSpelled o) (half_name_of w) _ o is (λ n named same. let q : orders.Remove n ≡ o = cc in subst IsOrderSpelled q (half_named w n named))
+    after (IsOrderSpelled o) (half_name_of w) _ o is (λ n named same. let q : orders.Remove n ≡ o = cc in
+        subst IsOrderSpelled q (half_named w n named))
 remove_spelled (w ∷ x ∷ ws) o is = cc
 
 order_spelled : (w : List ℕ) (ws : List (List ℕ)) (o : Order) → order_of w ws ≡ Ok o → IsOrderSpelled o
@@ -138,7 +140,8 @@ answer_names status tag names a is =
     (λ t _ more2. after P (names_of names) _ a more2
     (λ ns read same. subst (λ (x : Answer). AreHalfNames x.names) (inside _ a same) (names_spelled names ns read))))
 
-replied_under : (gateways : List Peer) (ws : List (List ℕ)) (r : Replied) → replied_in gateways ws ≡ Ok r → (is_named gateways r.place.gateway ≡ true) × AreHalfNames r.answer.names
+replied_under : (gateways : List Peer) (ws : List (List ℕ)) (r : Replied) → replied_in gateways ws ≡ Ok r
+    → (is_named gateways r.place.gateway ≡ true) × AreHalfNames r.answer.names
 unfolding replied_in replied_of
 replied_under gateways [] r is = cc
 replied_under gateways (a ∷ []) r is = cc
@@ -162,7 +165,8 @@ policy_named w n is =
     (λ named same. let e : w ≡ n = cc in ap is_spd_name (sym e) ∙ named)
 
 packet_is : (s x : Selector) → packet_of s ≡ Ok x → is_packet x ≡ true
-packet_is s x is = passed (is_packet x ≡ true) (is_packet s) (Ok s) faults.Entry x is (λ packet same. let e : s ≡ x = cc in ap is_packet (sym e) ∙ packet)
+packet_is s x is = passed (is_packet x ≡ true) (is_packet s) (Ok s) faults.Entry x is (λ packet same. let e : s ≡ x = cc in
+    ap is_packet (sym e) ∙ packet)
 
 acquire_spelled : (ws : List (List ℕ)) (n : Notice) → acquire_in ws ≡ Ok n → IsNoticeSpelled n
 unfolding acquire_in acquire_of
@@ -173,7 +177,8 @@ acquire_spelled (w ∷ s ∷ []) n is =
     after P (policy_name_of w) _ n is
     (λ policy named more. after P (selector_in (slice_split is_comma s)) _ n more
     (λ x _ more2. after P (packet_of x) _ n more2
-    (λ y packet same. let q : notices.Acquire policy y ≡ n = cc in subst IsNoticeSpelled q (policy_named w policy named, packet_is x y packet))))
+    (λ y packet same. let q : notices.Acquire policy y ≡ n = cc in
+        subst IsNoticeSpelled q (policy_named w policy named, packet_is x y packet))))
 acquire_spelled (w ∷ s ∷ x ∷ ws) n is = cc
 
 expire_spelled : (ws : List (List ℕ)) (n : Notice) → expire_in ws ≡ Ok n → IsNoticeSpelled n
@@ -193,14 +198,16 @@ overflow_spelled : (ws : List (List ℕ)) (n : Notice) → overflow_in ws ≡ Ok
 unfolding overflow_in overflow_of
 overflow_spelled [] n is = cc
 overflow_spelled (w ∷ []) n is =
-    after (IsNoticeSpelled n) (half_name_of w) _ n is (λ name named same. let q : notices.SeqOverflow name ≡ n = cc in subst IsNoticeSpelled q (half_named w name named))
+    after (IsNoticeSpelled n) (half_name_of w) _ n is (λ name named same. let q : notices.SeqOverflow name ≡ n = cc in
+        subst IsNoticeSpelled q (half_named w name named))
 overflow_spelled (w ∷ x ∷ ws) n is = cc
 
 bad_spi_spelled : (ws : List (List ℕ)) (n : Notice) → bad_spi_in ws ≡ Ok n → IsNoticeSpelled n
 unfolding bad_spi_in
 bad_spi_spelled [] n is = cc
 bad_spi_spelled (w ∷ []) n is =
-    after (IsNoticeSpelled n) (number_in faults.Number (2 ^ 32 - 1) w) _ n is (λ spi _ same. let q : notices.BadSpi spi ≡ n = cc in subst IsNoticeSpelled q tt)
+    after (IsNoticeSpelled n) (number_in faults.Number (2 ^ 32 - 1) w) _ n is (λ spi _ same. let q : notices.BadSpi spi ≡ n = cc in
+        subst IsNoticeSpelled q tt)
 bad_spi_spelled (w ∷ x ∷ ws) n is = cc
 
 notice_spelled : (w : List ℕ) (ws : List (List ℕ)) (n : Notice) → notice_of w ws ≡ Ok n → IsNoticeSpelled n
@@ -212,7 +219,8 @@ notice_spelled w ws n is =
     (λ is3. either P (bytes_eq w (codes "overflow")) _ _ n is3 (overflow_spelled ws n)
     (λ is4. passed P (bytes_eq w (codes "bad-spi")) _ faults.Word n is4 (λ _ read. bad_spi_spelled ws n read))))
 
-noticed_under : (gateways : List Peer) (ws : List (List ℕ)) (x : Noticed) → noticed_in gateways ws ≡ Ok x → (is_named gateways x.gateway ≡ true) × IsNoticeSpelled x.notice
+noticed_under : (gateways : List Peer) (ws : List (List ℕ)) (x : Noticed) → noticed_in gateways ws ≡ Ok x
+    → (is_named gateways x.gateway ≡ true) × IsNoticeSpelled x.notice
 unfolding noticed_in noticed_of
 noticed_under gateways [] x is = cc
 noticed_under gateways (w ∷ []) x is = cc
@@ -227,20 +235,25 @@ noticed_under gateways (w ∷ s ∷ n ∷ ws) x is =
 
 -- ---- acts
 
-pub session_act_under : (gateways : List Peer) (w : List ℕ) (ws : List (List ℕ)) (a : Act) → session_act_in gateways w ws ≡ Ok a → IsActUnder gateways a
+pub session_act_under : (gateways : List Peer) (w : List ℕ) (ws : List (List ℕ)) (a : Act) → session_act_in gateways w ws ≡ Ok a
+    → IsActUnder gateways a
 unfolding session_act_in
 session_act_under gateways w ws a is =
     let P : Type 0 = IsActUnder gateways a in
     either P (bytes_eq w (codes "order")) _ _ a is (order_under gateways ws a)
     (λ is2. either P (bytes_eq w (codes "handled")) _ _ a is2
     (λ read. after P (replied_in gateways ws) _ a read
-    (λ r replied same. let q : acts.Handled r.place.gateway r.place.session r.place.request r.answer ≡ a = cc in subst (IsActUnder gateways) q (replied_under gateways ws r replied)))
+    (λ r replied same. let q : acts.Handled r.place.gateway r.place.session r.place.request r.answer ≡ a = cc in
+        subst (IsActUnder gateways) q (replied_under gateways ws r replied)))
     (λ is3. either P (bytes_eq w (codes "answered")) _ _ a is3
     (λ read. after P (replied_in gateways ws) _ a read
-    (λ r replied same. let q : acts.Answered r.place.gateway r.place.session r.place.request r.answer ≡ a = cc in subst (IsActUnder gateways) q (replied_under gateways ws r replied)))
+    (λ r replied same. let q : acts.Answered r.place.gateway r.place.session r.place.request r.answer ≡ a = cc in
+        subst (IsActUnder gateways) q (replied_under gateways ws r replied)))
     (λ is4. either P (bytes_eq w (codes "notice")) _ _ a is4
     (λ read. after P (noticed_in gateways ws) _ a read
-    (λ n noticed same. let q : acts.Notice n.gateway n.session n.notice ≡ a = cc in subst (IsActUnder gateways) q (noticed_under gateways ws n noticed)))
+    (λ n noticed same. let q : acts.Notice n.gateway n.session n.notice ≡ a = cc in
+        subst (IsActUnder gateways) q (noticed_under gateways ws n noticed)))
     (λ is5. passed P (bytes_eq w (codes "heard")) _ faults.Word a is5
     (λ _ read. after P (noticed_in gateways ws) _ a read
-    (λ n noticed same. let q : acts.Heard n.gateway n.session n.notice ≡ a = cc in subst (IsActUnder gateways) q (noticed_under gateways ws n noticed)))))))
+    (λ n noticed same. let q : acts.Heard n.gateway n.session n.notice ≡ a = cc in
+        subst (IsActUnder gateways) q (noticed_under gateways ws n noticed)))))))

@@ -45,7 +45,8 @@ packet_under gateways (w ∷ o ∷ []) p is =
     (λ octets _ same. ap (λ (q : Packet). is_named gateways q.gateway) (sym (inside _ p same)) ∙ known_named gateways w g known))
 packet_under gateways (w ∷ o ∷ x ∷ ws) p is = cc
 
-sealed_under : (gateways : List Peer) (ws : List (List ℕ)) (s : Sealed) → sealed_in gateways ws ≡ Ok s → (is_named gateways s.gateway ≡ true) × (is_sad_name s.half ≡ true)
+sealed_under : (gateways : List Peer) (ws : List (List ℕ)) (s : Sealed) → sealed_in gateways ws ≡ Ok s
+    → (is_named gateways s.gateway ≡ true) × (is_sad_name s.half ≡ true)
 unfolding sealed_in sealed_of
 sealed_under gateways [] s is = cc
 sealed_under gateways (w ∷ []) s is = cc
@@ -84,10 +85,12 @@ gone_under gateways (w ∷ h ∷ y ∷ []) a is =
     after P (known_of gateways w) _ a is
     (λ g known more. after P (half_name_of h) _ a more
     (λ n named more2. after P (gone_of y) _ a more2
-    (λ why _ same. let e : acts.Gone g n why ≡ a = cc in subst (IsActUnder gateways) e (known_named gateways w g known, half_named h n named))))
+    (λ why _ same. let e : acts.Gone g n why ≡ a = cc in
+        subst (IsActUnder gateways) e (known_named gateways w g known, half_named h n named))))
 gone_under gateways (w ∷ h ∷ y ∷ x ∷ ws) a is = cc
 
-opening_under : (gateways : List Peer) (ws : List (List ℕ)) (s : Opening) → opening_in gateways ws ≡ Ok s → is_named gateways s.gateway ≡ true
+opening_under : (gateways : List Peer) (ws : List (List ℕ)) (s : Opening) → opening_in gateways ws ≡ Ok s
+    → is_named gateways s.gateway ≡ true
 unfolding opening_in
 opening_under gateways [] s is = cc
 opening_under gateways (w ∷ []) s is = cc
@@ -115,14 +118,16 @@ under_way_under gateways (w ∷ l ∷ o ∷ []) a is =
     after P (known_of gateways w) _ a is
     (λ g known more. after P (lane_of l) _ a more
     (λ lane _ more2. after P (shown_of o) _ a more2
-    (λ octets few same. let e : acts.Wire g lane octets ≡ a = cc in subst (IsActUnder gateways) e (known_named gateways w g known, shown_few o octets few))))
+    (λ octets few same. let e : acts.Wire g lane octets ≡ a = cc in
+        subst (IsActUnder gateways) e (known_named gateways w g known, shown_few o octets few))))
 under_way_under gateways (w ∷ l ∷ o ∷ x ∷ ws) a is = cc
 
 refused_under : (gateways : List Peer) (ws : List (List ℕ)) (a : Act) → refused_in ws ≡ Ok a → IsActUnder gateways a
 unfolding refused_in
 refused_under gateways [] a is = cc
 refused_under gateways (w ∷ []) a is =
-    after (IsActUnder gateways a) (refusal_of w) _ a is (λ why _ same. let e : acts.Refused why ≡ a = cc in subst (IsActUnder gateways) e tt)
+    after (IsActUnder gateways a) (refusal_of w) _ a is (λ why _ same. let e : acts.Refused why ≡ a = cc in
+        subst (IsActUnder gateways) e tt)
 refused_under gateways (w ∷ x ∷ ws) a is = cc
 
 base_under : (gateways : List Peer) (w : List ℕ) (ws : List (List ℕ)) (a : Act) → base_act_in gateways w ws ≡ Ok a → IsActUnder gateways a
@@ -134,14 +139,16 @@ base_under gateways w ws a is =
     (λ is2. either P (bytes_eq w (codes "gone")) _ _ a is2 (gone_under gateways ws a)
     (λ is3. either P (bytes_eq w (codes "opened")) _ _ a is3
     (λ read. after P (opening_in gateways ws) _ a read
-    (λ s opened same. let e : acts.Opened s.gateway s.session ≡ a = cc in subst (IsActUnder gateways) e (opening_under gateways ws s opened)))
+    (λ s opened same. let e : acts.Opened s.gateway s.session ≡ a = cc in
+        subst (IsActUnder gateways) e (opening_under gateways ws s opened)))
     (λ is4. either P (bytes_eq w (codes "cut")) _ _ a is4
     (λ read. after P (opening_in gateways ws) _ a read
     (λ s opened same. let e : acts.Cut s.gateway s.session ≡ a = cc in subst (IsActUnder gateways) e (opening_under gateways ws s opened)))
     (λ is5. either P (bytes_eq w (codes "wire")) _ _ a is5 (under_way_under gateways ws a)
     (λ is6. either P (bytes_eq w (codes "refused")) _ _ a is6 (refused_under gateways ws a) (session_act_under gateways w ws a)))))))
 
-packet_act_under : (gateways : List Peer) (w : List ℕ) (ws : List (List ℕ)) (a : Act) → packet_act_in gateways w ws ≡ Ok a → IsActUnder gateways a
+packet_act_under : (gateways : List Peer) (w : List ℕ) (ws : List (List ℕ)) (a : Act) → packet_act_in gateways w ws ≡ Ok a
+    → IsActUnder gateways a
 unfolding packet_act_in
 packet_act_under gateways w ws a is =
     let P : Type 0 = IsActUnder gateways a in
@@ -153,7 +160,8 @@ packet_act_under gateways w ws a is =
     (λ p packet same. let e : acts.Clear p.gateway p.octets ≡ a = cc in subst (IsActUnder gateways) e (packet_under gateways ws p packet)))
     (λ is3. either P (bytes_eq w (codes "arrived")) _ _ a is3
     (λ read. after P (packet_in gateways ws) _ a read
-    (λ p packet same. let e : acts.Arrived p.gateway p.octets ≡ a = cc in subst (IsActUnder gateways) e (packet_under gateways ws p packet)))
+    (λ p packet same. let e : acts.Arrived p.gateway p.octets ≡ a = cc in
+        subst (IsActUnder gateways) e (packet_under gateways ws p packet)))
     (λ is4. either P (bytes_eq w (codes "pass")) _ _ a is4
     (λ read. after P (packet_in gateways ws) _ a read
     (λ p packet same. let e : acts.Pass p.gateway p.octets ≡ a = cc in subst (IsActUnder gateways) e (packet_under gateways ws p packet)))
@@ -173,10 +181,12 @@ words_under gateways (w ∷ ws) a is =
     (λ g named same. let e : acts.Boot g ≡ a = cc in subst (IsActUnder gateways) e (gateway_named gateways ws g named)))
     (λ is4. either P (bytes_eq w (codes "sent")) _ _ a is4
     (λ read. after P (sealed_in gateways ws) _ a read
-    (λ s sealed same. let e : acts.Sent s.gateway s.half s.number s.octets ≡ a = cc in subst (IsActUnder gateways) e (sealed_under gateways ws s sealed)))
+    (λ s sealed same. let e : acts.Sent s.gateway s.half s.number s.octets ≡ a = cc in
+        subst (IsActUnder gateways) e (sealed_under gateways ws s sealed)))
     (λ is5. either P (bytes_eq w (codes "gave")) _ _ a is5
     (λ read. after P (sealed_in gateways ws) _ a read
-    (λ s sealed same. let e : acts.Gave s.gateway s.half s.number s.octets ≡ a = cc in subst (IsActUnder gateways) e (sealed_under gateways ws s sealed)))
+    (λ s sealed same. let e : acts.Gave s.gateway s.half s.number s.octets ≡ a = cc in
+        subst (IsActUnder gateways) e (sealed_under gateways ws s sealed)))
     (λ is6. either P (bytes_eq w (codes "drop")) _ _ a is6 (drop_under gateways ws a) (packet_act_under gateways w ws a))))))
 
 spelled_same : (line : List ℕ) (x a : Act) → as_spelled line x ≡ Ok a → x ≡ a

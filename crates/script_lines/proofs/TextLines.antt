@@ -37,7 +37,8 @@ no_line_end : (gateways : List Peer) (a : Act) → IsReadAgain gateways a → Al
 no_line_end gateways a read =
     lacks_mark is_printable is_line_end (λ c. apart is_printable c 10 refl) (act_text a) (read_printable gateways (act_text a) a read)
 
-text_split : (gateways : List Peer) (xs : List Act) → AllByRecursion (IsReadAgain gateways) xs → slice_split is_line_end (text_of xs) ≡ map act_text xs ++ [] ∷ []
+text_split : (gateways : List Peer) (xs : List Act) → AllByRecursion (IsReadAgain gateways) xs
+    → slice_split is_line_end (text_of xs) ≡ map act_text xs ++ [] ∷ []
 text_split gateways [] all = refl
 text_split gateways (x ∷ xs) all =
     ap (slice_split is_line_end) (append_assoc (act_text x) (10 ∷ []) (text_of xs))
@@ -72,9 +73,11 @@ pub texts_are_of_one : ReadsDigits → (gateways : List Peer) (xs ys : List Act)
 texts_are_of_one digits gateways xs ys spelled allx ally same =
     let readx = again xs allx in
     let ready = again ys ally in
-    same_acts gateways xs ys readx ready (sym (text_split gateways xs readx) ∙ ap (slice_split is_line_end) same ∙ text_split gateways ys ready)
+    same_acts gateways xs ys readx ready (sym (text_split gateways xs readx) ∙ ap (slice_split is_line_end) same
+        ∙ text_split gateways ys ready)
   where
     again : (list : List Act) → All (λ a. IsActUnder gateways a × IsAct a) list → AllByRecursion (IsReadAgain gateways) list
     again list all =
-        each_holds (λ a. IsActUnder gateways a × IsAct a) (IsReadAgain gateways) (λ a is. act_again digits gateways a spelled is.0 is.1) list
+        each_holds (λ a. IsActUnder gateways a × IsAct a) (IsReadAgain gateways) (λ a is. act_again digits gateways a spelled is.0 is.1)
+            list
         (recursion_from_All (λ a. IsActUnder gateways a × IsAct a) list all)

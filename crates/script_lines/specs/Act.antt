@@ -39,18 +39,21 @@ unfoldable pub force_in : List Peer → List (List ℕ) → Result Act LineFault
 force_in gateways [] = Err faults.Count
 force_in gateways (gateway ∷ entries) =
     if nat_le (length entries) 256
-    then known_of gateways gateway >>= (λ g. entries_of entries >>= (λ list. unless_fault (spd_fault list) list >>= (λ good. Ok (acts.Policy g good))))
+    then known_of gateways gateway >>=
+        (λ g. entries_of entries >>= (λ list. unless_fault (spd_fault list) list >>= (λ good. Ok (acts.Policy g good))))
     else Err faults.Count
 
 -- a gateway, and octets
 unfoldable pub packet_in : List Peer → List (List ℕ) → Result Packet LineFault
-packet_in gateways (gateway ∷ octets ∷ []) = known_of gateways gateway >>= (λ g. octets_of octets >>= (λ o. Ok (record { gateway = g; octets = o })))
+packet_in gateways (gateway ∷ octets ∷ []) =
+    known_of gateways gateway >>= (λ g. octets_of octets >>= (λ o. Ok (record { gateway = g; octets = o })))
 packet_in gateways _ = Err faults.Count
 
 -- at a gateway, under a half and with a sequence number below 2^64, these octets were sent or given
 unfoldable pub sealed_of : List Peer → List ℕ → List ℕ → List ℕ → List ℕ → Result Sealed LineFault
 sealed_of gateways gateway name number octets =
-    known_of gateways gateway >>= (λ g. half_name_of name >>= (λ n. number_in faults.Number (2 ^ 64 - 1) number >>= (λ k. octets_of octets >>= (λ o.
+    known_of gateways gateway >>=
+        (λ g. half_name_of name >>= (λ n. number_in faults.Number (2 ^ 64 - 1) number >>= (λ k. octets_of octets >>= (λ o.
     Ok (record { gateway = g; half = n; number = k; octets = o })))))
 
 -- a gateway, a half, a sequence number and octets
@@ -121,8 +124,10 @@ order_in gateways _ = Err faults.Count
 unfoldable pub session_act_in : List Peer → List ℕ → List (List ℕ) → Result Act LineFault
 session_act_in gateways w ws =
     if bytes_eq w (codes "order") then order_in gateways ws
-    else if bytes_eq w (codes "handled") then replied_in gateways ws >>= (λ r. Ok (acts.Handled r.place.gateway r.place.session r.place.request r.answer))
-    else if bytes_eq w (codes "answered") then replied_in gateways ws >>= (λ r. Ok (acts.Answered r.place.gateway r.place.session r.place.request r.answer))
+    else if bytes_eq w (codes "handled") then replied_in gateways ws >>=
+        (λ r. Ok (acts.Handled r.place.gateway r.place.session r.place.request r.answer))
+    else if bytes_eq w (codes "answered") then replied_in gateways ws >>=
+        (λ r. Ok (acts.Answered r.place.gateway r.place.session r.place.request r.answer))
     else if bytes_eq w (codes "notice") then noticed_in gateways ws >>= (λ n. Ok (acts.Notice n.gateway n.session n.notice))
     else if bytes_eq w (codes "heard") then noticed_in gateways ws >>= (λ n. Ok (acts.Heard n.gateway n.session n.notice))
     else Err faults.Word

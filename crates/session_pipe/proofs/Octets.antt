@@ -7,6 +7,7 @@ take_front (suc k) [] ys = refl
 take_front (suc k) (x ∷ xs) ys = ap (λ l. x ∷ l) (take_front k xs ys)
 
 -- one more message
-pub take_more_octets : (k : ℕ) (new old message rest all : List ℕ) → take k (old ++ (message ++ rest)) ≡ all → new ≡ take k (old ++ message) → take k (new ++ rest) ≡ all
+pub take_more_octets : (k : ℕ) (new old message rest all : List ℕ) → take k (old ++ (message ++ rest)) ≡ all → new ≡ take k (old ++ message)
+    → take k (new ++ rest) ≡ all
 take_more_octets k new old message rest all is e =
     ap (λ l. take k (l ++ rest)) e ∙ take_front k (old ++ message) rest ∙ ap (take k) (append_assoc old message rest) ∙ is

@@ -14,13 +14,15 @@ use Rattle.session_pipe.specs.UnderWay.{UnderWay, after_open, after_cut, after_b
 -- the messages of the orders of a session, of its answers and of its notices, oldest first
 abbrev pub requests : (List Act → Order → List ℕ) → List ℕ → ℕ → List Act → List (List ℕ)
 requests request g s [] = []
-requests request g s (acts.Order f t k o ∷ h) = if is_session f t g s then requests request g s h ++ request h o ∷ [] else requests request g s h
+requests request g s (acts.Order f t k o ∷ h) = if is_session f t g s then requests request g s h ++ request h o
+    ∷ [] else requests request g s h
 requests request g s (_ ∷ h) = requests request g s h
 
 -- the messages of the answers that the gateway gave in a session, oldest first, heard or not
 abbrev pub responses : (List Act → Answer → List ℕ) → List ℕ → ℕ → List Act → List (List ℕ)
 responses response g s [] = []
-responses response g s (acts.Handled f t k a ∷ h) = if is_session f t g s then responses response g s h ++ response h a ∷ [] else responses response g s h
+responses response g s (acts.Handled f t k a ∷ h) = if is_session f t g s then responses response g s h ++ response h a
+    ∷ [] else responses response g s h
 responses response g s (_ ∷ h) = responses response g s h
 
 -- the messages of the notices that the gateway gave in a session, oldest first, heard or not
@@ -31,7 +33,8 @@ lines line g s (_ ∷ h) = lines line g s h
 
 -- The gateway has the requests of the session taken there that it has not handled. The controller has the answers and
 -- the notices of its open session that it has not heard.
-abbrev pub pipe_of : (List Act → Order → List ℕ) → (List Act → Answer → List ℕ) → (List Act → Notice → List ℕ) → List ℕ → List Act → UnderWay
+abbrev pub pipe_of : (List Act → Order → List ℕ) → (List Act → Answer → List ℕ) → (List Act → Notice → List ℕ) → List ℕ → List Act
+    → UnderWay
 pipe_of request response line g h = record {
   openings = openings g h;
   is_open = is_open g h;
@@ -42,7 +45,8 @@ pipe_of request response line g h = record {
 }
 
 -- what the calls of an act at the gateway make of its pipe: a handled request is taken, and its answer pushed
-abbrev pub after_act : (List Act → Order → List ℕ) → (List Act → Answer → List ℕ) → (List Act → Notice → List ℕ) → Act → List Act → UnderWay → UnderWay
+abbrev pub after_act : (List Act → Order → List ℕ) → (List Act → Answer → List ℕ) → (List Act → Notice → List ℕ) → Act → List Act → UnderWay
+    → UnderWay
 after_act request response line (acts.Opened f s) h p = after_open p
 after_act request response line (acts.Cut f s) h p = after_cut p
 after_act request response line (acts.Boot f) h p = after_boot p

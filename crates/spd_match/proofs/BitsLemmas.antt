@@ -54,7 +54,8 @@ split x v k p m e = ap (λ n. x * n + v) e ∙ omega arith
 
 -- the first bits of a first octet and more: the octet, and the first bits of the others
 front-bits : (bits all x v : ℕ) → 8 ≤ bits → v < 2 ^ all
-    → ((x * 2 ^ all + v) / 2 ^ ((8 + all) - bits) ≡ x * 2 ^ (all - (all - (bits - 8))) + v / 2 ^ (all - (bits - 8))) × (v / 2 ^ (all - (bits - 8)) < 2 ^ (all - (all - (bits - 8))))
+    → ((x * 2 ^ all + v) / 2 ^ ((8 + all) - bits) ≡ x * 2 ^ (all - (all - (bits - 8))) + v / 2 ^ (all - (bits - 8)))
+        × (v / 2 ^ (all - (bits - 8)) < 2 ^ (all - (all - (bits - 8))))
 front-bits bits all x v long small =
     let e = all - (bits - 8) in
     let m = all - e in
@@ -116,7 +117,8 @@ agree-last bits x y xs ys same p q short =
     ∙ ap (λ n. ((x * 2 ^ all + value_of xs) / 2 ^ (8 * suc (length xs) - bits)) == n) (sym fy)
 
 -- the same of lists that aren't empty, and what follows their first octets
-pub agree-on : (bits : ℕ) (xs ys t u : List ℕ) → length xs ≡ length ys → AreSmall xs → AreSmall ys → 1 ≤ length xs → t ≡ drop 1 xs → u ≡ drop 1 ys → 8 ≤ bits
+pub agree-on : (bits : ℕ) (xs ys t u : List ℕ) → length xs ≡ length ys → AreSmall xs → AreSmall ys → 1 ≤ length xs → t ≡ drop 1 xs
+    → u ≡ drop 1 ys → 8 ≤ bits
     → ((get_or xs 0 0 == get_or ys 0 0) && agree (bits - 8) t u) ≡ agree bits xs ys
 agree-on bits [] ys t u same p q some e f long = absurd (omega arith)
 agree-on bits (x ∷ xs) [] t u same p q some e f long = absurd (omega arith)

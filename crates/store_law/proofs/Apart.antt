@@ -18,7 +18,8 @@ kept-of xs apart = record { apart = apart; spis = refl; reqids = refl }
 
 -- ---- one call
 
-apart-installed : (e : SadEntry) (now : ℕ) (xs : List Half) (a b c : Bool) → has_half_named e.name xs ≡ a → is_spi_taken e xs ≡ b → is_full xs ≡ c →
+apart-installed : (e : SadEntry) (now : ℕ) (xs : List Half) (a b c : Bool) → has_half_named e.name xs ≡ a → is_spi_taken e xs ≡ b
+    → is_full xs ≡ c →
     are_names_apart (names_of xs) ≡ true → are_names_apart (names_of (installed e now xs (install_fault e xs))) ≡ true
 apart-installed e now xs true b c p q r apart = rw p apart
 apart-installed e now xs false true c p q r apart = rw (p, q) apart
@@ -29,20 +30,25 @@ apart-installed e now xs false false false p q r apart =
 
 apart-removed : (name : List ℕ) (xs : List Half) (place : Option ℕ) → position (is_half_named name) xs ≡ place →
     are_names_apart (names_of xs) ≡ true → are_names_apart (names_of (halves_without name xs)) ≡ true
-apart-removed name xs None p apart = ap (λ ys. are_names_apart (names_of ys)) (without-absent name xs (none-there (is_half_named name) xs p)) ∙ apart
+apart-removed name xs None p apart =
+    ap (λ ys. are_names_apart (names_of ys)) (without-absent name xs (none-there (is_half_named name) xs p)) ∙ apart
 apart-removed name xs (Some i) p apart =
-    let kept = kept-without name xs (map spi_key (entries_of xs)) (map reqid_key (entries_of xs)) i (kept-of xs apart) (removed-there name xs i apart p) in
+    let kept = kept-without name xs (map spi_key (entries_of xs)) (map reqid_key (entries_of xs)) i (kept-of xs apart)
+        (removed-there name xs i apart p) in
     kept.apart
 
-apart-same : (xs ys : List Half) → entries_of ys ≡ entries_of xs → are_names_apart (names_of xs) ≡ true → are_names_apart (names_of ys) ≡ true
-apart-same xs ys same apart = let kept = kept-same xs ys (map spi_key (entries_of xs)) (map reqid_key (entries_of xs)) same (kept-of xs apart) in kept.apart
+apart-same : (xs ys : List Half) → entries_of ys ≡ entries_of xs → are_names_apart (names_of xs) ≡ true
+    → are_names_apart (names_of ys) ≡ true
+apart-same xs ys same apart = let kept = kept-same xs ys (map spi_key (entries_of xs)) (map reqid_key (entries_of xs)) same
+    (kept-of xs apart) in kept.apart
 
 apart-changed : (f : Half → Half) → ((x : Half) → (f x).entry ≡ x.entry) → (i : ℕ) (xs : List Half) → are_names_apart (names_of xs) ≡ true →
     are_names_apart (names_of (changed f i xs)) ≡ true
 apart-changed f keeps i xs apart = apart-same xs (changed f i xs) (changed-entries f keeps i xs) apart
 
 apart-after : (xs : List Half) (c : Call) → are_names_apart (names_of xs) ≡ true → are_names_apart (names_of (did xs c)) ≡ true
-apart-after xs (Install e now) apart = apart-installed e now xs (has_half_named e.name xs) (is_spi_taken e xs) (is_full xs) refl refl refl apart
+apart-after xs (Install e now) apart = apart-installed e now xs (has_half_named e.name xs) (is_spi_taken e xs) (is_full xs) refl refl refl
+    apart
 apart-after xs (Remove name) apart = apart-removed name xs (position (is_half_named name) xs) refl apart
 apart-after xs (Next_number i) apart = apart-changed number_next (λ x. refl) i xs apart
 apart-after xs (Mark i n) apart = apart-changed (mark_number n) (λ x. refl) i xs apart

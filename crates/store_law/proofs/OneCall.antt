@@ -70,12 +70,14 @@ others p q f e is (d ∷ es) away =
     let ih = others p q f e is es parts.1 in
     cc
 
-other : (name : List ℕ) (es : List SadEntry) (i : ℕ) → list_any (λ y. bytes_eq y name) (names_in es) ≡ false → is_named name (slice_get es i) ≡ false
+other : (name : List ℕ) (es : List SadEntry) (i : ℕ) → list_any (λ y. bytes_eq y name) (names_in es) ≡ false
+    → is_named name (slice_get es i) ≡ false
 other name [] i away = refl
 other name (e ∷ es) zero away = (or_parts (bytes_eq e.name name) (list_any (λ y. bytes_eq y name) (names_in es)) away).0
 other name (e ∷ es) (suc i) away = other name es i (or_parts (bytes_eq e.name name) (list_any (λ y. bytes_eq y name) (names_in es)) away).1
 
-placed : (p q : SadEntry → Half) (f : Half → Half) (es : List SadEntry) (i : ℕ) → IsChange p q f (slice_get es i) → are_names_apart (names_in es) ≡ true →
+placed : (p q : SadEntry → Half) (f : Half → Half) (es : List SadEntry) (i : ℕ) → IsChange p q f (slice_get es i)
+    → are_names_apart (names_in es) ≡ true →
     map q es ≡ changed f i (map p es)
 placed p q f [] i is apart = refl
 placed p q f (e ∷ es) zero is apart =
@@ -144,7 +146,8 @@ removed-halves h name (e ∷ es) = removed-by h name e es (bytes_eq e.name name)
 
 -- ---- an installation
 
-kept-half : (h : List Call) (e : SadEntry) (now : ℕ) (d : SadEntry) → is_put e d.name h ≡ false → half_of (Install e now ∷ h) d ≡ half_of h d
+kept-half : (h : List Call) (e : SadEntry) (now : ℕ) (d : SadEntry) → is_put e d.name h ≡ false
+    → half_of (Install e now ∷ h) d ≡ half_of h d
 kept-half h e now d away = rw away refl
 
 fresh-half : (h : List Call) (e : SadEntry) (now : ℕ) → is_put e e.name h ≡ true → half_of (Install e now ∷ h) e ≡ fresh now e
@@ -166,7 +169,8 @@ joined h e now (d ∷ es) joins away =
     cc
 
 put-halves : (h : List Call) (e : SadEntry) (now : ℕ) (b : Bool) → may_join e (there h) ≡ b →
-    map (half_of (Install e now ∷ h)) (there (Install e now ∷ h)) ≡ (if may_join e (there h) then map (half_of h) (there h) ++ fresh now e ∷ [] else map (half_of h) (there h))
+    map (half_of (Install e now ∷ h)) (there (Install e now ∷ h)) ≡ (if may_join e (there h) then map (half_of h) (there h) ++ fresh now e
+        ∷ [] else map (half_of h) (there h))
 put-halves h e now true joins =
     let parts = and_parts (not (has_entry_named e.name (there h))) _ joins in
     ap (map (half_of (Install e now ∷ h))) (chosen (may_join e (there h)) (there h ++ e ∷ []) (there h) joins)
@@ -174,7 +178,8 @@ put-halves h e now true joins =
     ∙ sym (chosen (may_join e (there h)) (map (half_of h) (there h) ++ fresh now e ∷ []) (map (half_of h) (there h)) joins))
 put-halves h e now false stays =
     ap (map (half_of (Install e now ∷ h))) (left (may_join e (there h)) (there h ++ e ∷ []) (there h) stays)
-    ∙ (map-same (half_of h) (half_of (Install e now ∷ h)) (λ d. kept-half h e now d (and_right (bytes_eq e.name d.name) (may_join e (there h)) stays)) (there h)
+    ∙ (map-same (half_of h) (half_of (Install e now ∷ h))
+        (λ d. kept-half h e now d (and_right (bytes_eq e.name d.name) (may_join e (there h)) stays)) (there h)
     ∙ sym (left (may_join e (there h)) (map (half_of h) (there h) ++ fresh now e ∷ []) (map (half_of h) (there h)) stays))
 
 -- the reasons against it are the same of halves and of their entries
@@ -182,11 +187,13 @@ named-back : (h : List Call) (name : List ℕ) (es : List SadEntry) → has_half
 named-back h name [] = refl
 named-back h name (e ∷ es) = ap (λ b. bytes_eq e.name name || b) (named-back h name es)
 
-spis-back : (h : List Call) (spi : ℕ) (es : List SadEntry) → list_any (is_half_of_spi spi) (map (half_of h) es) ≡ list_any (is_entry_of_spi spi) es
+spis-back : (h : List Call) (spi : ℕ) (es : List SadEntry) → list_any (is_half_of_spi spi) (map (half_of h) es) ≡ list_any
+    (is_entry_of_spi spi) es
 spis-back h spi [] = refl
 spis-back h spi (e ∷ es) = ap (λ b. is_entry_of_spi spi e || b) (spis-back h spi es)
 
-installed-by : (e : SadEntry) (now : ℕ) (xs : List Half) (a b c : Bool) → has_half_named e.name xs ≡ a → is_spi_taken e xs ≡ b → is_full xs ≡ c →
+installed-by : (e : SadEntry) (now : ℕ) (xs : List Half) (a b c : Bool) → has_half_named e.name xs ≡ a → is_spi_taken e xs ≡ b
+    → is_full xs ≡ c →
     installed e now xs (install_fault e xs) ≡ (if not a && (not b && not c) then xs ++ fresh now e ∷ [] else xs)
 installed-by e now xs true b c p q r = rw p refl
 installed-by e now xs false true c p q r = rw (p, q) refl
@@ -196,7 +203,8 @@ installed-by e now xs false false false p q r = rw (p, q, r) refl
 installed-halves : (h : List Call) (e : SadEntry) (now : ℕ) (es : List SadEntry) →
     did (map (half_of h) es) (Install e now) ≡ (if may_join e es then map (half_of h) es ++ fresh now e ∷ [] else map (half_of h) es)
 installed-halves h e now es =
-    installed-by e now (map (half_of h) es) (has_entry_named e.name es) (is_inbound e.name && list_any (is_entry_of_spi e.spi) es) (nat_le 4096 (length es))
+    installed-by e now (map (half_of h) es) (has_entry_named e.name es) (is_inbound e.name && list_any (is_entry_of_spi e.spi) es)
+        (nat_le 4096 (length es))
     (named-back h e.name es) (ap (λ b. is_inbound e.name && b) (spis-back h e.spi es)) (ap (nat_le 4096) (length-map es (half_of h)))
 
 none-by : (e : SadEntry) (xs : List Half) (a b c : Bool) → has_half_named e.name xs ≡ a → is_spi_taken e xs ≡ b → is_full xs ≡ c →
@@ -208,7 +216,8 @@ none-by e xs false false false p q r = rw (p, q, r) refl
 
 pub none-against : (h : List Call) (e : SadEntry) (es : List SadEntry) → is_none (install_fault e (map (half_of h) es)) ≡ may_join e es
 none-against h e es =
-    none-by e (map (half_of h) es) (has_entry_named e.name es) (is_inbound e.name && list_any (is_entry_of_spi e.spi) es) (nat_le 4096 (length es))
+    none-by e (map (half_of h) es) (has_entry_named e.name es) (is_inbound e.name && list_any (is_entry_of_spi e.spi) es)
+        (nat_le 4096 (length es))
     (named-back h e.name es) (ap (λ b. is_inbound e.name && b) (spis-back h e.spi es)) (ap (nat_le 4096) (length-map es (half_of h)))
 
 -- ---- one call
@@ -217,9 +226,14 @@ pub step : (h : List Call) → are_names_apart (names_in (there h)) ≡ true →
     map (half_of (c ∷ h)) (there (c ∷ h)) ≡ did (map (half_of h) (there h)) c
 step h apart (Install e now) = put-halves h e now (may_join e (there h)) refl ∙ sym (installed-halves h e now (there h))
 step h apart (Remove name) = removed-halves h name (there h)
-step h apart (Next_number i) = placed (half_of h) (half_of (Next_number i ∷ h)) number_next (there h) i (λ d. number-half h i d (stands_at i d.name h) refl) apart
-step h apart (Mark i n) = placed (half_of h) (half_of (Mark i n ∷ h)) (mark_number n) (there h) i (λ d. mark-half h i n d (stands_at i d.name h) refl) apart
-step h apart (Use i size now) = placed (half_of h) (half_of (Use i size now ∷ h)) (use_half size now) (there h) i (λ d. use-half h i size now d (stands_at i d.name h) refl) apart
-step h apart (Look i now) = placed (half_of h) (half_of (Look i now ∷ h)) (look_at now) (there h) i (λ d. look-half h i now d (stands_at i d.name h) refl) apart
-step h apart (Overflow i) = placed (half_of h) (half_of (Overflow i ∷ h)) (with_overflow true) (there h) i (λ d. overflow-half h i d (stands_at i d.name h) refl) apart
+step h apart (Next_number i) = placed (half_of h) (half_of (Next_number i ∷ h)) number_next (there h) i
+    (λ d. number-half h i d (stands_at i d.name h) refl) apart
+step h apart (Mark i n) = placed (half_of h) (half_of (Mark i n ∷ h)) (mark_number n) (there h) i
+    (λ d. mark-half h i n d (stands_at i d.name h) refl) apart
+step h apart (Use i size now) = placed (half_of h) (half_of (Use i size now ∷ h)) (use_half size now) (there h) i
+    (λ d. use-half h i size now d (stands_at i d.name h) refl) apart
+step h apart (Look i now) = placed (half_of h) (half_of (Look i now ∷ h)) (look_at now) (there h) i
+    (λ d. look-half h i now d (stands_at i d.name h) refl) apart
+step h apart (Overflow i) = placed (half_of h) (half_of (Overflow i ∷ h)) (with_overflow true) (there h) i
+    (λ d. overflow-half h i d (stands_at i d.name h) refl) apart
 step h apart Session = session-halves h (there h)

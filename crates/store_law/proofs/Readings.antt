@@ -37,7 +37,8 @@ removed-by name y e es false true own is ih =
     rw own (grind (arith, ih, away, is))
 removed-by name y e es false false own is ih = rw own (grind (arith, ih, is))
 
-removed-there : (name y : List ℕ) (es : List SadEntry) → has_entry_named name (entries_without y es) ≡ (not (bytes_eq y name) && has_entry_named name es)
+removed-there : (name y : List ℕ) (es : List SadEntry) → has_entry_named name (entries_without y es) ≡ (not (bytes_eq y name)
+    && has_entry_named name es)
 removed-there name y [] = grind arith
 removed-there name y (e ∷ es) = removed-by name y e es (bytes_eq e.name y) (bytes_eq y name) refl refl (removed-there name y es)
 
@@ -52,7 +53,8 @@ there-is name (Look i now ∷ h) = there-is name h
 there-is name (Overflow i ∷ h) = there-is name h
 there-is name (Session ∷ h) = there-is name h
 
-place-back : (h : List Call) (es : List SadEntry) (i : ℕ) → option_map (λ (x : Half). x.entry) (slice_get (map (half_of h) es) i) ≡ slice_get es i
+place-back : (h : List Call) (es : List SadEntry) (i : ℕ) → option_map (λ (x : Half). x.entry) (slice_get (map (half_of h) es) i) ≡
+    slice_get es i
 place-back h [] zero = refl
 place-back h [] (suc i) = refl
 place-back h (e ∷ es) zero = refl
@@ -66,7 +68,8 @@ joins-are h e = ap (λ xs. is_none (install_fault e xs)) (is-given h) ∙ none-a
 
 -- ---- lifetimes
 
-pub counts-are : (h : List Call) (e : SadEntry) (now : ℕ) → counts_of now (half_of h e).life ≡ lives.counts_after (installed_at e.name h) now (befell e.name h)
+pub counts-are : (h : List Call) (e : SadEntry) (now : ℕ) → counts_of now (half_of h e).life ≡ lives.counts_after (installed_at e.name h)
+    now (befell e.name h)
 counts-are h e now = refl
 
 pub event-is : (h : List Call) (e : SadEntry) (c : lives.Call) →

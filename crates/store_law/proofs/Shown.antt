@@ -75,7 +75,8 @@ shown_again = (refl, refl)
 shown_taken : (did_all (Install first 50 ∷ used_once) ≡ half_used ∷ []) × (looking_back (Install first 50 ∷ used_once) ≡ half_used ∷ [])
 shown_taken = (refl, refl)
 
-shown_spi_taken : (did_all (Install (entry (codes "in/9") 257) 50 ∷ used_once) ≡ half_used ∷ []) × (looking_back (Install (entry (codes "in/9") 257) 50 ∷ used_once) ≡ half_used ∷ [])
+shown_spi_taken : (did_all (Install (entry (codes "in/9") 257) 50 ∷ used_once) ≡ half_used ∷ [])
+    × (looking_back (Install (entry (codes "in/9") 257) 50 ∷ used_once) ≡ half_used ∷ [])
 shown_spi_taken = (refl, refl)
 
 -- a session takes back what was told, and neither counts nor window
@@ -109,7 +110,8 @@ third_after = record (fresh 3 third) { sent = 1; window = record { size = 64; to
 shown_moved : (did_all moved ≡ first_after ∷ third_after ∷ []) × (looking_back moved ≡ first_after ∷ third_after ∷ [])
 shown_moved = (refl, refl)
 
-shown_places : (stands_at 1 (codes "in/2") three ≡ true) × (stands_at 1 (codes "in/3") three ≡ false) × (stands_at 1 (codes "in/3") moved ≡ true) × (stands_at 2 (codes "in/3") moved ≡ false)
+shown_places : (stands_at 1 (codes "in/2") three ≡ true) × (stands_at 1 (codes "in/3") three ≡ false)
+    × (stands_at 1 (codes "in/3") moved ≡ true) × (stands_at 2 (codes "in/3") moved ≡ false)
 shown_places = (refl, refl, refl, refl)
 
 shown_there : (is_there (codes "in/2") three ≡ true) × (is_there (codes "in/2") moved ≡ false) × (is_there (codes "in/3") moved ≡ true)

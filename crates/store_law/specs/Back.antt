@@ -26,7 +26,8 @@ is_entry_of_spi spi e = is_inbound e.name && (e.spi == spi)
 
 -- The entry may join these: none has its name, where it is inbound no inbound one has its SPI, and they aren't 4,096.
 abbrev pub may_join : SadEntry → List SadEntry → Bool
-may_join e es = not (has_entry_named e.name es) && (not (is_inbound e.name && list_any (is_entry_of_spi e.spi) es) && not (nat_le 4096 (length es)))
+may_join e es = not (has_entry_named e.name es) && (not (is_inbound e.name && list_any (is_entry_of_spi e.spi) es)
+    && not (nat_le 4096 (length es)))
 
 -- but those of this name
 abbrev pub entries_without : List ℕ → List SadEntry → List SadEntry

@@ -69,7 +69,8 @@ abbrev pub Reads : Type 0
 Reads = (host : Addr) (o : Order) → IsOrder o → IsTypedOrder o → request_of (order_message host o) ≡ Ok (ask_of o)
 
 -- what was ordered has no fault
-good-next : (header : Header) (g : List ℕ) (o : Order) (p : Past) → AreSpelled header.gateways p.world → next_request g p.world ≡ Some o → IsGoodOrder o
+good-next : (header : Header) (g : List ℕ) (o : Order) (p : Past) → AreSpelled header.gateways p.world → next_request g p.world ≡ Some o
+    → IsGoodOrder o
 good-next header g o p spelled e =
     let good = request-good header.gateways g o p.world (recursion_from_All (IsSpelled header.gateways) p.world spelled) e in
     order-good o good.0 good.1

@@ -141,7 +141,8 @@ halves_again front back front_small back_small =
     let text : List ℕ = joined front ++ 58 ∷ 58 ∷ joined back in
     let at : double_colon text ≡ Some (length (joined front)) =
     double_joined front (58 ∷ 58 ∷ joined back) front_small ∙ ap Some (omega arith) in
-    let before : take (length (joined front)) text ≡ joined front = take_at (joined front) (58 ∷ 58 ∷ joined back) (length (joined front)) refl in
+    let before : take (length (joined front)) text ≡ joined front = take_at (joined front) (58 ∷ 58 ∷ joined back) (length (joined front))
+        refl in
     let marked : text ≡ (joined front ++ 58 ∷ 58 ∷ []) ++ joined back = sym (append_assoc (joined front) (58 ∷ 58 ∷ []) (joined back)) in
     let behind : drop (length (joined front) + 2) text ≡ joined back =
     ap (drop (length (joined front) + 2)) marked
@@ -176,7 +177,8 @@ unfolding longest_run first_run
 run_zeros n [] some fits = absurd (omega arith)
 run_zeros n (g ∷ gs) some fits = by_place (cases_lt (zeros_at_front (g ∷ gs)) n) (run_zeros n gs some)
   where
-    by_place : (zeros_at_front (g ∷ gs) < n) ⊎ (n ≤ zeros_at_front (g ∷ gs)) → (n ≤ longest_run gs → take n (drop (first_run n gs) gs) ≡ replicate n 0)
+    by_place : (zeros_at_front (g ∷ gs) < n) ⊎ (n ≤ zeros_at_front (g ∷ gs))
+        → (n ≤ longest_run gs → take n (drop (first_run n gs) gs) ≡ replicate n 0)
         → take n (drop (first_run n (g ∷ gs)) (g ∷ gs)) ≡ replicate n 0
     by_place (inr here) ih =
         let e : first_run n (g ∷ gs) ≡ 0 = rw (le-leb n (zeros_at_front (g ∷ gs)) here) refl in
@@ -210,7 +212,8 @@ filled_again gs k n size some room zeros =
     let below : nat_lt (k + (8 - (k + n))) 8 ≡ true = lt-ltb _ _ (omega arith) in
     let left : 8 - (k + (8 - (k + n))) ≡ n = omega arith in
     let tail : replicate n 0 ++ drop (k + n) gs ≡ drop k gs =
-    ap (λ z. z ++ drop (k + n) gs) (sym zeros) ∙ ap (λ d. take n (drop k gs) ++ d) (sym (drop-drop n k gs)) ∙ take-append-drop n (drop k gs) in
+    ap (λ z. z ++ drop (k + n) gs) (sym zeros) ∙ ap (λ d. take n (drop k gs) ++ d) (sym (drop-drop n k gs)) ∙ take-append-drop n (drop k gs)
+        in
     let all : take k gs ++ replicate n 0 ++ drop (k + n) gs ≡ gs =
     append_assoc (take k gs) (replicate n 0) (drop (k + n) gs) ∙ ap (λ d. take k gs ++ d) tail ∙ take-append-drop k gs in
     rw (front, back, below, left) (ap Some all)

@@ -26,10 +26,12 @@ longest_run-here (g ∷ gs) some h = omega arith
 pub first_run-here : (gs : List ℕ) → 1 ≤ length gs → longest_run (drop 1 gs) ≤ zeros_at_front gs → 0 ≡ first_run (longest_run gs) gs
 unfolding first_run
 first_run-here [] some h = absurd (omega arith)
-first_run-here (g ∷ gs) some h = let e = longest_run-here (g ∷ gs) some h in rw (← e, le-leb (zeros_at_front (g ∷ gs)) (zeros_at_front (g ∷ gs)) (omega arith)) refl
+first_run-here (g ∷ gs) some h = let e = longest_run-here (g ∷ gs) some h in
+    rw (← e, le-leb (zeros_at_front (g ∷ gs)) (zeros_at_front (g ∷ gs)) (omega arith)) refl
 
 -- a later run is longer
-pub longest_run-later : (gs : List ℕ) → 1 ≤ length gs → zeros_at_front gs < longest_run (drop 1 gs) → longest_run (drop 1 gs) ≡ longest_run gs
+pub longest_run-later : (gs : List ℕ) → 1 ≤ length gs → zeros_at_front gs < longest_run (drop 1 gs)
+    → longest_run (drop 1 gs) ≡ longest_run gs
 unfolding longest_run
 longest_run-later [] some h = absurd (omega arith)
 longest_run-later (g ∷ gs) some h = omega arith
@@ -62,7 +64,8 @@ double_colon-found (c ∷ cs) zero within before here =
     let e : is_colon c && begins_with_colon cs ≡ true = rw (← first_colon cs) here in rw e refl
 double_colon-found (c ∷ cs) (suc i) within before here =
     let e : is_colon c && begins_with_colon cs ≡ false = rw (← first_colon cs) (before 0 (omega arith)) in
-    let ih = double_colon-found cs i (omega arith) (λ k lt. sym (is_double_at-cons c cs k) ∙ before (suc k) (omega arith)) (sym (is_double_at-cons c cs i) ∙ here) in
+    let ih = double_colon-found cs i (omega arith) (λ k lt. sym (is_double_at-cons c cs k) ∙ before (suc k) (omega arith))
+        (sym (is_double_at-cons c cs i) ∙ here) in
     rw (e, ← ih) (ap Some (omega arith))
 
 pub double_colon-none : (t : List ℕ) (n : ℕ) → length t ≤ n → ((k : ℕ) → k < n → is_double_at t k ≡ false) → None ≡ double_colon t
@@ -93,7 +96,8 @@ fill_is front back n m size room =
     ap (drop (8 - m)) whole ∙ drop_at (front ++ zeros) (replicate m 0) (8 - m) len in
     let none : drop (8 - (8 - m)) (drop (8 - m) (front ++ drop n (replicate 8 0))) ≡ [] =
     ap (drop (8 - (8 - m))) left ∙ drop_all (8 - (8 - m)) (replicate m 0) (rw length-replicate (omega arith)) in
-    let written : take (8 - m) (front ++ drop n (replicate 8 0)) ++ (back ++ drop (8 - (8 - m)) (drop (8 - m) (front ++ drop n (replicate 8 0))))
+    let written : take (8 - m) (front ++ drop n (replicate 8 0))
+        ++ (back ++ drop (8 - (8 - m)) (drop (8 - m) (front ++ drop n (replicate 8 0))))
     ≡ (front ++ zeros) ++ (back ++ []) = rw (start, none) refl in
     written ∙ ap (λ b. (front ++ zeros) ++ b) (append-nil back)
 

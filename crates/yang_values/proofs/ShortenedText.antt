@@ -4,7 +4,8 @@ use Rattle.std.proofs.lemmas.List.{take_all}
 use Rattle.std.proofs.lemmas.Bool.Decides.{nat_tests}
 use Rattle.yang_values.specs.Addresses.{first_run, groups_text, joined, longest_run, shortened}
 
-pub shortened_text : (groups : List ℕ) (place n : ℕ) → length groups ≡ 8 → place ≡ first_run (longest_run groups) groups → n ≡ longest_run groups → 2 ≤ n
+pub shortened_text : (groups : List ℕ) (place n : ℕ) → length groups ≡ 8 → place ≡ first_run (longest_run groups) groups
+    → n ≡ longest_run groups → 2 ≤ n
     → groups_text groups ≡ (joined (take place groups) ++ 58 ∷ 58 ∷ []) ++ joined (take (8 - (place + n)) (drop (place + n) groups))
 unfolding groups_text
 shortened_text groups place n eight p l two =

@@ -13,7 +13,8 @@ past [] (suc i) e = refl
 past (x ∷ xs) zero e = absurd (omega arith)
 past (x ∷ xs) (suc i) e = past xs i (omega arith)
 
-at_place : (xs : List SpdEntry) (n : ℕ) (b : Bool) → nat_lt n (length xs) ≡ b → option_and_then (slice_get xs) (cond b (Some n) None) ≡ slice_get xs n
+at_place : (xs : List SpdEntry) (n : ℕ) (b : Bool) → nat_lt n (length xs) ≡ b → option_and_then (slice_get xs) (cond b (Some n) None) ≡
+    slice_get xs n
 at_place xs n true e = refl
 at_place xs n false e = past xs n (grind (arith, common_steps))
 
@@ -21,4 +22,5 @@ found : (p : SpdEntry → Bool) (xs : List SpdEntry) → option_and_then (slice_
 found p xs = at_place xs (position_or_len p xs) (nat_lt (position_or_len p xs) (length xs)) refl ∙ sym (find_at p xs)
 
 pub returns-clause-entry : goal.returns-clause-entry
-returns-clause-entry c = ap (λ place. option_and_then (slice_get c.args.list.now) place) c.place_of.ensures ∙ found (decides c.args.d (seen c.args.v.now)) c.args.list.now
+returns-clause-entry c = ap (λ place. option_and_then (slice_get c.args.list.now) place) c.place_of.ensures
+    ∙ found (decides c.args.d (seen c.args.v.now)) c.args.list.now

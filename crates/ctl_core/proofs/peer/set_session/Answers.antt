@@ -4,7 +4,9 @@ use Rattle.ctl_core.proofs.Places.{at-set, at-none}
 use Rattle.ctl_core.proofs.peer.set_session.Goals as goal
 
 pub returns-then-gateway-len : goal.returns-then-gateway-len
-returns-then-gateway-len c = let f : Station → Station = λ s. record s { session = c.args.session } in at-set f c.args.gateway c.args.stations.now.items c.index_mut-station.result.now (omega arith) c.index_mut-station.ensures.value
+returns-then-gateway-len c = let f : Station → Station = λ s. record s { session = c.args.session } in
+    at-set f c.args.gateway c.args.stations.now.items c.index_mut-station.result.now (omega arith) c.index_mut-station.ensures.value
 
 pub returns-else-gateway-len : goal.returns-else-gateway-len
-returns-else-gateway-len c = let f : Station → Station = λ s. record s { session = c.args.session } in at-none f c.args.gateway c.args.stations.now.items (omega arith)
+returns-else-gateway-len c = let f : Station → Station = λ s. record s { session = c.args.session } in
+    at-none f c.args.gateway c.args.stations.now.items (omega arith)

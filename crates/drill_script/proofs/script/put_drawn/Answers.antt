@@ -23,7 +23,8 @@ lines-preserved c =
     let nows : c.counted-nows.result ≡ one_more (is_now (kind_of c.next_number-x.result)) c.lines.nows =
     c.counted-nows.ensures ∙ ap (λ (b : Bool). one_more b c.lines.nows) (c.has_time.ensures ∙ ap is_now c.drawn_kind-in-lines.ensures) in
     record {
-      text = line-more c.args.n k c.next_number-x.result c.lines.lets c.lines.nows c.args.out.now.items _ _ _ number inv.lets inv.nows inv.text c.in_ok-put_drawn_line.ensures c.in_ok-put_octet.ensures;
+      text = line-more c.args.n k c.next_number-x.result c.lines.lets c.lines.nows c.args.out.now.items _ _ _ number inv.lets inv.nows
+          inv.text c.in_ok-put_drawn_line.ensures c.in_ok-put_octet.ensures;
       number = number;
       lets = lets ∙ many-more is_let c.args.n k c.next_number-x.result c.lines.lets number inv.lets;
       nows = nows ∙ many-more is_now c.args.n k c.next_number-x.result c.lines.nows number inv.nows;

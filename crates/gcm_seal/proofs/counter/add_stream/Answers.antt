@@ -15,5 +15,6 @@ returns c =
       | inl below ↦ c.add_rest.ensures.before k below ∙ c.chunks.invariant.sealed k (omega arith) h
       | inr above ↦
           c.add_rest.ensures.within k above (omega arith)
-          ∙ (λ i. bit_xor (c.chunks.invariant.rest k (omega arith) i) (rest_stream e nonce c.encrypt-stream-2.result c.counter-2.result n k (c.encrypt-stream-2.ensures) c.counter-2.ensures above (omega arith) i))
+          ∙ (λ i. bit_xor (c.chunks.invariant.rest k (omega arith) i) (rest_stream e nonce c.encrypt-stream-2.result c.counter-2.result n k
+              (c.encrypt-stream-2.ensures) c.counter-2.ensures above (omega arith) i))
     ])

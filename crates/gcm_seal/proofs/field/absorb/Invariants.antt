@@ -6,4 +6,5 @@ use Rattle.gcm_seal.specs.Table.{IsTable}
 use Rattle.gcm_seal.proofs.field.absorb.Given as goal
 
 abbrev pub invariant-chunks : goal.invariant-chunks
-invariant-chunks l = (h : ℕ) (zs : List ℕ) → h < 2 ^ 128 → IsTable l.t h → Each1 (λ z. z < 2 ^ 128) zs → l.before ≡ power_sum 128 0x87 h zs → l.y ≡ power_sum 128 0x87 h (zs ++ blocks l.octets l.i)
+invariant-chunks l = (h : ℕ) (zs : List ℕ) → h < 2 ^ 128 → IsTable l.t h → Each1 (λ z. z < 2 ^ 128) zs → l.before ≡ power_sum 128 0x87 h zs
+    → l.y ≡ power_sum 128 0x87 h (zs ++ blocks l.octets l.i)

@@ -11,4 +11,5 @@ swizzle c = low_ok c.args.octets c.fits-octets
 pub returns : goal.returns
 returns c =
     let v = c.args.octets in
-    looked_up LOW_REVERSED (λ x. bit_and x 15) v _ c.fits-octets (zip2_splat bit_and v 16 15 c.fits-octets.0) (λ x h. omega (arith, and_le_r x 15))
+    looked_up LOW_REVERSED (λ x. bit_and x 15) v _ c.fits-octets (zip2_splat bit_and v 16 15 c.fits-octets.0)
+        (λ x h. omega (arith, and_le_r x 15))

@@ -15,10 +15,13 @@ coefficients-preserved c =
     let h = c.args.h in
     let y = c.args.y in
     record {
-      multiple = c.times_x-multiple.ensures ∙ ap (times_x 128 0x87) c.coefficients.invariant.multiple ∙ sym (iterate-suc 128 0x87 low_fits i h);
+      multiple = c.times_x-multiple.ensures ∙ ap (times_x 128 0x87) c.coefficients.invariant.multiple
+          ∙ sym (iterate-suc 128 0x87 low_fits i h);
       sum = elim c.if-y-i-eq1.branch [
-        | then-y-i-eq1 w ↦ w.sum-is ∙ (λ j. bit_xor (c.coefficients.invariant.sum j) (c.coefficients.invariant.multiple j)) ∙ sym (lin-take 128 0x87 low_fits i h y w.if-y-i-eq1.true)
-        | else-y-i-eq1 w ↦ w.sum-is ∙ c.coefficients.invariant.sum ∙ sym (lin-skip 128 0x87 low_fits i h y (omega (arith, w.if-y-i-eq1.false)))
+        | then-y-i-eq1 w ↦ w.sum-is ∙ (λ j. bit_xor (c.coefficients.invariant.sum j) (c.coefficients.invariant.multiple j))
+            ∙ sym (lin-take 128 0x87 low_fits i h y w.if-y-i-eq1.true)
+        | else-y-i-eq1 w ↦ w.sum-is ∙ c.coefficients.invariant.sum
+            ∙ sym (lin-skip 128 0x87 low_fits i h y (omega (arith, w.if-y-i-eq1.false)))
       ];
     }
 
@@ -26,4 +29,5 @@ pub returns : goal.returns
 returns c =
     let done : c.coefficients.i ≡ 128 = omega (arith, c.coefficients.auto.i-end) in
     let whole = rw done at c.coefficients.invariant.sum in
-    whole ∙ sym (multiply_is 128 0x87 low_fits c.args.h c.args.y (omega arith)) ∙ multiply_comm 128 0x87 low_fits c.args.h c.args.y (omega arith) (omega arith)
+    whole ∙ sym (multiply_is 128 0x87 low_fits c.args.h c.args.y (omega arith)) ∙ multiply_comm 128 0x87 low_fits c.args.h c.args.y
+        (omega arith) (omega arith)

@@ -10,4 +10,5 @@ use Rattle.gw_history.proofs.Steps.{run-told, tunnels}
 use Rattle.gw_history.proofs.laws.restarts_follow.Goals as goal
 
 pub returns-clause-run : goal.returns-clause-run
-returns-clause-run c = λ config g h es l t p. ap (λ (r : Step). r.acts) (run-told g config es (restarted (naming_of g (state_of g h))) (clock_read (clock h) booted).kept) ∙ c.restarts_follow.ensures.run (gateway_of g config) h (map event_of es) l t (tunnels es p)
+returns-clause-run c = λ config g h es l t p. ap (λ (r : Step). r.acts) (run-told g config es (restarted (naming_of g (state_of g h)))
+    (clock_read (clock h) booted).kept) ∙ c.restarts_follow.ensures.run (gateway_of g config) h (map event_of es) l t (tunnels es p)

@@ -6,4 +6,5 @@ use Rattle.gw_packets.proofs.flow.all_of.Goals as goal
 
 pub returns : goal.returns
 unfolding whole
-returns c = same_prefix c.of.result (whole c.args.a) (c.of.ensures.address ∙ ap (λ n. address_cleared n c.args.a) c.bits.ensures) (c.of.ensures.length ∙ c.bits.ensures)
+returns c = same_prefix c.of.result (whole c.args.a) (c.of.ensures.address ∙ ap (λ n. address_cleared n c.args.a) c.bits.ensures)
+    (c.of.ensures.length ∙ c.bits.ensures)

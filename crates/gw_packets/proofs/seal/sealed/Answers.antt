@@ -12,7 +12,8 @@ use Rattle.gw_packets.proofs.Entries.{family-fits}
 use Rattle.gw_packets.proofs.seal.sealed.Goals as goal
 
 pub write_sealed-requires-clause-family : goal.write_sealed-requires-clause-family
-write_sealed-requires-clause-family c = ap (λ (o : Outer). is_one_family o.src o.dst) c.outer-o.ensures ∙ family-fits c.args.e.now c.requires.sound
+write_sealed-requires-clause-family c = ap (λ (o : Outer). is_one_family o.src o.dst) c.outer-o.ensures
+    ∙ family-fits c.args.e.now c.requires.sound
 
 pub returns : goal.returns
 unfolding datagram

@@ -13,4 +13,5 @@ pub returns : goal.returns
 returns c =
     c.used.ensures.halves
     ∙ (ap (changed (use_half c.args.octets c.args.clock) c.args.i) c.next_number.ensures.halves
-    ∙ changed-twice number_next (use_half c.args.octets c.args.clock) (λ y. look_at c.args.clock (send c.args.clock c.args.octets y)) (λ x. refl) c.args.i c.args.halves.now)
+    ∙ changed-twice number_next (use_half c.args.octets c.args.clock) (λ y. look_at c.args.clock (send c.args.clock c.args.octets y))
+        (λ x. refl) c.args.i c.args.halves.now)

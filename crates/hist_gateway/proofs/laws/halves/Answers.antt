@@ -13,7 +13,8 @@ pub returns-clause-inbound : goal.returns-clause-inbound
 returns-clause-inbound c = half-of-spi
 
 pub returns-clause-blocks : goal.returns-clause-blocks
-returns-clause-blocks c = λ gateway g h e are. installed gateway g h (gw_block gateway h e) (may-block c.changes_fit.ensures.before gateway h e) are
+returns-clause-blocks c = λ gateway g h e are. installed gateway g h (gw_block gateway h e)
+    (may-block c.changes_fit.ensures.before gateway h e) are
 
 pub returns-clause-lawful : goal.returns-clause-lawful
 returns-clause-lawful c = lawful-installed

@@ -9,7 +9,9 @@ use Rattle.hist_scripts.proofs.EventRead.{lines-read}
 use Rattle.hist_scripts.proofs.laws.is_every_script_safe.Goals as goal
 
 pub returns-clause-parts : goal.returns-clause-parts
-returns-clause-parts c = λ shows line header lines events is are. safe header.gateways (after [] (history shows header nothing events)) (lawful-history shows header nothing events (header-read line header is) (lines-read header lines events are) (start header))
+returns-clause-parts c = λ shows line header lines events is are. safe header.gateways (after [] (history shows header nothing events))
+    (lawful-history shows header nothing events (header-read line header is) (lines-read header lines events are) (start header))
 
 pub returns-clause-end : goal.returns-clause-end
-returns-clause-end c = λ shows line header lines events is are. last-history shows header nothing events (header-read line header is) (lines-read header lines events are) (start header)
+returns-clause-end c = λ shows line header lines events is are. last-history shows header nothing events (header-read line header is)
+    (lines-read header lines events are) (start header)

@@ -8,6 +8,7 @@ use Rattle.hist_sessions.proofs.laws.pipes_follow_histories.Goals as goal
 pub returns : goal.returns
 returns c = record {
   acts = pipe-follows;
-  history = λ shows header es request response line g i k. pipe-follows request response line g [] (history shows header nothing es) (keep-history shows header nothing es i k (start header) tt);
+  history = λ shows header es request response line g i k. pipe-follows request response line g [] (history shows header nothing es)
+      (keep-history shows header nothing es i k (start header) tt);
   down = down-is;
 }

@@ -23,7 +23,8 @@ loop-rest-preserved c =
     }
 
 pub returns-then-next-eq44-clause-upper : goal.returns-then-next-eq44-clause-upper
-returns-then-next-eq44-clause-upper c = sym c.loop-rest.invariant.upper ∙ upper_of-fragment c.loop-rest.next c.loop-rest.rest.now c.if-next-eq44.true
+returns-then-next-eq44-clause-upper c = sym c.loop-rest.invariant.upper ∙ upper_of-fragment c.loop-rest.next c.loop-rest.rest.now
+    c.if-next-eq44.true
 
 pub returns-clause-upper : goal.returns-clause-upper
 returns-clause-upper c =

@@ -6,7 +6,9 @@ use Rattle.json_codec.proofs.BodyLaws.{body_ok, body_of}
 use Rattle.json_codec.proofs.laws.commands_are_accepted.Goals as goal
 
 pub returns-clause-sound : goal.returns-clause-sound
-returns-clause-sound c = λ op body x lawful h. body_ok (command_in op) (λ d. IsCommand op x d × (command_fault x ≡ None)) x (λ d k. command_ok op x d lawful k) body h
+returns-clause-sound c = λ op body x lawful h. body_ok (command_in op) (λ d. IsCommand op x d × (command_fault x ≡ None)) x
+    (λ d k. command_ok op x d lawful k) body h
 
 pub returns-clause-complete : goal.returns-clause-complete
-returns-clause-complete c = λ op body x h. body_of (command_in op) (λ d. IsCommand op x d × (command_fault x ≡ None)) x (λ d k. command_back op x d k.0 k.1) body h
+returns-clause-complete c = λ op body x h. body_of (command_in op) (λ d. IsCommand op x d × (command_fault x ≡ None)) x
+    (λ d k. command_back op x d k.0 k.1) body h

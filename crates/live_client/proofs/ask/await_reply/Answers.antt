@@ -22,12 +22,14 @@ turns-init g c =
 pub returns-in-Ok-Some-clause-replied : goal.returns-in-Ok-Some-clause-replied
 returns-in-Ok-Some-clause-replied g c =
     let brings = rw c.in-Ok-Some.field-0-is at c.in-Ok-Some.ensures.brings in
-    replied_told _ _ _ c.turns._turn c.args.turns c.turns.reading.octets.items c.read_once.new.reading.octets.items c.read_once.new.reading.feeder
+    replied_told _ _ _ c.turns._turn c.args.turns c.turns.reading.octets.items c.read_once.new.reading.octets.items
+        c.read_once.new.reading.feeder
     c.in-Ok-Some.told c.turns.invariant.gave c.turns-test.true brings
 
 pub returns-in-Err-clause-replied : goal.returns-in-Err-clause-replied
 returns-in-Err-clause-replied g c =
-    replied_fault _ _ _ c.turns._turn c.args.turns c.turns.reading.octets.items c.read_once.new.reading.octets.items c.read_once.new.reading.feeder
+    replied_fault _ _ _ c.turns._turn c.args.turns c.turns.reading.octets.items c.read_once.new.reading.octets.items
+        c.read_once.new.reading.feeder
     c.in-Err.fault c.turns.invariant.gave c.turns-test.true c.turns.invariant.waiting.waits c.in-Err.ensures.brings
 
 pub turns-preserved : goal.turns-preserved
@@ -36,13 +38,16 @@ turns-preserved g c =
     let was = c.turns.invariant in
     record {
       waiting = brings.1;
-      gave = gave_more _ _ _ c.turns._turn c.turns.reading.octets.items c.read_once.new.reading.octets.items c.read_once.new.reading.feeder was.gave brings;
+      gave = gave_more _ _ _ c.turns._turn c.turns.reading.octets.items c.read_once.new.reading.octets.items c.read_once.new.reading.feeder
+          was.gave brings;
       room = omega (arith, c.read_once.auto.buf, was.room);
       known = omega (arith, was.known, c.in-Ok-None.ensures.peers);
       up = c.in-Ok-None.ensures.up;
       kept = c.in-Ok-None.ensures.link.kept refl ∙ was.kept;
       calm = c.in-Ok-None.ensures.link.last;
-      others = (λ k other. c.in-Ok-None.ensures.others.0 k other ∙ was.others.0 k other, λ k other. c.in-Ok-None.ensures.others.1 k other ∙ was.others.1 k other);
-      counts = (λ k other. c.in-Ok-None.ensures.counts.0 k other ∙ was.counts.0 k other, λ k other. c.in-Ok-None.ensures.counts.1 k other ∙ was.counts.1 k other);
+      others = (λ k other. c.in-Ok-None.ensures.others.0 k other ∙ was.others.0 k other, λ k other. c.in-Ok-None.ensures.others.1 k other
+          ∙ was.others.1 k other);
+      counts = (λ k other. c.in-Ok-None.ensures.counts.0 k other ∙ was.counts.0 k other, λ k other. c.in-Ok-None.ensures.counts.1 k other
+          ∙ was.counts.1 k other);
       peers = c.in-Ok-None.ensures.peers ∙ was.peers;
     }

@@ -14,7 +14,9 @@ invariant-turns g l = record {
   up : g.L.Dialer.is_up l.dialer 0 ≡ true;
   kept : g.L.Dialer.faults l.dialer 0 ≡ g.L.Dialer.faults l.initial.dialer 0;
   calm : IfSome (g.L.Dialer.last_failed l.dialer 0) (λ failed. failed ≡ false);
-  others : StaysBut 0 (g.L.Dialer.held l.initial.dialer) (g.L.Dialer.held l.dialer) × StaysBut 0 (g.L.Dialer.is_up l.initial.dialer) (g.L.Dialer.is_up l.dialer);
-  counts : StaysBut 0 (g.L.Dialer.faults l.initial.dialer) (g.L.Dialer.faults l.dialer) × StaysBut 0 (g.L.Dialer.last_failed l.initial.dialer) (g.L.Dialer.last_failed l.dialer);
+  others : StaysBut 0 (g.L.Dialer.held l.initial.dialer) (g.L.Dialer.held l.dialer)
+      × StaysBut 0 (g.L.Dialer.is_up l.initial.dialer) (g.L.Dialer.is_up l.dialer);
+  counts : StaysBut 0 (g.L.Dialer.faults l.initial.dialer) (g.L.Dialer.faults l.dialer)
+      × StaysBut 0 (g.L.Dialer.last_failed l.initial.dialer) (g.L.Dialer.last_failed l.dialer);
   peers : g.L.Dialer.peers l.dialer ≡ g.L.Dialer.peers l.initial.dialer;
 }

@@ -4,7 +4,8 @@ use Rattle.std.proofs.lemmas.Grind.{common_steps}
 use Rattle.live_commands.proofs.Gaining.{gains_more}
 use Rattle.live_commands.proofs.output.write_all.Goals as goal
 
-front_and_rest : (front rest : List ℕ) (n : ℕ) (tail piece : List ℕ) → tail ≡ drop n rest → front ++ rest ≡ piece → (front ++ take n rest) ++ tail ≡ piece
+front_and_rest : (front rest : List ℕ) (n : ℕ) (tail piece : List ℕ) → tail ≡ drop n rest → front ++ rest ≡ piece → (front ++ take n rest)
+    ++ tail ≡ piece
 front_and_rest front rest n tail piece t e = grind (arith, common_steps)
 
 front_and_more : (front rest : List ℕ) (n : ℕ) (piece : List ℕ) → front ++ rest ≡ piece → (front ++ take n rest) ++ drop n rest ≡ piece
@@ -15,7 +16,8 @@ loop-rest-preserved g c =
     let old = c.loop-rest.invariant.so_far in
     let cut : c.split_at.result.1.now ≡ drop c.in-Ok.n c.loop-rest.rest.now = cc in
     record {
-      so_far = (old.0 ++ take c.in-Ok.n c.loop-rest.rest.now, front_and_rest old.0 c.loop-rest.rest.now c.in-Ok.n c.split_at.result.1.now c.args.piece.now cut old.1, gains_more _ _ _ _ _ old.2 c.in-Ok.ensures.takes.octets);
+      so_far = (old.0 ++ take c.in-Ok.n c.loop-rest.rest.now, front_and_rest old.0 c.loop-rest.rest.now c.in-Ok.n c.split_at.result.1.now
+          c.args.piece.now cut old.1, gains_more _ _ _ _ _ old.2 c.in-Ok.ensures.takes.octets);
       kept = c.in-Ok.ensures.cause.kept refl ∙ c.loop-rest.invariant.kept;
       calm = λ before. c.in-Ok.ensures.outcome;
     }

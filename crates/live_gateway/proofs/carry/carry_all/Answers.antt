@@ -10,7 +10,8 @@ loop-act-preserved g c =
     let lt : c.loop-act.act-index < length c.as_slice-act-items.result.now = omega arith in
     record {
       gateway = c.in-Ok.ensures.gateway ∙ inv.gateway;
-      carries = carries-step c.args.node.now.gateway.kept.clock c.as_slice-act-items.result.now c.loop-act.act-index c.act-item.result _ _ _ _ _ _ lt
+      carries = carries-step c.args.node.now.gateway.kept.clock c.as_slice-act-items.result.now c.loop-act.act-index c.act-item.result _ _ _
+          _ _ _ lt
           c.act-item.is inv.carries
           (carries-as _ _ _ _ _ _ _ _ _ (ap (λ (z : Core). z.kept.clock) inv.gateway) refl refl c.in-Ok.ensures.carries);
       may = c.in-Ok.ensures.may;

@@ -9,4 +9,5 @@ pub returns-clause-acts : goal.returns-clause-acts
 returns-clause-acts c = run-acts
 
 pub returns-clause-history : goal.returns-clause-history
-returns-clause-history c = λ config g start past found. c.runs_follow.ensures.begun config g (happened past) (found-tunnels config start past found)
+returns-clause-history c = λ config g start past found. c.runs_follow.ensures.begun config g (happened past)
+    (found-tunnels config start past found)

@@ -10,7 +10,8 @@ returns-in-Ok-clause-goes g c =
     let second = goes cfg start _ first.1 in (first.0, second.0, second.1, second.2, second.3)) c.read_session.ensures.goes
 
 pub returns-in-Ok-clause-later : goal.returns-in-Ok-clause-later
-returns-in-Ok-clause-later g c = on_ok_weaker c.read_session.result (λ later. later-on _ _ _ c.in-Ok.ensures.later later) c.read_session.ensures.later
+returns-in-Ok-clause-later g c = on_ok_weaker c.read_session.result (λ later. later-on _ _ _ c.in-Ok.ensures.later later)
+    c.read_session.ensures.later
 
 pub returns-in-Ok-clause-inside_tells : goal.returns-in-Ok-clause-inside_tells
 returns-in-Ok-clause-inside_tells g c = tells_on _ _ _ _ _ _ _ c.in-Ok.ensures.inside_tells c.read_session.ensures.inside_tells

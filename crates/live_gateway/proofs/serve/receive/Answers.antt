@@ -10,7 +10,8 @@ returns-in-Ok-clause-goes g c =
     let second = goes cfg start _ first.1 in (first.0, second.0, second.1)) c.receive_outside.ensures.goes
 
 pub returns-in-Ok-clause-later : goal.returns-in-Ok-clause-later
-returns-in-Ok-clause-later g c = on_ok_weaker c.receive_outside.result (λ later. later-on _ _ _ c.in-Ok.ensures.later later) c.receive_outside.ensures.later
+returns-in-Ok-clause-later g c = on_ok_weaker c.receive_outside.result (λ later. later-on _ _ _ c.in-Ok.ensures.later later)
+    c.receive_outside.ensures.later
 
 pub returns-in-Ok-clause-inside_tells : goal.returns-in-Ok-clause-inside_tells
 returns-in-Ok-clause-inside_tells g c = tells_on _ _ _ _ _ _ _ c.in-Ok.ensures.inside_tells c.receive_outside.ensures.inside_tells

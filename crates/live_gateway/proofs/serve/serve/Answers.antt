@@ -6,7 +6,8 @@ use Rattle.live_gateway.proofs.serve.serve.Goals as goal
 
 pub turns-preserved : goal.turns-preserved
 turns-preserved g c = record {
-  served = turns-on c.readers_hold.ensures _ _ _ _ _ _ _ _ _ _ _ _ c.turns.invariant.later c.in-Ok.ensures.later c.in-Ok.ensures.goes c.turns.invariant.served;
+  served = turns-on c.readers_hold.ensures _ _ _ _ _ _ _ _ _ _ _ _ c.turns.invariant.later c.in-Ok.ensures.later c.in-Ok.ensures.goes
+      c.turns.invariant.served;
   size = let size = c.turns.invariant.size in let kept = c.turn.auto.buf in omega (arith, size, kept);
   later = later-on _ _ _ c.turns.invariant.later c.in-Ok.ensures.later;
   may = c.in-Ok.ensures.may;

@@ -7,7 +7,8 @@ use Rattle.live_gateway.proofs.Telling.{on_ok, stays_same, tells_same}
 use Rattle.live_gateway.proofs.session.handle.Goals as goal
 
 pub returns-in-Ok-clause-does : goal.returns-in-Ok-clause-does
-returns-in-Ok-clause-does g c = on_ok_weaker c.happen.result (λ does. does-as _ _ _ _ _ _ _ _ (ap Handle c.in-Ok.ensures.ask) does) c.happen.ensures.does
+returns-in-Ok-clause-does g c = on_ok_weaker c.happen.result (λ does. does-as _ _ _ _ _ _ _ _ (ap Handle c.in-Ok.ensures.ask) does)
+    c.happen.ensures.does
 
 pub returns-in-Ok-clause-tunnel : goal.returns-in-Ok-clause-tunnel
 returns-in-Ok-clause-tunnel g c = on_ok c.happen.result (subst IsTunnelled c.in-Ok.ensures.ask c.in-Ok.ensures.tunnel)

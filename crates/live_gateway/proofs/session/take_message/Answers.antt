@@ -20,7 +20,8 @@ returns-in-Ok-clause-goes g c = λ cfg start past st.
     let feeds = rw c.in-Ok-Message.field-0-is at c.in-Ok-Message.ensures.feeds in (
       Message c.in-Ok-Message.message ∷ [],
       tt,
-      message-goes cfg start _ _ past c.args.piece.now c.in-Ok-Message.message c.in-Ok-Message.taken _ _ _ _ _ feeds c.in-Ok.ensures.tunnel st
+      message-goes cfg start _ _ past c.args.piece.now c.in-Ok-Message.message c.in-Ok-Message.taken _ _ _ _ _ feeds c.in-Ok.ensures.tunnel
+          st
           c.in-Ok.ensures.does,
     )
 
@@ -30,6 +31,7 @@ returns-in-Ok-end_by-clause-goes g c = λ cfg start past st.
     let does = c.in-Ok-end_by.ensures.does in (
       Broken c.in-Ok-Fault.fault ∷ [],
       tt,
-      broken-goes c.readers_hold.ensures cfg start _ _ past c.args.piece.now _ c.in-Ok-Fault.fault _ _ _ _ does.0 _ feeds c.in-Ok-end_by.ensures.ended
+      broken-goes c.readers_hold.ensures cfg start _ _ past c.args.piece.now _ c.in-Ok-Fault.fault _ _ _ _ does.0 _ feeds
+          c.in-Ok-end_by.ensures.ended
           st does.1,
     )

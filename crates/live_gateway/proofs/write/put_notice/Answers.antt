@@ -4,7 +4,8 @@ use Rattle.live_gateway.proofs.Telling.{stays_same}
 use Rattle.live_gateway.proofs.write.put_notice.Goals as goal
 
 pub returns-in-Ok-clause-wrote : goal.returns-in-Ok-clause-wrote
-returns-in-Ok-clause-wrote g c = λ calm. notes-makes (g.D.Dock.held c.args.dock.now) (g.D.Dock.held c.write_notice.new.self) c.args.octets.now c.in-Ok.ensures.takes
+returns-in-Ok-clause-wrote g c = λ calm. notes-makes (g.D.Dock.held c.args.dock.now) (g.D.Dock.held c.write_notice.new.self)
+    c.args.octets.now c.in-Ok.ensures.takes
 
 pub returns-in-Ok-clause-session : goal.returns-in-Ok-clause-session
 returns-in-Ok-clause-session g c = stays_same c.args.session.now

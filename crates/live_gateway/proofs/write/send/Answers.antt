@@ -3,7 +3,8 @@ use Rattle.live_gateway.proofs.Telling.{tells_failed, tells_passed}
 use Rattle.live_gateway.proofs.write.send.Goals as goal
 
 pub returns-in-Ok-clause-sent : goal.returns-in-Ok-clause-sent
-returns-in-Ok-clause-sent g c = sends-makes (g.W.Wire.held c.args.wire.now) (g.W.Wire.held c.send.new.self) c.args.octets.now c.in-Ok.ensures.takes
+returns-in-Ok-clause-sent g c = sends-makes (g.W.Wire.held c.args.wire.now) (g.W.Wire.held c.send.new.self) c.args.octets.now
+    c.in-Ok.ensures.takes
 
 pub returns-in-Ok-clause-tells : goal.returns-in-Ok-clause-tells
 returns-in-Ok-clause-tells g c = tells_passed _ _ _ _ _ c.in-Ok.ensures.cause c.in-Ok.ensures.outcome

@@ -4,4 +4,5 @@ use Rattle.rc_http.proofs.AnswerLemmas.{response_read_again}
 use Rattle.rc_http.proofs.write.write_response.Goals as goal
 
 pub returns-clause-again : goal.returns-clause-again
-returns-clause-again c = λ rest. response_read_again c.args.m.now c.from_items.result rest c.requires (c.from_items.ensures ∙ c.in_ok-put_response.ensures ∙ ap (λ l. l ++ response_text c.args.m.now) c.new-out.ensures.items)
+returns-clause-again c = λ rest. response_read_again c.args.m.now c.from_items.result rest c.requires (c.from_items.ensures
+    ∙ c.in_ok-put_response.ensures ∙ ap (λ l. l ++ response_text c.args.m.now) c.new-out.ensures.items)

@@ -37,10 +37,13 @@ loop-block-init c = record {
 pub loop-block-preserved : goal.loop-block-preserved
 loop-block-preserved c = record {
   len = length-set c.loop-block.words c.word_of-i.result 0 ∙ c.loop-block.invariant.len;
-  bits = λ k. one-more c.args.words.now c.loop-block.words c.args.first c.loop-block.block c.word_of-i.result k c.loop-block.invariant.len c.word_of-i.ensures.place c.word_of-i.ensures.within c.loop-block.auto.block (c.loop-block.invariant.bits k);
+  bits = λ k. one-more c.args.words.now c.loop-block.words c.args.first c.loop-block.block c.word_of-i.result k c.loop-block.invariant.len
+      c.word_of-i.ensures.place c.word_of-i.ensures.within c.loop-block.auto.block (c.loop-block.invariant.bits k);
 }
 
 pub returns-clause-bits : goal.returns-clause-bits
 returns-clause-bits c = λ k.
     let end : c.loop-block.block ≡ c.args.end = omega arith in
-    c.loop-block.invariant.bits k ∙ ap (λ e. not (is_block_word (length c.args.words.now) c.args.first (e - c.args.first) (k / 64 % length c.args.words.now)) && is_bit_set c.args.words.now k) end
+    c.loop-block.invariant.bits k
+        ∙ ap (λ e. not (is_block_word (length c.args.words.now) c.args.first (e - c.args.first) (k / 64 % length c.args.words.now))
+        && is_bit_set c.args.words.now k) end

@@ -4,10 +4,12 @@ use Rattle.replay_win.proofs.Held.{set-held, set-ahead, begin-held, first-passed
 use Rattle.replay_win.proofs.bitmap.mark_bit.Goals as goal
 
 pub returns-then-block-newest-clause-ahead : goal.returns-then-block-newest-clause-ahead
-returns-then-block-newest-clause-ahead c = set-ahead c.args.words.now _ (length c.args.words.now) c.args.top c.args.s c.requires.some c.requires.near (omega arith) c.requires.ahead c.set.ensures.bits
+returns-then-block-newest-clause-ahead c = set-ahead c.args.words.now _ (length c.args.words.now) c.args.top c.args.s c.requires.some
+    c.requires.near (omega arith) c.requires.ahead c.set.ensures.bits
 
 pub returns-then-block-newest-clause-held : goal.returns-then-block-newest-clause-held
-returns-then-block-newest-clause-held c = set-held c.args.words.now _ (length c.args.words.now) c.args.top c.args.s refl c.requires.some c.requires.near (omega arith) c.requires.ahead c.set.ensures.bits
+returns-then-block-newest-clause-held c = set-held c.args.words.now _ (length c.args.words.now) c.args.top c.args.s refl c.requires.some
+    c.requires.near (omega arith) c.requires.ahead c.set.ensures.bits
 
 pub returns-clause-held : goal.returns-clause-held
 returns-clause-held c = λ k within.

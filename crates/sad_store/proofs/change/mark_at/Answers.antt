@@ -8,4 +8,5 @@ returns c =
     let xs = c.args.halves.now.items in
     let i = c.args.i in
     let x = c.index_mut.result.now in
-    ap (λ w. slice_set xs i (with_window w x)) c.mark.ensures ∙ ap (λ z. slice_set xs i (mark_number c.args.s z)) c.index_mut.ensures.value ∙ changed-at (mark_number c.args.s) xs i x
+    ap (λ w. slice_set xs i (with_window w x)) c.mark.ensures ∙ ap (λ z. slice_set xs i (mark_number c.args.s z)) c.index_mut.ensures.value
+        ∙ changed-at (mark_number c.args.s) xs i x

@@ -12,7 +12,8 @@ loop-i-preserved c =
     let within : j < length c.args.keys.now = omega arith in
     record {
       front = omega arith;
-      rest = last-back c.args.key c.args.keys.now i j false next within c.loop-i.invariant.rest (c.is_at.ensures ∙ ap Some c.if-is_at.false);
+      rest = last-back c.args.key c.args.keys.now i j false next within c.loop-i.invariant.rest (c.is_at.ensures
+          ∙ ap Some c.if-is_at.false);
     }
 
 pub returns-then-is_at : goal.returns-then-is_at

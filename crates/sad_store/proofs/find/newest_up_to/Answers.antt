@@ -13,7 +13,8 @@ loop-i-preserved c =
     let within : j < length c.args.halves.now = omega arith in
     record {
       front = omega arith;
-      rest = newest-back c.args.reqid (seen c.args.v.now) c.args.halves.now i j false next within c.loop-i.invariant.rest (c.seals_at.ensures ∙ ap Some c.if-seals_at.false);
+      rest = newest-back c.args.reqid (seen c.args.v.now) c.args.halves.now i j false next within c.loop-i.invariant.rest
+          (c.seals_at.ensures ∙ ap Some c.if-seals_at.false);
     }
 
 pub returns-then-seals_at : goal.returns-then-seals_at
@@ -24,4 +25,5 @@ returns-then-seals_at c =
     let some = c.loop-i-test.true in
     let next : j + 1 ≡ i = omega arith in
     let within : j < length c.args.halves.now = omega arith in
-    sym (newest-back c.args.reqid (seen c.args.v.now) c.args.halves.now i j true next within c.loop-i.invariant.rest (c.seals_at.ensures ∙ ap Some c.if-seals_at.true))
+    sym (newest-back c.args.reqid (seen c.args.v.now) c.args.halves.now i j true next within c.loop-i.invariant.rest (c.seals_at.ensures
+        ∙ ap Some c.if-seals_at.true))

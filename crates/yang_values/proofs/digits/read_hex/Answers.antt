@@ -15,14 +15,16 @@ hex_of_parts t read some e = rw (← some) (ap some_or_form e)
 pub returns-in_default-pair : goal.returns-in_default-pair
 returns-in_default-pair c =
     hex_of_parts _ _ c.if-is_empty.ensures
-    (next_none is_colon pair_of _ _ _ _ _ (option_copied c.first_part.result.1) c.loop-rest.invariant (ap option_copied c.in-Some.is) c.first_part.ensures.value (sym c.in_default-pair.ensures))
+    (next_none is_colon pair_of _ _ _ _ _ (option_copied c.first_part.result.1) c.loop-rest.invariant (ap option_copied c.in-Some.is)
+        c.first_part.ensures.value (sym c.in_default-pair.ensures))
 
 pub loop-rest-preserved : goal.loop-rest-preserved
 loop-rest-preserved c =
     let pushed : c.push.new.self.items ≡ c.loop-rest.octets.items ++ c.in-Some-pair.octet ∷ [] =
     c.push.ensures.items ∙ rw c.if-is_err.ensures.negation refl in
     rw pushed
-    (next_value is_colon pair_of _ _ _ _ _ (option_copied c.first_part.result.1) _ c.loop-rest.invariant (ap option_copied c.in-Some.is) c.first_part.ensures.value (sym c.in-Some-pair.ensures))
+    (next_value is_colon pair_of _ _ _ _ _ (option_copied c.first_part.result.1) _ c.loop-rest.invariant (ap option_copied c.in-Some.is)
+        c.first_part.ensures.value (sym c.in-Some-pair.ensures))
 
 pub returns : goal.returns
 returns c =

@@ -10,7 +10,8 @@ use Rattle.yang_values.proofs.groups.read_groups.Given as goal
 -- the groups so far and those of the parts left are those of all parts
 abbrev pub invariant-loop-rest : goal.invariant-loop-rest
 invariant-loop-rest l = record {
-  so_far : with_front (take l.count l.items) (each group_of (parts_in is_colon (option_copied l.rest))) ≡ each group_of (slice_split is_colon l.t);
+  so_far : with_front (take l.count l.items) (each group_of (parts_in is_colon (option_copied l.rest))) ≡ each group_of
+      (slice_split is_colon l.t);
   room : l.count ≤ 8;
   size : length l.items ≡ 8;
 }

@@ -9,7 +9,8 @@ use Rattle.yang_values.proofs.laws.hex_read_again.Goals as goal
 
 -- a pair has no colon
 no_colon : (octet : ℕ) → octet < 256 → All (λ c. is_colon c ≡ false) (pair_text octet)
-no_colon octet small = lacks_mark is_ascii_hexdigit is_colon (λ c. apart is_ascii_hexdigit c 58 refl) (pair_text octet) (pair_digits octet small)
+no_colon octet small = lacks_mark is_ascii_hexdigit is_colon (λ c. apart is_ascii_hexdigit c 58 refl) (pair_text octet)
+    (pair_digits octet small)
 
 again : (octets : List ℕ) → AllByRecursion (λ o. o < 256) octets → hex_of (hex_colons octets) ≡ Ok octets
 unfolding hex_of

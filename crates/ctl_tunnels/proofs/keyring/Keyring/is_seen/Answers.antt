@@ -5,4 +5,5 @@ use Rattle.ctl_tunnels.proofs.Keys.{seen-lookup}
 use Rattle.ctl_tunnels.proofs.keyring.Keyring.is_seen.Goals as goal
 
 pub returns : goal.returns
-returns c = c.contains_key.ensures ∙ seen-lookup (λ v. v.items) salt_octets (λ _. refl) c.args.key.now c.aes_key.result.now c.aes_key.ensures c.self.inside.salts.entries ∙ ap (is_seen c.args.key.now) c.self.view_is
+returns c = c.contains_key.ensures ∙ seen-lookup (λ v. v.items) salt_octets (λ _. refl) c.args.key.now c.aes_key.result.now
+    c.aes_key.ensures c.self.inside.salts.entries ∙ ap (is_seen c.args.key.now) c.self.view_is

@@ -7,4 +7,5 @@ use Rattle.sad_store.proofs.store.SadStore.next_number.Goals as goal
 pub invariant_of-self : goal.invariant_of-self
 invariant_of-self c =
     let s = c.self.inside in
-    stored-same s.halves.items c.number.new.halves.items s.spis s.reqids (ap entries_of c.number.ensures.halves ∙ changed-entries number_next (λ x. refl) c.args.i s.halves.items) c.self.invariant
+    stored-same s.halves.items c.number.new.halves.items s.spis s.reqids (ap entries_of c.number.ensures.halves
+        ∙ changed-entries number_next (λ x. refl) c.args.i s.halves.items) c.self.invariant

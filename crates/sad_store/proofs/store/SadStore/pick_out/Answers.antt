@@ -9,4 +9,5 @@ returns-clause-half c =
     let xs = c.args.self.now in
     let r = c.args.reqid in
     let v = seen c.args.v.now in
-    ap (λ place. option_and_then (slice_get xs) place) (c.newest_of.ensures ∙ ap (newest_place r v) (c.deref.ensures.value ∙ c.self.view_is)) ∙ newest-there r v xs
+    ap (λ place. option_and_then (slice_get xs) place) (c.newest_of.ensures
+        ∙ ap (newest_place r v) (c.deref.ensures.value ∙ c.self.view_is)) ∙ newest-there r v xs

@@ -7,4 +7,5 @@ use Rattle.sad_store.proofs.store.SadStore.tick.Goals as goal
 pub invariant_of-self : goal.invariant_of-self
 invariant_of-self c =
     let s = c.self.inside in
-    stored-same s.halves.items c.tick_at.new.halves.items s.spis s.reqids (ap entries_of c.tick_at.ensures.halves ∙ changed-entries (look_at c.args.now) (λ x. refl) c.args.i s.halves.items) c.self.invariant
+    stored-same s.halves.items c.tick_at.new.halves.items s.spis s.reqids (ap entries_of c.tick_at.ensures.halves
+        ∙ changed-entries (look_at c.args.now) (λ x. refl) c.args.i s.halves.items) c.self.invariant

@@ -8,4 +8,5 @@ invariant-loop-message l =
     (goal.iterator-loop-message).can_next l.message-iterator ×
     (goal.iterator-loop-message).is_finite l.message-iterator ×
     (length l.octets.items ≤ l.k) ×
-    (take l.k (l.octets.items ++ flat_map (λ message. message) (deque_iter_rest l.message-iterator)) ≡ take l.k (flat_map (λ message. message) l.fn.self))
+    (take l.k (l.octets.items ++ flat_map (λ message. message) (deque_iter_rest l.message-iterator)) ≡ take l.k
+        (flat_map (λ message. message) l.fn.self))
