@@ -63,7 +63,7 @@ pair-small high low i b e =
     bound (b < 256) (value_at high i) (λ h. value_at low (i + 1) >>= (λ l. Ok (h * 16 + l))) b e
     (λ h first more. bound (b < 256) (value_at low (i + 1)) (λ l. Ok (h * 16 + l)) b more
     (λ l second same. let s : h * 16 + l ≡ b = cc in let p = value-small high i h first in let q = value-small low (i + 1) l second in
-        omega (arith, s, p, q)))
+    omega (arith, s, p, q)))
 
 pairs-each : (i : ℕ) (text octets : List ℕ) → decode_pairs i text ≡ Ok octets → AllByRecursion IsOctet octets
 unfolding decode_pairs
@@ -74,7 +74,7 @@ pairs-each i (high ∷ low ∷ rest) octets e =
     bound P (pair_value high low i) (λ b. decode_pairs (i + 2) rest >>= (λ bs. Ok (b ∷ bs))) octets e
     (λ b first more. bound P (decode_pairs (i + 2) rest) (λ bs. Ok (b ∷ bs)) octets more
     (λ bs later same. let s : b ∷ bs ≡ octets = cc in
-        subst (AllByRecursion IsOctet) s (pair-small high low i b first, pairs-each (i + 2) rest bs later)))
+    subst (AllByRecursion IsOctet) s (pair-small high low i b first, pairs-each (i + 2) rest bs later)))
 
 formed : (r : Result (List ℕ) FromHexError) (octets : List ℕ) → or_form r ≡ Ok octets → r ≡ Ok octets
 formed (Ok x) octets e = let s : x ≡ octets = cc in ap Ok s
@@ -197,7 +197,7 @@ between-some (Some x) None out f b t = cc
 between-some (Some x) (Some y) out f b t =
     kept-if (nat_lt (length x + length y) 8) (x ++ replicate (8 - (length x + length y)) 0 ++ y) out
     (each-append IsGroup (x ++ replicate (8 - (length x + length y)) 0) y (each-append IsGroup x (replicate (8 - (length x + length y)) 0)
-        (f x refl) (zeros (8 - (length x + length y)))) (b y refl)) t
+    (f x refl) (zeros (8 - (length x + length y)))) (b y refl)) t
 
 eight-small : (t : List ℕ) (k : Option ℕ) (out : List ℕ) → eight_from t k ≡ Some out → AllByRecursion IsGroup out
 unfolding eight_from

@@ -137,7 +137,7 @@ half-spelled : (gs : List Peer) (g b : List ℕ) (h : List Act) → Comes gs g b
 half-spelled gs g b h c None q =
     dropped gs g _ why.BadSpi c.known
     (unless-spelled gs (does_bad_spi_stand g (spi_of b) h) (tells g h (notices.BadSpi (spi_of b)))
-        (told-spelled gs g h (notices.BadSpi (spi_of b)) c.known c.past (tt, spi-small b c.octets)))
+    (told-spelled gs g h (notices.BadSpi (spi_of b)) c.known c.past (tt, spi-small b c.octets)))
 half-spelled gs g b h c (Some e) q =
     let good = found-good (λ d. is_inbound d.name && (d.spi == spi_of b)) (live g h) e (live-good gs g h c.past) q in
     let n : ℕ = number_of e (numbers_taken g e.name h) b in

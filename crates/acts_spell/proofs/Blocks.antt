@@ -128,7 +128,7 @@ heard header p e g (Some x) m k n a =
     let f : ℕ = peer_number g header.gateways in
     let i = number-small header.gateways g k in
     let next : next_answer (peer_name header.gateways f) p.world ≡ Some x =
-        ap (λ (z : List ℕ). next_answer z p.world) (name-number g header.gateways i) ∙ n in
+    ap (λ (z : List ℕ). next_answer z p.world) (name-number g header.gateways i) ∙ n in
     let s = m.told.lawful in
     controlled header p e (controller.Answers f x) m
     (next-plain header.gateways p.world p.controller f x s.lawful m.told.replied s.meet m.spelled.sound.named i next) a
@@ -245,7 +245,7 @@ told-after header p e m f =
     let s = step (under_way header) header p e m.spelled.sound k m.told.lawful f in
     let keeps = keep-block (under_way header) header p e m.spelled.sound k m.told.lawful m.told.sessions in
     let more : List Act = gateway_acts (under_way header) header (took p.world) e ++ all_told header.gateways (controller_acts header p e)
-        in
+    in
     let good = (controls header p e m).good in
     record {
       lawful = s.stands;
@@ -256,7 +256,7 @@ told-after header p e m f =
       accepted = good.spelled;
       spelled = All-from_recursion (IsSpelled header.gateways) (after p.world (block (under_way header) header p e))
           (each-after (IsSpelled header.gateways) p.world (block (under_way header) header p e) (world-spelled header p m.told)
-              (block-spelled header p e m));
+          (block-spelled header p e m));
       few = λ g. few-after keeps-before g (events_taken p.world + 1) p.world more (m.told.few g) (block-count header p e m) keeps;
     }
 

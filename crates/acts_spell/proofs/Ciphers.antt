@@ -54,7 +54,7 @@ turned-octets n i t h =
     let z : 0 < 256 = omega arith in
     either (i % n == 0) _ _
     (added (sub_word (rotate_word t)) (c ∷ 0 ∷ 0 ∷ 0 ∷ []) (sub-word (rotate_word t))
-        (of-each (c ∷ 0 ∷ 0 ∷ 0 ∷ []) (constant-octet (i / n - 1), (z, (z, (z, tt))))))
+    (of-each (c ∷ 0 ∷ 0 ∷ 0 ∷ []) (constant-octet (i / n - 1), (z, (z, (z, tt))))))
     (either (n == 8) _ _ (either (i % 8 == 4) _ _ (sub-word t) h) h)
 
 first-words : (k : List ℕ) (n : ℕ) → AreOctets k → AreWords (first_words k n)
@@ -87,7 +87,7 @@ keyed : (ws : List (List ℕ)) (i : ℕ) (b : List ℕ) → AreWords ws → AreO
 keyed ws i b h o =
     mapped (λ k. bit_xor (octet b (k % 4) (k / 4)) (slice_index (slice_index_or ws (4 * i + k / 4) []) (k % 4))) (range_with_len 0 16)
     (λ k. xor-octet (octet b (k % 4) (k / 4)) (slice_index (slice_index_or ws (4 * i + k / 4) []) (k % 4))
-        (octet-at b (k % 4 + 4 * (k / 4)) o)
+    (octet-at b (k % 4 + 4 * (k / 4)) o)
     (octet-at (slice_index_or ws (4 * i + k / 4) []) (k % 4) (word-at ws (4 * i + k / 4) h)))
 
 ciphered : (ws : List (List ℕ)) (n : ℕ) (b : List ℕ) → AreWords ws → AreOctets (cipher ws n b)
@@ -120,7 +120,7 @@ pub sealed-octets : (e : List ℕ → List ℕ) (nonce p : List ℕ) → IsCiphe
 unfolding sealed
 sealed-octets e nonce p c h = mapped (λ k. bit_xor (slice_index p k) (stream e nonce k)) (range_with_len 0 (length p))
     (λ k. xor-octet (slice_index p k) (stream e nonce k) (octet-at p k h) (octet-at (e (counter nonce (k / 16 + 1))) (k % 16)
-        (c (counter nonce (k / 16 + 1)))))
+    (c (counter nonce (k / 16 + 1)))))
 
 tag-octets : (e : List ℕ → List ℕ) (nonce aad t : List ℕ) → IsCipher e → AreOctets (tag_of e nonce aad t)
 unfolding tag_of
@@ -129,7 +129,7 @@ tag-octets e nonce aad t c =
     let b : List ℕ = block_of (ghash (hash_key e) aad t) in
     mapped (λ j. bit_xor (slice_index a j) (slice_index b j)) (range_with_len 0 16)
     (λ j. xor-octet (slice_index a j) (slice_index b j) (octet-at a j (c (counter nonce 0)))
-        (octet-at b j (block-octets (ghash (hash_key e) aad t))))
+    (octet-at b j (block-octets (ghash (hash_key e) aad t))))
 
 -- ---- ESP
 

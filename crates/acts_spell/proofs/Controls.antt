@@ -194,8 +194,14 @@ block-few ps h e l =
     let m = few-besides ps h e in
     let n = orders-count ps (block ps h e) in
     let k = short-block ps h e l in
-    record { taken = never-taken ps (block ps h e); opened = m.opened; handled = m.handled; answered = m.answered; orders =
-        omega (arith, n, k) }
+    record {
+      taken = never-taken ps (block ps h e);
+      opened = m.opened;
+      handled = m.handled;
+      answered = m.answered;
+      orders =
+          omega (arith, n, k);
+    }
 
 -- ---- names
 
@@ -255,5 +261,5 @@ all-tellable ps h [] p l f k = tt
 all-tellable ps h (a ∷ xs) p l f k =
     each-append (IsTellable ps) (told ps a) (all_told ps xs)
     (one-tellable ps h a p (past-before (length ps) (a ∷ h) xs l) (fit-before (length ps) (a ∷ h) xs f).0
-        (one-before a h (good-before (a ∷ h) xs k)))
+    (one-before a h (good-before (a ∷ h) xs k)))
     (all-tellable ps (a ∷ h) xs p l f k)

@@ -82,8 +82,14 @@ pub quiet-few : (xs : List Act) → are_quiet xs ≡ true → AreFew xs
 quiet-few xs e =
     let n = quiet-none xs e in
     let a = n.opened in let b = n.handled in let c = n.answered in let d = n.orders in
-    record { taken = n.taken; opened = omega (arith, a); handled = omega (arith, b); answered = omega (arith, c); orders =
-        omega (arith, d) }
+    record {
+      taken = n.taken;
+      opened = omega (arith, a);
+      handled = omega (arith, b);
+      answered = omega (arith, c);
+      orders =
+          omega (arith, d);
+    }
 
 -- ---- a session that isn't opened yet has none
 
@@ -133,19 +139,29 @@ opened-step m g f t h xs k r true e =
     let two : requests g (acts.Opened f t ∷ h) ≡ 0 = ap (λ (z : Bool). if z then 0 else requests g h) e in
     let new : openings g h < openings g h + 1 = omega arith in
     let three : answered g (openings g (acts.Opened f t ∷ h)) h ≡ 0 = ap (λ (z : ℕ). answered g z h) one
-        ∙ no-answers g (openings g h + 1) h k new in
+    ∙ no-answers g (openings g h + 1) h k new in
     let four : orders g (openings g (acts.Opened f t ∷ h)) h ≡ 0 = ap (λ (z : ℕ). orders g z h) one ∙ no-orders g (openings g h + 1) h k new
-        in
-    record { openings = omega (arith, one, a); handled = omega (arith, two, b); answered = omega (arith, three, c); orders =
-        omega (arith, four, d) }
+    in
+    record {
+      openings = omega (arith, one, a);
+      handled = omega (arith, two, b);
+      answered = omega (arith, three, c);
+      orders =
+          omega (arith, four, d);
+    }
 opened-step m g f t h xs k r false e =
     let a = r.openings in let b = r.handled in let c = r.answered in let d = r.orders in
     let one : openings g (acts.Opened f t ∷ h) ≡ openings g h = ap (λ (z : Bool). if z then openings g h + 1 else openings g h) e in
     let two : requests g (acts.Opened f t ∷ h) ≡ requests g h = ap (λ (z : Bool). if z then 0 else requests g h) e in
     let three : answered g (openings g (acts.Opened f t ∷ h)) h ≡ answered g (openings g h) h = ap (λ (z : ℕ). answered g z h) one in
     let four : orders g (openings g (acts.Opened f t ∷ h)) h ≡ orders g (openings g h) h = ap (λ (z : ℕ). orders g z h) one in
-    record { openings = omega (arith, one, a); handled = omega (arith, two, b); answered = omega (arith, three, c); orders =
-        omega (arith, four, d) }
+    record {
+      openings = omega (arith, one, a);
+      handled = omega (arith, two, b);
+      answered = omega (arith, three, c);
+      orders =
+          omega (arith, four, d);
+    }
 
 one-more : (b : Bool) (n m bound : ℕ) → n + (m + 1) ≤ bound → (if b then n + 1 else n) + m ≤ bound
 one-more true n m bound h = omega (arith, h)
@@ -158,17 +174,35 @@ none-more false n m bound h = h
 pub room-step : (m : ℕ) (g : List ℕ) (a : Act) (h xs : List Act) → KeepsSessions h → HasRoom m g h (a ∷ xs) → HasRoom m g (a ∷ h) xs
 room-step m g (acts.Opened f t) h xs k r = opened-step m g f t h xs k r (bytes_eq f g) refl
 room-step m g (acts.Boot f) h xs k r =
-    record { openings = r.openings; handled = none-more (bytes_eq f g) (requests g h) (count_handled xs) m r.handled; answered = r.answered;
-        orders = r.orders }
+    record {
+      openings = r.openings;
+      handled = none-more (bytes_eq f g) (requests g h) (count_handled xs) m r.handled;
+      answered = r.answered;
+      orders = r.orders;
+    }
 room-step m g (acts.Handled f t j x) h xs k r =
-    record { openings = r.openings; handled = one-more (bytes_eq f g) (requests g h) (count_handled xs) m r.handled; answered = r.answered;
-        orders = r.orders }
+    record {
+      openings = r.openings;
+      handled = one-more (bytes_eq f g) (requests g h) (count_handled xs) m r.handled;
+      answered = r.answered;
+      orders = r.orders;
+    }
 room-step m g (acts.Answered f t j x) h xs k r =
-    record { openings = r.openings; handled = r.handled; answered = one-more (is_session f t g (openings g h)) (answered g (openings g h) h)
-        (count_answered xs) m r.answered; orders = r.orders }
+    record {
+      openings = r.openings;
+      handled = r.handled;
+      answered = one-more (is_session f t g (openings g h)) (answered g (openings g h) h)
+          (count_answered xs) m r.answered;
+      orders = r.orders;
+    }
 room-step m g (acts.Order f t j o) h xs k r =
-    record { openings = r.openings; handled = r.handled; answered = r.answered; orders =
-        one-more (is_session f t g (openings g h)) (orders g (openings g h) h) (count_orders xs) (2051 * m) r.orders }
+    record {
+      openings = r.openings;
+      handled = r.handled;
+      answered = r.answered;
+      orders =
+          one-more (is_session f t g (openings g h)) (orders g (openings g h) h) (count_orders xs) (2051 * m) r.orders;
+    }
 room-step m g a h xs k r = record { openings = r.openings; handled = r.handled; answered = r.answered; orders = r.orders }
 
 -- what was counted and these few more have room

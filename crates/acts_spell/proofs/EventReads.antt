@@ -84,7 +84,7 @@ selector-read local remote proto lp rp s is =
     (λ p third more3. after P (ports_of lp) _ s more3
     (λ a fourth more4. after P (ports_of rp) _ s more4
     (λ b fifth same. subst IsTypedSelector (inside (record { local = l; remote = r; proto = p; local_ports = a; remote_ports = b }) s same)
-        (record {
+    (record {
       local = prefix-word faults.Entry local l first;
       remote = prefix-word faults.Entry remote r second;
       proto = proto-read proto p third;
@@ -112,7 +112,7 @@ use-read direction reqid action u is =
     (λ d _ more. after P (number_in faults.Entry (2 ^ 64 - 1) reqid) _ u more
     (λ n read more2. after P (action_of action) _ u more2
     (λ a _ same. subst (λ (z : Use). z.reqid < 2 ^ 64) (inside (record { direction = d; reqid = n; action = a }) u same)
-        (long faults.Entry reqid n read))))
+    (long faults.Entry reqid n read))))
 
 entry-read : (w : List ℕ) (e : SpdEntry) → entry_of w ≡ Ok e → IsTypedPolicy e
 unfolding entry_in
@@ -128,7 +128,7 @@ entry-read w e read = parts (slice_split is_comma w) read
         after P (use_of direction reqid action) _ e is
         (λ u first more. after P (selector_in selector) _ e more
         (λ s second same. subst IsTypedPolicy
-            (inside (record { name = name; direction = u.direction; reqid = u.reqid; window = 64; selector = s; action = u.action }) e same)
+        (inside (record { name = name; direction = u.direction; reqid = u.reqid; window = 64; selector = s; action = u.action }) e same)
         (record { reqid = use-read direction reqid action u first; window = omega arith; selector = selector-in selector s second })))
 
 entries-read : (ws : List (List ℕ)) (es : List SpdEntry) → entries_of ws ≡ Ok es → AreTypedPolicies es
@@ -150,8 +150,13 @@ counts-read fault time bytes packets idle l is =
     (λ b second more2. after P (number_in fault (2 ^ 32 - 1) packets) _ l more2
     (λ p third more3. after P (number_in fault (2 ^ 32 - 1) idle) _ l more3
     (λ i fourth same. subst IsTypedLimits (inside (record { time = t; bytes = b; packets = p; idle = i }) l same)
-    (record { time = short fault time t first; bytes = long fault bytes b second; packets = short fault packets p third; idle =
-        short fault idle i fourth })))))
+    (record {
+      time = short fault time t first;
+      bytes = long fault bytes b second;
+      packets = short fault packets p third;
+      idle =
+          short fault idle i fourth;
+    })))))
 
 limits-in : (fault : LineFault) (ps : List (List ℕ)) (l : Limits) → limits_in fault ps ≡ Ok l → IsTypedLimits l
 unfolding limits_in
@@ -193,7 +198,7 @@ ends-read reqid mode a b x is =
     (λ m _ more2. after P (gateway_of a) _ x more2
     (λ f _ more3. after P (gateway_of b) _ x more3
     (λ s _ same. subst (λ (z : Ends). z.reqid < 2 ^ 64) (inside (record { reqid = n; now = m; first = f; second = s }) x same)
-        (long faults.Number reqid n read)))))
+    (long faults.Number reqid n read)))))
 
 record IsTypedFlow (x : Flow) : Type 0 where
   pub first : IsAddress x.first.addr
@@ -247,7 +252,7 @@ tunnel-from (reqid ∷ mode ∷ a ∷ b ∷ more) e is =
     after P (ends_of reqid mode a b) _ e is
     (λ x ends rest. after P (flow_in more) _ e rest
     (λ y flow same. let r : events.Tunnel (tunnel_made x y) ≡ e = cc in
-        subst IsEvent r (made-typed x y (ends-read reqid mode a b x ends) (flow-in more y flow))))
+    subst IsEvent r (made-typed x y (ends-read reqid mode a b x ends) (flow-in more y flow))))
 
 tunnel-read : (ws : List (List ℕ)) (e : Event) → tunnel_in ws ≡ Ok e → IsEvent e
 unfolding tunnel_in
@@ -265,7 +270,7 @@ policy-read (w ∷ ws) e is =
     (λ g known more2. after P (entries_of ws) _ e more2
     (λ list read more3. after P (unless_fault (spd_fault list) list) _ e more3
     (λ good fits same. let q : events.Policy g good ≡ e = cc in
-        subst IsEvent q (kept (spd_fault list) list good (entries-read ws list read) fits)))))
+    subst IsEvent q (kept (spd_fault list) list good (entries-read ws list read) fits)))))
 
 let-read : (gateways : List Peer) (ws : List (List ℕ)) (e : Event) → let_in gateways ws ≡ Ok e → IsEvent e
 unfolding let_in
@@ -309,7 +314,7 @@ ttl-read gateways gateway sent how ttl e is =
     (λ k counted more2. passed P (bytes_eq how (codes "ttl")) _ faults.Word e more2
     (λ _ more3. after P (number_in faults.Number 255 ttl) _ e more3
     (λ t few same. let q : events.ArriveTtl g k t ≡ e = cc in
-        subst IsEvent q (sent-read sent k counted, within faults.Number 255 256 ttl t (omega arith) few)))))
+    subst IsEvent q (sent-read sent k counted, within faults.Number 255 256 ttl t (omega arith) few)))))
 
 flip-read : (gateways : List Peer) (gateway sent how offset bit : List ℕ) (e : Event) → flip_of gateways gateway sent how offset bit ≡ Ok e
     → IsEvent e
@@ -322,7 +327,7 @@ flip-read gateways gateway sent how offset bit e is =
     (λ _ more3. after P (number_in faults.Number (2 ^ 64 - 1) offset) _ e more3
     (λ n far more4. after P (number_in faults.Number 7 bit) _ e more4
     (λ b _ same. let q : events.ArriveFlip g k n b ≡ e = cc in
-        subst IsEvent q (sent-read sent k counted, long faults.Number offset n far))))))
+    subst IsEvent q (sent-read sent k counted, long faults.Number offset n far))))))
 
 arrive-read : (gateways : List Peer) (ws : List (List ℕ)) (e : Event) → arrive_in gateways ws ≡ Ok e → IsEvent e
 unfolding arrive_in

@@ -67,7 +67,7 @@ gone-good : (gs : List Peer) (g : List ℕ) (t : Tree) (x : List ℕ) → IsKnow
     → IsGoodOutcome gs g (delete_sad t x)
 gone-good gs g t x k n =
     let a : IsGoodOutcome gs g (done (changes.Gone x) (with_sad t (without_row x t.sad))) =
-        record { change = (((k, n), tt), tt); names = no-names; status = omega arith } in
+    record { change = (((k, n), tt), tt); names = no-names; status = omega arith } in
     let b : IsGoodOutcome gs g (absent t) = record { change = tt; names = no-names; status = omega arith } in
     either-good gs g (list_any (is_row x) t.sad) _ (absent t) a b
 

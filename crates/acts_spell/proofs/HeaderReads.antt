@@ -77,7 +77,7 @@ words-read (world ∷ last ∷ number ∷ gateways) h is =
     (λ _ more. after P (seq_last_of number) _ h more
     (λ n least more2. after P (gateways_of gateways) _ h more2
     (λ ps read same. subst HasMore (inside (record { seq_last = n; gateways = ps }) h same)
-        (record { least = last-read number n least; addresses = gateways-read gateways ps read }))))
+    (record { least = last-read number n least; addresses = gateways-read gateways ps read }))))
 
 more-read : (line : List ℕ) (h : Header) → header_of line ≡ Ok h → HasMore h
 unfolding header_of

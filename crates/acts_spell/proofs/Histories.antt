@@ -33,10 +33,10 @@ history-from sizes header p (e ∷ es) h s t l =
   where
     by-forgery : Meets header p e → (b : Bool) → is_forged_event header p e ≡ b
         → (IsTold header (past_after (under_way header) header p e)
-            → AreSpelled header.gateways (history (under_way header) header (past_after (under_way header) header p e) es))
+        → AreSpelled header.gateways (history (under_way header) header (past_after (under_way header) header p e) es))
         → AreSpelled header.gateways
         (block (under_way header) header p e
-            ++ unless_forged b (history (under_way header) header (past_after (under_way header) header p e) es))
+        ++ unless_forged b (history (under_way header) header (past_after (under_way header) header p e) es))
     by-forgery m true f more =
         subst (AreSpelled header.gateways) (sym (append-nil (block (under_way header) header p e))) (block-spelled header p e m)
     by-forgery m false f more =
@@ -50,7 +50,7 @@ pub history-spelled : SealedLength → (header : Header) (es : List Event) → I
 history-spelled sizes header es h s l =
     All-from_recursion (IsSpelled header.gateways) (history (under_way header) header nothing es)
     (history-from sizes header nothing es h (recursion_from_All (IsSpelledEvent header.gateways) es s) (told-nothing header)
-        (omega (arith, l)))
+    (omega (arith, l)))
 
 -- ---- one event
 

@@ -116,16 +116,16 @@ sent-spelled : (gs : List Peer) (g o : List ℕ) (q : ℕ) (h : List Act) (v : P
     → (b : Bool) → nat_le q (sent g e.name h) ≡ b
     → AreSpelled gs
     (if b then acts.Drop g why.SeqLimit ∷ unless (was_overflow_given g e.name h) (tells g h (notices.SeqOverflow e.name))
-        else send_acts g h e (sent g e.name h + 1) (datagram e (sent g e.name h + 1) v o))
+    else send_acts g h e (sent g e.name h + 1) (datagram e (sent g e.name h + 1) v o))
 sent-spelled gs g o q h v e c l good true t =
     dropped gs g _ why.SeqLimit c.known
     (unless-spelled gs (was_overflow_given g e.name h) (tells g h (notices.SeqOverflow e.name))
-        (told-spelled gs g h (notices.SeqOverflow e.name) c.known c.past (half-named e good.0, tt)))
+    (told-spelled gs g h (notices.SeqOverflow e.name) c.known c.past (half-named e good.0, tt)))
 sent-spelled gs g o q h v e c l good false t =
     let n : ℕ = sent g e.name h + 1 in
     let a : Act = acts.Sent g e.name n (datagram e n v o) in
     let s : IsSpelled gs a =
-        ((c.known, half-named e good.0), (below (sent g e.name h) q t c.last, sealed-octets c.sizes e n v o good c.octets l)) in
+    ((c.known, half-named e good.0), (below (sent g e.name h) q t c.last, sealed-octets c.sizes e n v o good c.octets l)) in
     (s, look-spelled gs g (a ∷ h) (e ∷ []) c.known (s, c.past) (good, tt))
 
 half-spelled : (gs : List Peer) (g o : List ℕ) (q : ℕ) (h : List Act) (v : Packet) (p : SpdEntry) → Comes gs g o q h → length o ≤ 65000

@@ -91,12 +91,12 @@ request-octets host o a h =
     let body = body-octets o h in
     let start = All-append IsOctet (order_method o ++ 32 ∷ order_target o) (codes " HTTP/1.1")
     (All-append IsOctet (order_method o) (32 ∷ order_target o) (method-octets o)
-        (of-each (32 ∷ order_target o) (omega arith, each-of (order_target o) (target-octets o h))))
+    (of-each (32 ∷ order_target o) (omega arith, each-of (order_target o) (target-octets o h))))
     (word (codes " HTTP/1.1") refl) in
     let fields : List (List ℕ × List ℕ) = messages.request_fields (host_text host) (order_body o) in
     All-append IsOctet (request_head (order_message host o)) (order_body o)
     (head-octets (request_line (order_message host o)) fields (request_names (order_body o)) start
-        (host-octets host a, fields-if (length (order_body o) == 0) (order_body o)) (asked-names (order_body o)))
+    (host-octets host a, fields-if (length (order_body o) == 0) (order_body o)) (asked-names (order_body o)))
     body
 
 -- ---- responses
@@ -132,7 +132,7 @@ put-carried t e n =
     let b : IsCarried (spi_taken t) = record { location = none; body = refused-body tags.ResourceDenied apps.SpiTaken } in
     let c : IsCarried (full t) = record { location = none; body = refused-body tags.ResourceDenied apps.Full } in
     let d : IsCarried (made (At_half e.name) (changes.Put e) (with_sad t (t.sad ++ new_row e ∷ []))) =
-        record { location = half-path-octets e.name n; body = none } in
+    record { location = half-path-octets e.name n; body = none } in
     either-carried (list_any (is_row e.name) t.sad) (exists t) _ a
     (either-carried (is_inbound e.name && has_spi e.spi t.sad) (spi_taken t) _ b (either-carried (is_sad_full t.sad) (full t) _ c d))
 
@@ -146,9 +146,12 @@ carried : (t : Tree) (o : Order) → AllByRecursion IsGoodRow t.sad → ((e : Sa
     → IsCarried (reply t (ask_of o))
 unfolding reply
 carried t orders.Read h n =
-    record { location = none; body =
-        utf8-octets (compact_text (all_rows t.sad))
-        (utf8_again (all_rows t.sad) (write_rows t.sad (All-from_recursion IsTypedRow t.sad (rows-typed t.sad h)) (rows-passed t.sad h))) }
+    record {
+      location = none;
+      body =
+          utf8-octets (compact_text (all_rows t.sad))
+          (utf8_again (all_rows t.sad) (write_rows t.sad (All-from_recursion IsTypedRow t.sad (rows-typed t.sad h)) (rows-passed t.sad h)));
+    }
 carried t (orders.Policy list) h n = record { location = none; body = none }
 carried t (orders.Put e) h n = put-carried t e (n e refl)
 carried t (orders.Remove x) h n = gone-carried t x
@@ -171,9 +174,13 @@ each-status = (
         word (codes "400 Bad Request") refl,
         (
           word (codes "404 Not Found") refl,
-          (word (codes "405 Method Not Allowed") refl,
-              (word (codes "409 Conflict") refl,
-              (word (codes "413 Content Too Large") refl, (word (codes "501 Not Implemented") refl, tt)))),
+          (
+            word (codes "405 Method Not Allowed") refl,
+            (
+              word (codes "409 Conflict") refl,
+              (word (codes "413 Content Too Large") refl, (word (codes "501 Not Implemented") refl, tt)),
+            ),
+          ),
         ),
       ),
     ),
@@ -219,14 +226,14 @@ reply-fields r c =
     let body : List ℕ = body_by r.tag r.app r.shown in
     each-if HasOctets (r.status == 204) [] (length_field body ∷ if_type body ++ own_field (reply_of r)) tt
     (each-append HasOctets (length_field body ∷ if_type body) (own_field (reply_of r)) (decimal-octets (length body), body-type body)
-        (own-fields r c))
+    (own-fields r c))
 
 carried-octets : (r : Outcome) → IsCarried r → AreOctets (response_text (reply_message (reply_of r)))
 carried-octets r c =
     let body : List ℕ = body_by r.tag r.app r.shown in
     All-append IsOctet (response_head (reply_message (reply_of r))) body
     (head-octets (status_line r.status) (messages.response_fields (reply_of r)) (response_names r.status body) (status-octets r.status)
-        (reply-fields r c) (replied-names r.status body))
+    (reply-fields r c) (replied-names r.status body))
     c.body
 
 pub response-octets : (t : Tree) (o : Order) → AllByRecursion IsGoodRow t.sad

@@ -89,7 +89,7 @@ expiries-spelled gs g h (e ∷ es) k p s =
     let ns : List Notice = expiry e.name (counts g e.name h) (event_of g h e) in
     each-append (IsSpelled gs) (given_by g (session_taken g h) ns) (expiries g h es)
     (given-spelled gs g (session_taken g h) ns k (session-small gs g h p) (expiry-good e.name (counts g e.name h) (event_of g h e)
-        (half-named e s.0.0) (counts-typed g e.name h)))
+    (half-named e s.0.0) (counts-typed g e.name h)))
     (expiries-spelled gs g h es k p s.1)
 
 pub look-spelled : (gs : List Peer) (g : List ℕ) (h : List Act) (es : List SadEntry) → IsKnown gs g → AreSpelled gs h

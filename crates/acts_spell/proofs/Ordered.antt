@@ -63,9 +63,18 @@ pub record IsGoodWay (d : Way) : Type 0 where
   pub far : IsAddress d.far.addr
 
 new-good : (n : ℕ) (c : PlacedCommand) → IsSpelledCommand c → AllByRecursion IsGoodWay (new_ways n c)
-new-good n (Tunnel t) k =
-    (record { tunnel = k; near = k.first_prefix; far = k.second_prefix }, (record { tunnel = k; near = k.second_prefix; far =
-        k.first_prefix }, tt))
+new-good n (Tunnel t) k = (
+  record { tunnel = k; near = k.first_prefix; far = k.second_prefix },
+  (
+    record {
+      tunnel = k;
+      near = k.second_prefix;
+      far =
+          k.first_prefix;
+    },
+    tt,
+  ),
+)
 new-good n (SetPolicy g l) k = tt
 new-good n (End r) k = tt
 new-good n (Rekey r) k = tt
@@ -171,8 +180,14 @@ in-typed ps x a g l = record {
   spi = fits-32 (in_entry ps x).spi l;
   window = g.way.tunnel.window;
   selector =
-      record { local = g.way.far; remote = g.way.near; proto = tt; local_ports = All-nil IsTypedRange; remote_ports =
-          All-nil IsTypedRange };
+      record {
+        local = g.way.far;
+        remote = g.way.near;
+        proto = tt;
+        local_ports = All-nil IsTypedRange;
+        remote_ports =
+            All-nil IsTypedRange;
+      };
   key = g.key;
   local = address-good ps x.way.receiver a;
   remote = address-good ps x.way.sender a;
@@ -187,8 +202,14 @@ out-typed ps x a g l = record {
   spi = fits-32 (out_entry ps x).spi l;
   window = g.way.tunnel.window;
   selector =
-      record { local = g.way.near; remote = g.way.far; proto = tt; local_ports = All-nil IsTypedRange; remote_ports =
-          All-nil IsTypedRange };
+      record {
+        local = g.way.near;
+        remote = g.way.far;
+        proto = tt;
+        local_ports = All-nil IsTypedRange;
+        remote_ports =
+            All-nil IsTypedRange;
+      };
   key = g.key;
   local = address-good ps x.way.sender a;
   remote = address-good ps x.way.receiver a;

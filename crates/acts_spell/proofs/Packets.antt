@@ -144,13 +144,13 @@ by-version : (o : List ℕ) (v : Packet) (four six : Bool) → version o == 4 �
 by-version o v true six p q h s e =
     by-4 o v h
     (long-4 (length o) (version o == 6) (nat_lt (length o) 40)
-        (subst (λ (z : Bool). ((length o == 0) || (z && nat_lt (length o) 20) || ((version o == 6) && nat_lt (length o) 40)) ≡ false) p s))
-        e
+    (subst (λ (z : Bool). ((length o == 0) || (z && nat_lt (length o) 20) || ((version o == 6) && nat_lt (length o) 40)) ≡ false) p s))
+    e
 by-version o v false true p q h s e =
     by-6 o v h
     (long-6 (length o) (version o == 4) (nat_lt (length o) 20)
-        (subst (λ (z : Bool). ((length o == 0) || ((version o == 4) && nat_lt (length o) 20) || (z && nat_lt (length o) 40)) ≡ false) q s))
-        e
+    (subst (λ (z : Bool). ((length o == 0) || ((version o == 4) && nat_lt (length o) 20) || (z && nat_lt (length o) 40)) ≡ false) q s))
+    e
 by-version o v false false p q h s e = cc
 
 pub view-typed : (o : List ℕ) (v : Packet) → AreOctets o → view_of o ≡ Ok v → IsTypedView v
@@ -247,8 +247,14 @@ flow-typed v t = record {
 pub flow-packet : (v : Packet) → IsTypedView v → is_packet (flow_of v) ≡ true
 unfolding is_packet
 flow-packet v t =
-    rw (whole-all v.src, whole-all v.dst, whole-family v.src v.dst t.family, port-one (local_port Out v.ports), port-one
-        (remote_port Out v.ports)) refl
+    rw (
+      whole-all v.src,
+      whole-all v.dst,
+      whole-family v.src v.dst t.family,
+      port-one (local_port Out v.ports),
+      port-one
+          (remote_port Out v.ports),
+    ) refl
 
 -- ---- the datagram
 
@@ -264,22 +270,36 @@ header-octets-4 o a n h =
     let s : ℕ = sum_for (header_4 o a 0) in
     let l : s < 65536 = omega arith in
     let front : List ℕ = 69 ∷ 0 ∷ ((o.payload + 20) / 256) ∷ ((o.payload + 20) % 256) ∷ (o.id / 256) ∷ (o.id % 256)
-        ∷ (if o.df then 64 else 0) ∷ 0
+    ∷ (if o.df then 64 else 0) ∷ 0
     ∷ 64 ∷ 50 ∷ (s / 256) ∷ (s % 256) ∷ [] in
     let p = n.0 in let i = n.1 in
     All-append IsOctet front a
-    (of-each front (omega arith,
-        (omega arith, (omega (arith, p),
-        (omega arith, (omega (arith, i),
-        (omega arith, (df-octet o.df, (omega arith, (omega arith, (omega arith, (omega (arith, l), (omega arith, tt))))))))))))) h
+    (of-each front (
+      omega arith,
+      (
+        omega arith,
+        (
+          omega (arith, p),
+          (
+            omega arith,
+            (
+              omega (arith, i),
+              (omega arith, (df-octet o.df, (omega arith, (omega arith, (omega arith, (omega (arith, l), (omega arith, tt))))))),
+            ),
+          ),
+        ),
+      ),
+    )) h
 
 header-octets-6 : (o : Outer) (a : List ℕ) → IsNearby o → AreOctets a → AreOctets (header_6 o a)
 header-octets-6 o a n h =
     let front : List ℕ = 96 ∷ 0 ∷ 0 ∷ 0 ∷ (o.payload / 256) ∷ (o.payload % 256) ∷ 50 ∷ 64 ∷ [] in
     let p = n.0 in
     All-append IsOctet front a
-    (of-each front (omega arith,
-        (omega arith, (omega arith, (omega arith, (omega (arith, p), (omega arith, (omega arith, (omega arith, tt))))))))) h
+    (of-each front (
+      omega arith,
+      (omega arith, (omega arith, (omega arith, (omega (arith, p), (omega arith, (omega arith, (omega arith, tt))))))),
+    )) h
 
 between-octets : (o : Outer) (a b : Addr) → IsNearby o → IsAddress a → IsAddress b → AreOctets (header_between o a b)
 between-octets o (V4 a) (V4 b) n p q = header-octets-4 o (a ++ b) n (All-append IsOctet a b p.1 q.1)

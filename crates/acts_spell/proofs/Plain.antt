@@ -65,7 +65,7 @@ one-fine : (g : List ℕ) (s k : ℕ) (a : Answer) (h : List happened.Act.Act) (
 one-fine g s k a h o is count next says = λ e q.
     let same : o ≡ asks.Put e = some-is o (asks.Put e) (sym (next-at g s k o h is count next) ∙ q) in
     let status : a.status ≡ (outcome_at g h (asks.Put e)).status = ap (λ (z : Answer). z.status) says
-        ∙ ap (λ (z : tree.Order.Order). (outcome_at g h z).status) same in
+    ∙ ap (λ (z : tree.Order.Order). (outcome_at g h z).status) same in
     ap is_fine status ∙ put-fine (tree_of g (before_change h)) e
 
 all-fine : (gs : List Peer) (h : List happened.Act.Act) → IsLawful gs h → AllReplied h → AllFine h
@@ -118,13 +118,13 @@ next-plain ps w c g a l r m names i next = by-queue (queue g c) refl where
       let past : IsControllerPast (length ps) (Answered g s k a ∷ c) = ((o, ap oldest e, refl, refl), m.past) in
       let asked = told-at ps (length ps) g s k a c past names m.fit i in
       let here : order_at (peer_name ps g) s k w ≡ option_map (order_told ps) (oldest (queue g c)) = order-at-part (peer_name ps g) s k w
-          ∙ ap (λ z. order_at (peer_name ps g) s k z) m.part ∙ asked in
+      ∙ ap (λ z. order_at (peer_name ps g) s k z) m.part ∙ asked in
       let same : openings (peer_name ps g) w ≡ s = openings-meet ps w c g names m i in
       let n : answered (peer_name ps g) s w ≡ controller_past.answered g c = answered-meet ps w c g names m i in
       let was = given-at (is_open (peer_name ps g) w) (answer_at (peer_name ps g) (openings (peer_name ps g) w)
-          (answered (peer_name ps g) (openings (peer_name ps g) w) w + 1) w) a next in
+      (answered (peer_name ps g) (openings (peer_name ps g) w) w + 1) w) a next in
       let was2 : answer_at (peer_name ps g) s (answered (peer_name ps g) s w + 1) w ≡ Some a =
-          subst (λ (z : ℕ). answer_at (peer_name ps g) z (answered (peer_name ps g) z w + 1) w ≡ Some a) same was in
+      subst (λ (z : ℕ). answer_at (peer_name ps g) z (answered (peer_name ps g) z w + 1) w ≡ Some a) same was in
       let was3 : answer_at (peer_name ps g) s k w ≡ Some a = subst (λ (z : ℕ). answer_at (peer_name ps g) s (z + 1) w ≡ Some a) n was2 in
       let fine = told-fine ps (peer_name ps g) s k a w l (all-fine ps w l r) was3 in
       plain-one ps (oldest (queue g c)) a.status (λ d q. fine d (here ∙ q))

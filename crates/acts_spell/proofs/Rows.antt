@@ -92,13 +92,13 @@ taken-wide gs g x (acts.Put f e ∷ h) s = each-if IsWide (is_half f e.name g x)
 taken-wide gs g x (acts.Gave f y n o ∷ h) s =
     let more = taken-wide gs g x h s.1 in
     each-if IsWide (is_half f y g x) (numbers_taken g x h ++ n ∷ []) (numbers_taken g x h)
-        (each-append IsWide (numbers_taken g x h) (n ∷ []) more (s.0.1.0, tt)) more
+    (each-append IsWide (numbers_taken g x h) (n ∷ []) more (s.0.1.0, tt)) more
 taken-wide gs g x (acts.Drop f w ∷ h) s =
     let more = taken-wide gs g x h s.1 in
     each-if IsWide (bytes_eq f g && is_opened w) (with_number (numbers_taken g x h) (arrival_number g x (numbers_taken g x h) h))
     (numbers_taken g x h)
     (with-wide (numbers_taken g x h) (arrival_number g x (numbers_taken g x h) h) more (arrival-wide gs g x (numbers_taken g x h) h s.1))
-        more
+    more
 taken-wide gs g x (a ∷ h) s = taken-wide gs g x h s.1
 
 greater : (m n : ℕ) → m < 2 ^ 64 → n < 2 ^ 64 → max m n < 2 ^ 64
@@ -114,7 +114,7 @@ row-good : (gs : List Peer) (g : List ℕ) (h : List Act) (e : SadEntry) → IsL
     → IsGoodRow (row_of g h e)
 row-good gs g h e l s good =
     let top = either-has IsWide (is_inbound e.name) (greatest (numbers_taken g e.name h)) (sent g e.name h)
-        (greatest-wide (numbers_taken g e.name h) (taken-wide gs g e.name h s)) (sent-wide gs g e.name h l) in
+    (greatest-wide (numbers_taken g e.name h) (taken-wide gs g e.name h s)) (sent-wide gs g e.name h l) in
     (good.0, record { entry = good.1; state = record { current = counts-typed g e.name h; top = top } })
 
 rows-good : (gs : List Peer) (g : List ℕ) (h : List Act) (es : List SadEntry) → IsLawful gs h → AreSpelled gs h

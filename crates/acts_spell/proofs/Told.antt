@@ -39,14 +39,26 @@ one-spelled : (gs : List Peer) (bound : ℕ) (a : Act) (h xs : List Act) → bou
 one-spelled gs bound (acts.Opened g s) h xs l p m r t = (t, next-small s (openings g h) (count_opened xs) bound m.1 (r g).openings l)
 one-spelled gs bound (acts.Cut g s) h xs l p m r t = (t, this-small s (openings g h) (count_opened xs) bound m.1 (r g).openings l)
 one-spelled gs bound (acts.Order g s k o) h xs l p m r t =
-    let now : k ≡ orders g (openings g h) h + 1 = subst (λ (z : ℕ). k ≡ orders g z h + 1) m.1 m.2 in
-    ((t.0, t.1.0), (this-small s (openings g h) (count_opened xs) bound m.1 (r g).openings l, order-small k (orders g (openings g h) h)
-        (count_orders xs) bound now (r g).orders l, t.1.1))
+    let now : k ≡ orders g (openings g h) h + 1 = subst (λ (z : ℕ). k ≡ orders g z h + 1) m.1 m.2 in (
+      (t.0, t.1.0),
+      (
+        this-small s (openings g h) (count_opened xs) bound m.1 (r g).openings l,
+        order-small k (orders g (openings g h) h)
+            (count_orders xs) bound now (r g).orders l,
+        t.1.1,
+      ),
+    )
 one-spelled gs bound (acts.Answered g s k a) h xs l p m r t =
     let now : k ≡ answered g (openings g h) h + 1 = subst (λ (z : ℕ). k ≡ answered g z h + 1) m.0 m.1 in
-    let good = heard-answer-good gs g a h p m.2 in
-    ((t, good.0), (this-small s (openings g h) (count_opened xs) bound m.0 (r g).openings l, answer-small k (answered g (openings g h) h)
-        (count_answered xs) bound now (r g).answered l, good.1))
+    let good = heard-answer-good gs g a h p m.2 in (
+      (t, good.0),
+      (
+        this-small s (openings g h) (count_opened xs) bound m.0 (r g).openings l,
+        answer-small k (answered g (openings g h) h)
+            (count_answered xs) bound now (r g).answered l,
+        good.1,
+      ),
+    )
 one-spelled gs bound (acts.Heard g s n) h xs l p m r t =
     let good = heard-notice-good gs g n h p m.1 in
     ((t, good.0), (this-small s (openings g h) (count_opened xs) bound m.0 (r g).openings l, good.1))

@@ -45,7 +45,7 @@ requests-octets gs host g s (acts.Order f t k o ∷ h) a l =
     let more = requests-octets gs host g s h a l.1 in
     each-if AreOctets (is_session f t g s) (requests (request_at host) g s h ++ request_at host h o ∷ []) (requests (request_at host) g s h)
     (each-append AreOctets (requests (request_at host) g s h) (request_at host h o ∷ []) more
-        (request-octets host o a (l.0.0.1, l.0.1.2), tt)) more
+    (request-octets host o a (l.0.0.1, l.0.1.2), tt)) more
 requests-octets gs host g s (x ∷ h) a l = requests-octets gs host g s h a l.1
 
 before-spelled : (gs : List Peer) (h : List Act) → AreSpelled gs h → AreSpelled gs (before_change h)
@@ -80,7 +80,7 @@ responses-octets gs g s (acts.Handled f t k a ∷ h) l p =
     let more = responses-octets gs g s h l.1 p.1 in
     each-if AreOctets (is_session f t g s) (responses (response_at g) g s h ++ response_at g h a ∷ []) (responses (response_at g) g s h)
     (each-append AreOctets (responses (response_at g) g s h) (response_at g h a ∷ []) more
-        (to-octets gs g h (next_request g h) l.1 p.1 refl, tt)) more
+    (to-octets gs g h (next_request g h) l.1 p.1 refl, tt)) more
 responses-octets gs g s (x ∷ h) l p = responses-octets gs g s h l.1 p.1
 
 lines-octets : (gs : List Peer) (g : List ℕ) (s : ℕ) (h : List Act) → AreSpelled gs h → AllByRecursion AreOctets (lines line_at g s h)

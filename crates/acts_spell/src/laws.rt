@@ -24,9 +24,11 @@ pub fn begins()
 /// Each act of the block of an event that a line can spell has a line, where those before it have one and fewer than 2^32 - 1 events
 /// were taken; so has a forged arrival. Where the arrival isn't forged, all this holds again after the block.
 pub fn each_act_is_spelled()
-    ensures block { (header : Header) (p : Past) (e : Event) → IsSpelledHeader header → IsEventUnder header.gateways e → IsEvent e → IsTold header p
+    ensures block { (header : Header) (p : Past) (e : Event) → IsSpelledHeader header → IsEventUnder header.gateways e → IsEvent e
+        → IsTold header p
         → events_taken p.world < 2 ^ 32 - 1 → All (IsSpelled header.gateways) (block (under_way header) header p e) }
-    ensures told { (header : Header) (p : Past) (e : Event) → IsSpelledHeader header → IsEventUnder header.gateways e → IsEvent e → IsTold header p
+    ensures told { (header : Header) (p : Past) (e : Event) → IsSpelledHeader header → IsEventUnder header.gateways e → IsEvent e
+        → IsTold header p
         → events_taken p.world < 2 ^ 32 - 1 → is_forged_event header p e ≡ false → IsTold header (past_after (under_way header) header p e) }
 {
     seal_law();
@@ -41,9 +43,11 @@ pub fn reads_what_is_spelled()
 /// Each act of a history of fewer than 2^32 events has a line, with a forged arrival at its end or without; so has each of what a
 /// script tells.
 pub fn every_history_is_spelled()
-    ensures events { (header : Header) (events : List Event) → IsSpelledHeader header → All (IsSpelledEvent header.gateways) events → length events < 2 ^ 32
+    ensures events { (header : Header) (events : List Event) → IsSpelledHeader header → All (IsSpelledEvent header.gateways) events
+        → length events < 2 ^ 32
         → All (IsSpelled header.gateways) (history (under_way header) header nothing events) }
-    ensures script { (line : List ℕ) (header : Header) (lines : List (List ℕ)) (events : List Event) → header_of line ≡ Ok header → AreLinesOf header lines events
+    ensures script { (line : List ℕ) (header : Header) (lines : List (List ℕ)) (events : List Event) → header_of line ≡ Ok header
+        → AreLinesOf header lines events
         → length events < 2 ^ 32 → All (IsSpelled header.gateways) (history (under_way header) header nothing events) }
 {
     seal_law();

@@ -50,7 +50,7 @@ entry_of at k x lt h =
     let all = all_below_at (is_entry at k) 256 x h lt in
     let row : (r : ℕ) → r < 4 → slice_index b r ≡ times (slice_index (matrix r) k) (s_box x) =
     λ r less. eqb-true (slice_index b r) (times (slice_index (matrix r) k) (slice_index S_TABLE x))
-        (all_below_at (λ r. slice_index b r == times (slice_index (matrix r) k) (slice_index S_TABLE x)) 4 r all less)
+    (all_below_at (λ r. slice_index b r == times (slice_index (matrix r) k) (slice_index S_TABLE x)) 4 r all less)
     ∙ ap (times (slice_index (matrix r) k)) (s_table_at x lt) in
     let e0 = row 0 (lit< tt) in
     let e1 = row 1 (lit< tt) in
@@ -73,7 +73,7 @@ t3_at x lt = entry_of 768 3 x lt t3_is
 pub column_is : (p q r s k a b c d : ℕ) → to_be_bytes w32 p ≡ contribution 0 a → to_be_bytes w32 q ≡ contribution 1 b
     → to_be_bytes w32 r ≡ contribution 2 c → to_be_bytes w32 s ≡ contribution 3 d
     → to_be_bytes w32 (bit_xor (bit_xor (bit_xor (bit_xor p q) r) s) k) ≡ add_words (mix_word (sub_word (a ∷ b ∷ c ∷ d ∷ [])))
-        (to_be_bytes w32 k)
+    (to_be_bytes w32 k)
 column_is p q r s k a b c d ep eq er es =
     let two = octets_xor p q ∙ (λ i. add_words (ep i) (eq i)) in
     let three = octets_xor (bit_xor p q) r ∙ (λ i. add_words (two i) (er i)) in
@@ -107,9 +107,9 @@ round_is w s i p q r t le hp hq hr ht =
     let e2 = hr ∙ (λ j. add_words (mixed s 2) (k2 j)) in
     let e3 = ht ∙ (λ j. add_words (mixed s 3) (k3 j)) in
     (λ j. slice_index (e0 j) 0 ∷ slice_index (e0 j) 1 ∷ slice_index (e0 j) 2 ∷ slice_index (e0 j) 3 ∷ slice_index (e1 j) 0
-        ∷ slice_index (e1 j) 1 ∷ slice_index (e1 j) 2 ∷ slice_index (e1 j) 3 ∷ slice_index (e2 j) 0 ∷ slice_index (e2 j) 1
-        ∷ slice_index (e2 j) 2 ∷ slice_index (e2 j) 3 ∷ slice_index (e3 j) 0 ∷ slice_index (e3 j) 1 ∷ slice_index (e3 j) 2
-        ∷ slice_index (e3 j) 3 ∷ [])
+    ∷ slice_index (e1 j) 1 ∷ slice_index (e1 j) 2 ∷ slice_index (e1 j) 3 ∷ slice_index (e2 j) 0 ∷ slice_index (e2 j) 1
+    ∷ slice_index (e2 j) 2 ∷ slice_index (e2 j) 3 ∷ slice_index (e3 j) 0 ∷ slice_index (e3 j) 1 ∷ slice_index (e3 j) 2
+    ∷ slice_index (e3 j) 3 ∷ [])
 
 -- ---- the first addition
 pub first_is : (w b : List ℕ) (p q r t : ℕ) → 4 ≤ length w
@@ -128,9 +128,9 @@ first_is w b p q r t le hp hq hr ht =
     let e2 = hr ∙ (λ j. add_words (get_or b 8 0 ∷ get_or b 9 0 ∷ get_or b 10 0 ∷ get_or b 11 0 ∷ []) (k2 j)) in
     let e3 = ht ∙ (λ j. add_words (get_or b 12 0 ∷ get_or b 13 0 ∷ get_or b 14 0 ∷ get_or b 15 0 ∷ []) (k3 j)) in
     (λ j. slice_index (e0 j) 0 ∷ slice_index (e0 j) 1 ∷ slice_index (e0 j) 2 ∷ slice_index (e0 j) 3 ∷ slice_index (e1 j) 0
-        ∷ slice_index (e1 j) 1 ∷ slice_index (e1 j) 2 ∷ slice_index (e1 j) 3 ∷ slice_index (e2 j) 0 ∷ slice_index (e2 j) 1
-        ∷ slice_index (e2 j) 2 ∷ slice_index (e2 j) 3 ∷ slice_index (e3 j) 0 ∷ slice_index (e3 j) 1 ∷ slice_index (e3 j) 2
-        ∷ slice_index (e3 j) 3 ∷ [])
+    ∷ slice_index (e1 j) 1 ∷ slice_index (e1 j) 2 ∷ slice_index (e1 j) 3 ∷ slice_index (e2 j) 0 ∷ slice_index (e2 j) 1
+    ∷ slice_index (e2 j) 2 ∷ slice_index (e2 j) 3 ∷ slice_index (e3 j) 0 ∷ slice_index (e3 j) 1 ∷ slice_index (e3 j) 2
+    ∷ slice_index (e3 j) 3 ∷ [])
 
 pub loaded_xor : (x k a b c d : ℕ) → to_be_bytes w32 x ≡ a ∷ b ∷ c ∷ d ∷ [] → to_be_bytes w32 (bit_xor x k) ≡ add_words (a ∷ b ∷ c ∷ d ∷ [])
     (to_be_bytes w32 k)
@@ -145,7 +145,7 @@ abbrev pub joined : List ℕ → List ℕ → List ℕ → List ℕ → List ℕ
 joined p q r t = slice_index p 0 ∷ slice_index p 1 ∷ slice_index p 2 ∷ slice_index p 3 ∷ slice_index q 0 ∷ slice_index q 1 ∷ slice_index q 2
     ∷ slice_index q 3
     ∷ slice_index r 0 ∷ slice_index r 1 ∷ slice_index r 2 ∷ slice_index r 3 ∷ slice_index t 0 ∷ slice_index t 1 ∷ slice_index t 2
-        ∷ slice_index t 3 ∷ []
+    ∷ slice_index t 3 ∷ []
 
 pub last_is : (w s : List ℕ) (i : ℕ) (p q r t : List ℕ) → 4 * i + 4 ≤ length w
     → p ≡ add_words (subbed s 0) (to_be_bytes w32 (get_or w (4 * i) 0))
@@ -176,7 +176,7 @@ summed b p q r t =
 
 pub add_key_is : (w b : List ℕ) (i : ℕ) (p q r t : List ℕ) → 4 * i + 4 ≤ length w → p ≡ to_be_bytes w32 (get_or w (4 * i) 0)
     → q ≡ to_be_bytes w32 (get_or w (4 * i + 1) 0) → r ≡ to_be_bytes w32 (get_or w (4 * i + 2) 0)
-        → t ≡ to_be_bytes w32 (get_or w (4 * i + 3) 0)
+    → t ≡ to_be_bytes w32 (get_or w (4 * i + 3) 0)
     → summed b p q r t ≡ add_key (map (to_be_bytes w32) w) i b
 add_key_is w b i p q r t le hp hq hr ht =
     let z : 4 * i ≡ 4 * i + 0 = omega arith in
@@ -192,5 +192,5 @@ pub packed_is : (ws : List (List ℕ)) (packed : List ℕ) → length packed ≡
 packed_is ws packed same held =
     same_lists (map (to_be_bytes w32) packed) ws (length-map packed (to_be_bytes w32) ∙ same)
     (λ k d lt. get_or-map (to_be_bytes w32) packed k 0 d (omega (arith, length-map packed (to_be_bytes w32)))
-        ∙ held k (omega (arith, length-map packed (to_be_bytes w32)))
-        ∙ get_or_default ws k [] d (omega (arith, length-map packed (to_be_bytes w32))))
+    ∙ held k (omega (arith, length-map packed (to_be_bytes w32)))
+    ∙ get_or_default ws k [] d (omega (arith, length-map packed (to_be_bytes w32))))

@@ -142,7 +142,7 @@ pub pass-turn : (ss : List Station) (ks : List (List ℕ)) (ch : Effect) (ready 
     ++ next ∷ []
     → pass_draft ss ks ch ready (drop i ts) (drop i ps) x ≡ whole → old ++ pass_pairs ss ks ch ready (drop i ts) (drop i ps) x ≡ all
     → (pass_draft ss ks ch ready (drop (i + 1) ts) (drop (i + 1) ps) y ≡ whole)
-        × (new ++ pass_pairs ss ks ch ready (drop (i + 1) ts) (drop (i + 1) ps) y ≡ all)
+    × (new ++ pass_pairs ss ks ch ready (drop (i + 1) ts) (drop (i + 1) ps) y ≡ all)
 pass-turn ss ks ch ready ts ps i t p x y whole next old new all l m e f d n a dw pw = (
   ap (pass_draft ss ks ch ready (drop (i + 1) ts) (drop (i + 1) ps)) d ∙ sym (draft-step ss ks ch ready ts ps x i t p l m e f) ∙ dw,
   ap (λ z. z ++ pass_pairs ss ks ch ready (drop (i + 1) ts) (drop (i + 1) ps) y) a
@@ -163,7 +163,7 @@ pub unspent-turn : (ts : List Tunnel) (ps : List Pair) (i : ℕ) (t : Tunnel) (p
     ++ (if is_spent p then [] else t ∷ []) → new2 ≡ old2 ++ (if is_spent p then [] else p ∷ [])
     → old ++ unspent_tunnels (drop i ts) (drop i ps) ≡ all → old2 ++ unspent_pairs (drop i ts) (drop i ps) ≡ all2
     → (new ++ unspent_tunnels (drop (i + 1) ts) (drop (i + 1) ps) ≡ all)
-        × (new2 ++ unspent_pairs (drop (i + 1) ts) (drop (i + 1) ps) ≡ all2)
+    × (new2 ++ unspent_pairs (drop (i + 1) ts) (drop (i + 1) ps) ≡ all2)
 unspent-turn ts ps i t p old new all old2 new2 all2 l m e f n n2 a a2 =
     let s = unspent-step ts ps i t p l m e f in (
       ap (λ z. z ++ unspent_tunnels (drop (i + 1) ts) (drop (i + 1) ps)) n
@@ -215,7 +215,7 @@ pub room-here : (s0 ss : List Station) (q0 qs : List (List Waiting)) (i : ℕ) (
     → (is_short (length x.queue) (length q) ≡ true) × (has_room_for (drop (i + 1) s0) (drop (i + 1) q0) ≡ true)
 room-here s0 ss q0 qs i x q a =
     both (is_short (length x.queue) (length q)) (has_room_for (drop (i + 1) s0) (drop (i + 1) q0))
-        (sym (room-step s0 q0 i x q a.station a.queue (first-station s0 ss q0 qs i x q a) (first-queue s0 ss q0 qs i x q a)) ∙ a.room)
+    (sym (room-step s0 q0 i x q a.station a.queue (first-station s0 ss q0 qs i x q a) (first-queue s0 ss q0 qs i x q a)) ∙ a.room)
 
 -- one queue added to
 pub append-turn : (s0 ss : List Station) (q0 qs : List (List Waiting)) (i : ℕ) (x : Station) (q r j : List Waiting)

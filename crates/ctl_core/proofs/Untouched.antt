@@ -53,9 +53,9 @@ no-out-put : (s r : Bool) (l : Option Life) → is_whole l ≡ true → steps.as
 no-out-put s r None e = refl
 no-out-put s r (Some x) e =
     ap (λ b. if (not b && not x.out_done) && not x.out_sent && x.in_done && s
-        && r then Some (record { task = tasks.PutOut; serial = x.serial }) else None) (whole-ended x e)
+    && r then Some (record { task = tasks.PutOut; serial = x.serial }) else None) (whole-ended x e)
     ∙ ap (λ b. if (not false && not b) && not x.out_sent && x.in_done && s
-        && r then Some (record { task = tasks.PutOut; serial = x.serial }) else None) (both x.out_done (not x.ended) e).0
+    && r then Some (record { task = tasks.PutOut; serial = x.serial }) else None) (both x.out_done (not x.ended) e).0
 
 unwanted : (w o s r : Bool) → not (w && not o) ≡ true → (w && not o && s && r) ≡ false
 unwanted false o s r e = refl
@@ -86,8 +86,16 @@ quiet p e =
 no-order : (s r : Bool) (fresh : Option ℕ) (p : Progress) → Quiet p → steps.next s r fresh p ≡ None
 no-order s r fresh p q =
     ap (steps.next_waits s r fresh p) q.waits
-    ∙ rw (no-out-removal s p.older q.older, no-out-removal s p.newer q.newer, no-in-removal r p.older q.older, no-in-removal r p.newer
-        q.newer, no-out-put s r p.older q.older, no-out-put s r p.newer q.newer, no-in-put s r fresh p q.unowed) refl
+    ∙ rw (
+      no-out-removal s p.older q.older,
+      no-out-removal s p.newer q.newer,
+      no-in-removal r p.older q.older,
+      no-in-removal r p.newer
+          q.newer,
+      no-out-put s r p.older q.older,
+      no-out-put s r p.newer q.newer,
+      no-in-put s r fresh p q.unowed,
+    ) refl
 
 -- ## nothing is changed
 
@@ -104,8 +112,13 @@ not-missed has_in has_out None = refl
 not-missed has_in has_out (Some x) = not-false (not x.ended)
 
 not-read : (has_in has_out : ℕ → Bool) (p : Progress) → steps.read false false has_in has_out p ≡ p
-not-read has_in has_out p = rw (not-missed has_in has_out p.older, not-missed has_in has_out p.newer, unread has_in p.older, unread has_in
-    p.newer) refl
+not-read has_in has_out p = rw (
+  not-missed has_in has_out p.older,
+  not-missed has_in has_out p.newer,
+  unread has_in p.older,
+  unread has_in
+      p.newer,
+) refl
 
 no-side : (s : Side) → steps.is_side false false s ≡ false
 no-side sides.In = refl
@@ -123,8 +136,14 @@ beside : (g : ℕ) (t : Tunnel) → is_beside g t ≡ true → ((t.first == g) �
 beside g t e = let b = both (not (t.first == g)) (not (t.second == g)) e in (off (t.first == g) b.0, off (t.second == g) b.1)
 
 unanswered : (o : HalfOrder) (status : ℕ) (p : Progress) → p.waits ≡ None → steps.answered o status p ≡ p
-unanswered o status p e = ap (λ w. if steps.awaits o.serial w then record { over = p.over; wanted = p.wanted; waits = None; older =
-    steps.kept (lives.answered o status) p.older; newer = steps.kept (lives.answered o status) p.newer } else p) e
+unanswered o status p e = ap (λ w. if steps.awaits o.serial w then record {
+  over = p.over;
+  wanted = p.wanted;
+  waits = None;
+  older =
+      steps.kept (lives.answered o status) p.older;
+  newer = steps.kept (lives.answered o status) p.newer;
+} else p) e
 
 uncut : (s r : Bool) (p : Progress) → p.waits ≡ None → steps.cut s r p ≡ p
 uncut s r p e = ap (steps.cut_waits s r p) e
@@ -164,10 +183,13 @@ idle-pair ss ks ch ready t p x e =
     let k : Quiet p.forth = quiet p.forth b.0 in
     let l : Quiet p.back = quiet p.back b.1 in
     let f = still ss ks ready (tunnels.forth t) p.forth (changed ch (tunnels.forth t) p.forth) x
-        (spared ch t (tunnels.forth t) p.forth a.1 k.waits refl (λ g y. beside g t y)) k in
+    (spared ch t (tunnels.forth t) p.forth a.1 k.waits refl (λ g y. beside g t y)) k in
     let r = still ss ks ready (tunnels.back t) p.back (changed ch (tunnels.back t) p.back) (draft_forth ss ks (changed ch) ready t p x)
-        (spared ch t (tunnels.back t) p.back a.1 l.waits refl (λ g y. swap (beside g t y))) l in (
-      sym (ap (λ y. record { forth = y; back = advanced ks ready (tunnels.back t) (changed ch (tunnels.back t) p.back)
-          (draft_forth ss ks (changed ch) ready t p x) }) f.0 ∙ ap (λ y. record { forth = p.forth; back = y }) r.0),
+    (spared ch t (tunnels.back t) p.back a.1 l.waits refl (λ g y. swap (beside g t y))) l in (
+      sym (ap (λ y. record {
+        forth = y;
+        back = advanced ks ready (tunnels.back t) (changed ch (tunnels.back t) p.back)
+            (draft_forth ss ks (changed ch) ready t p x);
+      }) f.0 ∙ ap (λ y. record { forth = p.forth; back = y }) r.0),
       sym (r.1 ∙ f.1),
     )

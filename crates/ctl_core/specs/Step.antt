@@ -191,7 +191,7 @@ abbrev pub noticed : Core → ℕ → Notice → Outcome
 noticed c g n =
     if core.is_open_at c.stations g
     then ran c (notice_effect g (core.list_at c.stations g) n) (readiness c.stations)
-        (asked_again g (core.queue_at c.stations g) n (no_draft c))
+    (asked_again g (core.queue_at c.stations g) n (no_draft c))
     else still c
 
 -- ## commands
@@ -210,8 +210,11 @@ policy_at c g l = if nat_lt g (length c.stations) then policy_taken c g l else r
 
 -- the spent tunnels are forgotten, and one more comes last; with `now` it wants associations at once
 abbrev pub with_tunnel : Core → Tunnel → Bool → Core
-with_tunnel c t now = record c { tunnels = unspent_tunnels c.tunnels c.pairs ++ t ∷ []; pairs = unspent_pairs c.tunnels c.pairs
-    ++ tunnels.begun now ∷ [] }
+with_tunnel c t now = record c {
+  tunnels = unspent_tunnels c.tunnels c.pairs ++ t ∷ [];
+  pairs = unspent_pairs c.tunnels c.pairs
+      ++ tunnels.begun now ∷ [];
+}
 
 -- the tunnel is accepted, and gets its first orders where sessions are read and keys are left
 abbrev pub tunnel_taken : Core → Tunnel → Bool → Outcome

@@ -157,7 +157,8 @@ impl Controller {
         draft: &mut Draft,
     ) -> Result<Progress, NoMemory>
         ensures progress { IfOk result (λ p. p ≡ passes.advanced self.now.keys ready.now direction.now progress draft.old) }
-        ensures draft { OnOk result (draft.new ≡ passes.drafted self.now.stations self.now.keys ready.now direction.now progress draft.old) }
+        ensures draft { OnOk result (draft.new ≡ passes.drafted self.now.stations self.now.keys ready.now direction.now progress
+            draft.old) }
     {
         let sender = is_ready(ready, direction.sender);
         let receiver = is_ready(ready, direction.receiver);
@@ -180,8 +181,10 @@ impl Controller {
         ready: &[bool],
         draft: &mut Draft,
     ) -> Result<Pair, NoMemory>
-        ensures pair { IfOk result (λ p. p ≡ passes.advanced_pair self.now.stations self.now.keys (changed change.now) ready.now tunnel.now pair.now draft.old) }
-        ensures draft { OnOk result (draft.new ≡ passes.draft_pair self.now.stations self.now.keys (changed change.now) ready.now tunnel.now pair.now draft.old) }
+        ensures pair { IfOk result (λ p. p ≡ passes.advanced_pair self.now.stations self.now.keys (changed change.now) ready.now tunnel.now
+            pair.now draft.old) }
+        ensures draft { OnOk result (draft.new ≡ passes.draft_pair self.now.stations self.now.keys (changed change.now) ready.now tunnel.now
+            pair.now draft.old) }
     {
         let forth = tunnel.forth();
         let back = tunnel.back();
@@ -202,8 +205,10 @@ impl Controller {
         ready: &[bool],
         draft: &mut Draft,
     ) -> Result<Vec<Pair>, NoMemory>
-        ensures pairs { IfOk result (λ v. v.items ≡ passes.pass_pairs self.now.stations self.now.keys (changed change.now) ready.now tunnels.now pairs.now draft.old) }
-        ensures draft { OnOk result (draft.new ≡ passes.pass_draft self.now.stations self.now.keys (changed change.now) ready.now tunnels.now pairs.now draft.old) }
+        ensures pairs { IfOk result (λ v. v.items ≡ passes.pass_pairs self.now.stations self.now.keys (changed change.now) ready.now
+            tunnels.now pairs.now draft.old) }
+        ensures draft { OnOk result (draft.new ≡ passes.pass_draft self.now.stations self.now.keys (changed change.now) ready.now
+            tunnels.now pairs.now draft.old) }
     {
         let mut after = Vec::with_capacity(self.alloc, pairs.len())?;
         let count = tunnels.len().min(pairs.len());

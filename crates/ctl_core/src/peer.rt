@@ -255,7 +255,8 @@ pub fn drop_session(stations: &mut Vec<Station>, gateway: usize)
 
 /// Takes away the oldest waiting order of a gateway, whose session is read then.
 pub fn take_answered(stations: &mut Vec<Station>, gateway: usize)
-    ensures { stations.new.items ≡ core.at gateway (λ s. record s { session = sessions.Read; queue = core.without_front s.queue }) stations.old.items }
+    ensures { stations.new.items ≡ core.at gateway (λ s. record s { session = sessions.Read; queue = core.without_front s.queue })
+        stations.old.items }
 {
     if gateway < stations.len() {
         let station = &mut stations[gateway];

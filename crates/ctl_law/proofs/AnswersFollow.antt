@@ -55,8 +55,11 @@ read-then n f (inl e) = rw e (or-true (n + 1 == 1))
 read-then n f (inr e) = rw e refl
 
 spent-answered : (h : List ControllerAct) (g s n : ℕ) (a : Answer) (d : Way) → IsSpent h d → IsSpent (Answered g s n a ∷ h) d
-spent-answered h g s n a d u = record { over = u.over; left = ap (filter (λ x. not (is_answer_to RemovingIn x.serial (oldest (queue g h)))))
-    u.left }
+spent-answered h g s n a d u = record {
+  over = u.over;
+  left = ap (filter (λ x. not (is_answer_to RemovingIn x.serial (oldest (queue g h)))))
+      u.left;
+}
 
 answering : (ps : List Peer) (h : List ControllerAct) (c : Core) (g s n : ℕ) (a : Answer) (o : ControllerOrder) (os : List ControllerOrder)
     → IsControllerPast (length ps) h → PlainAnswers h → StandsFor ps h c → g < length ps
@@ -64,11 +67,11 @@ answering : (ps : List Peer) (h : List ControllerAct) (c : Core) (g s n : ℕ) (
     → Follows ps h (going h (Answered g s n a)) (step.answering c g (step.front_effect g a (Some (waiting_of ps o))))
 answering ps h c g s n a o os l y f i q t u v =
     follows-at ps h [] (Answered g s n a) c (step.front_effect g a (Some (waiting_of ps o)))
-        (step.set_ready g true (step.readiness c.stations)) (step.no_draft c) g
-        (λ t. record t { session = sessions.Read; queue = core.without_front t.queue }) refl run
+    (step.set_ready g true (step.readiness c.stations)) (step.no_draft c) g
+    (λ t. record t { session = sessions.Read; queue = core.without_front t.queue }) refl run
     (numbered-at (λ t. record t { session = sessions.Read; queue = core.without_front t.queue })
-        (longer ps h (all_orders (Answered g s n a ∷ h) []))
-        (station_of ps (after (Answered g s n a ∷ h) (all_orders (Answered g s n a ∷ h) []))) g 0 g ps (omega arith) here there)
+    (longer ps h (all_orders (Answered g s n a ∷ h) []))
+    (station_of ps (after (Answered g s n a ∷ h) (all_orders (Answered g s n a ∷ h) []))) g 0 g ps (omega arith) here there)
   where
     up : is_open g h ≡ true
     up = open-by (length ps) h g o os l q (is_open g h) refl
@@ -105,8 +108,11 @@ answering ps h c g s n a o os l y f i q t u v =
       draft = refl;
     })
 
-    here : (p : Peer) → record (longer ps h (all_orders (Answered g s n a ∷ h) []) g p) { session = sessions.Read; queue =
-        core.without_front (longer ps h (all_orders (Answered g s n a ∷ h) []) g p).queue } ≡ station_of ps
+    here : (p : Peer) → record (longer ps h (all_orders (Answered g s n a ∷ h) []) g p) {
+      session = sessions.Read;
+      queue =
+          core.without_front (longer ps h (all_orders (Answered g s n a ∷ h) []) g p).queue;
+    } ≡ station_of ps
         (after (Answered g s n a ∷ h) (all_orders (Answered g s n a ∷ h) [])) g p
     here p =
         let e : (g == g) ≡ true = eq-own g in

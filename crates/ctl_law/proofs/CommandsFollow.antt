@@ -54,12 +54,12 @@ policy : (ps : List Peer) (h : List ControllerAct) (c : Core) (g : ℕ) (r : Lis
     → Follows ps h (going h (Accepted (SetPolicy g r))) (step.policy_taken c g r)
 policy ps h c g r l y f i w =
     follows-at ps h (by_command (Accepted (SetPolicy g r) ∷ h) (SetPolicy g r)) (Accepted (SetPolicy g r)) c step.nothing
-        (step.readiness c.stations) (step.policy_drafted c g r) g (λ t. record t { list = Some r }) refl run
+    (step.readiness c.stations) (step.policy_drafted c g r) g (λ t. record t { list = Some r }) refl run
     (numbered-at (λ t. record t { list = Some r })
-        (longer ps h (all_orders (Accepted (SetPolicy g r) ∷ h) (by_command (Accepted (SetPolicy g r) ∷ h) (SetPolicy g r))))
-        (station_of ps (after (Accepted (SetPolicy g r) ∷ h)
-        (all_orders (Accepted (SetPolicy g r) ∷ h) (by_command (Accepted (SetPolicy g r) ∷ h) (SetPolicy g r))))) g 0 g ps (omega arith)
-        here there)
+    (longer ps h (all_orders (Accepted (SetPolicy g r) ∷ h) (by_command (Accepted (SetPolicy g r) ∷ h) (SetPolicy g r))))
+    (station_of ps (after (Accepted (SetPolicy g r) ∷ h)
+    (all_orders (Accepted (SetPolicy g r) ∷ h) (by_command (Accepted (SetPolicy g r) ∷ h) (SetPolicy g r))))) g 0 g ps (omega arith)
+    here there)
   where
     run : Ran ps h (Accepted (SetPolicy g r) ∷ h) (by_command (Accepted (SetPolicy g r) ∷ h) (SetPolicy g r)) c step.nothing
         (step.readiness c.stations) (step.policy_drafted c g r)
@@ -83,7 +83,7 @@ policy ps h c g r l y f i w =
         same-ways : Changed step.nothing (Accepted (SetPolicy g r) ∷ h) (directions h ++ []) c.tunnels c.pairs
         same-ways = subst (λ ds. Changed step.nothing (Accepted (SetPolicy g r) ∷ h) ds c.tunnels c.pairs) (sym (append-nil (directions h)))
             (all-changes step.nothing h (Accepted (SetPolicy g r) ∷ h) (directions h) c.tunnels c.pairs f.tunnels (λ d j. refl)
-                (λ d j u. record { over = u.over; left = u.left }))
+            (λ d j u. record { over = u.over; left = u.left }))
 
     here : (p : Peer) → record (longer ps h
         (all_orders (Accepted (SetPolicy g r) ∷ h) (by_command (Accepted (SetPolicy g r) ∷ h) (SetPolicy g r))) g p) { list = Some r } ≡
@@ -92,8 +92,8 @@ policy ps h c g r l y f i w =
     here p =
         let e : (g == g) ≡ true = eq-own g in
         rw (station-after ps (Accepted (SetPolicy g r) ∷ h)
-            (all_orders (Accepted (SetPolicy g r) ∷ h) (by_command (Accepted (SetPolicy g r) ∷ h) (SetPolicy g r))) g p run.orders)
-            (rw e refl)
+        (all_orders (Accepted (SetPolicy g r) ∷ h) (by_command (Accepted (SetPolicy g r) ∷ h) (SetPolicy g r))) g p run.orders)
+        (rw e refl)
 
     there : (j : ℕ) (p : Peer) → (j == g) ≡ false
         → longer ps h (all_orders (Accepted (SetPolicy g r) ∷ h) (by_command (Accepted (SetPolicy g r) ∷ h) (SetPolicy g r))) j p ≡
@@ -159,7 +159,7 @@ ended : (ps : List Peer) (h : List ControllerAct) (c : Core) (r : ℕ) → IsCon
 ended ps h c r l y f w =
     quietly ps h c (step.end_effect r) (End r) l y w f.gateways (f.keys ∙ sym (append-nil (past.keys h))) f.serials
     (kept-ways (step.end_effect r) h (Accepted (End r) ∷ h) c.tunnels c.pairs refl f.tunnels
-        (λ d j. sym (progress-end (length ps) h r d l j)) (λ d j u. record { over = spent d u; left = u.left }))
+    (λ d j. sym (progress-end (length ps) h r d l j)) (λ d j u. record { over = spent d u; left = u.left }))
     (λ j. refl)
   where
     spent : (d : Way) → IsSpent h d → is_over d (Accepted (End r) ∷ h) ≡ true
@@ -171,7 +171,7 @@ rekeyed : (ps : List Peer) (h : List ControllerAct) (c : Core) (r : ℕ) → IsC
 rekeyed ps h c r l y f w =
     quietly ps h c (step.rekey_effect r) (Rekey r) l y w f.gateways (f.keys ∙ sym (append-nil (past.keys h))) f.serials
     (kept-ways (step.rekey_effect r) h (Accepted (Rekey r) ∷ h) c.tunnels c.pairs refl f.tunnels (λ d j. sym (progress-rekey h r d))
-        (λ d j u. record { over = u.over; left = u.left }))
+    (λ d j u. record { over = u.over; left = u.left }))
     (λ j. refl)
 
 pub end-follows : (ps : List Peer) (h : List ControllerAct) (c : Core) (r : ℕ) → IsControllerPast (length ps) h → PlainAnswers h
@@ -205,9 +205,9 @@ keys-follow ps h c k l y f = case (refusal (length ps) h (Keys k)) refl (ap (key
         → Follows ps h (going h (Accepted (Keys k))) (step.waited (record c { keys = c.keys ++ k ∷ [] }))
     taken w =
         quietly ps h (record c { keys = c.keys ++ k ∷ [] }) step.nothing (Keys k) l y w f.gateways (ap (λ ks. ks ++ k ∷ []) f.keys)
-            f.serials
+        f.serials
         (kept-ways step.nothing h (Accepted (Keys k) ∷ h) c.tunnels c.pairs refl f.tunnels (λ d j. refl)
-            (λ d j u. record { over = u.over; left = u.left }))
+        (λ d j u. record { over = u.over; left = u.left }))
         (λ j. refl)
 
     case : (o : Option Refusal) → refusal (length ps) h (Keys k) ≡ o → key_refusal k c.keys ≡ refusal (length ps) h (Keys k)

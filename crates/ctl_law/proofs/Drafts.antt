@@ -41,8 +41,12 @@ serial_after (PutIn x) n = x.serial
 serial_after (_) n = n
 
 abbrev pub with_order : List Peer → ℕ → ControllerOrder → Drafted → Drafted
-with_order ps g o x = record { acts = x.acts ++ done.Order g (order_told ps o) ∷ []; queues = queued g (waiting_of ps o) x.queues; serials =
-    serial_after o x.serials }
+with_order ps g o x = record {
+  acts = x.acts ++ done.Order g (order_told ps o) ∷ [];
+  queues = queued g (waiting_of ps o) x.queues;
+  serials =
+      serial_after o x.serials;
+}
 
 -- with the orders of these acts
 abbrev pub drafting : List Peer → List ControllerAct → Drafted → Drafted
@@ -100,14 +104,14 @@ put-out-told : (ps : List Peer) (h : List ControllerAct) (ss : List Station) (ks
 put-out-told ps h ss ks ready d x b w i j k =
     subst (λ z. passes.order_of ss ks (direction_of z) (record { task = tasks.PutOut; serial = x.serial }) ≡ order_told ps (PutOut x)) w
     (ap tree.Put (out-entry ps x _ _ _ j (key-is ks x.serial x.key i (ap (place (x.serial - 1)) b.keys ∙ k)) (b.addresses x.way.sender)
-        (b.addresses x.way.receiver)))
+    (b.addresses x.way.receiver)))
 
 put-in-told : (ps : List Peer) (h : List ControllerAct) (ss : List Station) (ks : List (List ℕ)) (ready : List Bool) (x : Association)
     → AtHand ps h ss ks ready → 0 < x.serial → x.serial ≤ 1048576 → place (x.serial - 1) (keys h) ≡ Some x.key
     → passes.order_of ss ks (direction_of x.way) (record { task = tasks.PutIn; serial = x.serial }) ≡ order_told ps (PutIn x)
 put-in-told ps h ss ks ready x b i j k =
     ap tree.Put (in-entry ps x _ _ _ j (key-is ks x.serial x.key i (ap (place (x.serial - 1)) b.keys ∙ k)) (b.addresses x.way.sender)
-        (b.addresses x.way.receiver))
+    (b.addresses x.way.receiver))
 
 with-half : ℕ → Option HalfOrder → Drafted → orders.Order.Order → Drafted
 with-half g o x z = draft_given g z o x
@@ -128,15 +132,19 @@ draft-given ps p h d ss ks ready x _ l m i b (in_removed z f j t e u) = refl
 draft-given ps p h d ss ks ready x _ l m i b (out_was_put z f j t e u v) =
     let q = left-serial p h l d z j in
     ap (λ y. draft_given d.sender y (half tasks.PutOut z.serial) x) (put-out-told ps h ss ks ready d z b (sym (own-way p h l d z i j)) q.0
-        q.1 (left-key p h l d z j))
+    q.1 (left-key p h l d z j))
 draft-given ps p h d ss ks ready x _ l m i b (in_was_put k r f s t u v w) =
     let put : ControllerAct = order h d.receiver (PutIn (record { serial = serials h + 1; key = k; way = d })) in
     let c : length (keys h) ≤ 1048576 = few-keys p h l in
     let e : serials h + 1 ≤ length (keys h) = few-serials p (put ∷ h) m in
     let q : serials h + 1 ≤ 1048576 = omega arith in
-    ap (λ y. record { acts = x.acts ++ done.Order d.receiver y ∷ []; queues =
-        queued d.receiver (record { order = y; half = half tasks.PutIn (serials h + 1) }) x.queues; serials = serials h + 1 })
-        (put-in-told ps h ss ks ready (record { serial = serials h + 1; key = k; way = d }) b (omega arith) q (first-key p h k r l s))
+    ap (λ y. record {
+      acts = x.acts ++ done.Order d.receiver y ∷ [];
+      queues =
+          queued d.receiver (record { order = y; half = half tasks.PutIn (serials h + 1) }) x.queues;
+      serials = serials h + 1;
+    })
+    (put-in-told ps h ss ks ready (record { serial = serials h + 1; key = k; way = d }) b (omega arith) q (first-key p h k r l s))
 
 advance-given : (p : ℕ) (h : List ControllerAct) (d : Way) (os : List ControllerAct) → IsControllerPast p h
     → IsControllerPast p (after h os) → PlainAnswers h → Has d (directions h) → Given h d os

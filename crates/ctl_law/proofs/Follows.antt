@@ -55,6 +55,11 @@ pub follows-refused : (ps : List Peer) (h : List ControllerAct) (c : Core) (w : 
     → Follows ps h (Refused w ∷ []) (step.refused c w)
 follows-refused ps h c w s = record {
   acts = refl;
-  stands = record { gateways = s.gateways ∙ numbered-same (station_of ps h) (station_of ps (Refused w ∷ h)) 0 ps (λ j p l. refl); tunnels =
-      refused-tunnels h w (directions h) c.tunnels c.pairs s.tunnels; keys = s.keys; serials = s.serials };
+  stands = record {
+    gateways = s.gateways ∙ numbered-same (station_of ps h) (station_of ps (Refused w ∷ h)) 0 ps (λ j p l. refl);
+    tunnels =
+        refused-tunnels h w (directions h) c.tunnels c.pairs s.tunnels;
+    keys = s.keys;
+    serials = s.serials;
+  };
 }

@@ -74,17 +74,17 @@ asked-for ps k (Refused w ∷ os) x a = absurd a
 
 -- h is the past before the event, k with its own act, and os the orders that the act asks for
 pub record Runs (ps : List Peer) (h k os : List ControllerAct) (c : Core) (ch : passes.Effect) (ready : List Bool) (x : Drafted) : Type 0
-    where
-  pub stations : c.stations ≡ numbered (station_of ps h) 0 ps
-  pub keys : c.keys ≡ past.keys k
-  pub serials : c.serials ≡ past.serials k
-  pub changed : Changed ch k (directions k) c.tunnels c.pairs
-  pub reads : (g : ℕ) → g < length ps → passes.is_read ready g ≡ past.is_read g k
-  pub lawful : IsControllerPast (length ps) k
-  pub plain : PlainAnswers k
-  pub may : ControllerMayActAll (length ps) k os
-  pub asked : Asked os
-  pub draft : x ≡ drafting ps os (step.no_draft c)
+  where
+    pub stations : c.stations ≡ numbered (station_of ps h) 0 ps
+    pub keys : c.keys ≡ past.keys k
+    pub serials : c.serials ≡ past.serials k
+    pub changed : Changed ch k (directions k) c.tunnels c.pairs
+    pub reads : (g : ℕ) → g < length ps → passes.is_read ready g ≡ past.is_read g k
+    pub lawful : IsControllerPast (length ps) k
+    pub plain : PlainAnswers k
+    pub may : ControllerMayActAll (length ps) k os
+    pub asked : Asked os
+    pub draft : x ≡ drafting ps os (step.no_draft c)
 
 abbrev pub all_orders : List ControllerAct → List ControllerAct → List ControllerAct
 all_orders k os = os ++ pass (after k os) (directions (after k os))
@@ -94,14 +94,14 @@ abbrev pub longer : List Peer → List ControllerAct → List ControllerAct → 
 longer ps h xs j p = record (station_of ps h j p) { queue = map (waiting_of ps) (queue j h) ++ map (waiting_of ps) (orders_for j xs) }
 
 pub record Ran (ps : List Peer) (h k os : List ControllerAct) (c : Core) (ch : passes.Effect) (ready : List Bool) (x : Drafted) : Type 0
-    where
-  pub acts : (step.ran c ch ready x).acts ≡ all_done ps (all_orders k os)
-  pub orders : Orders (all_orders k os)
-  pub stations : (step.ran c ch ready x).core.stations ≡ numbered (longer ps h (all_orders k os)) 0 ps
-  pub tunnels : TunnelsStand (after k (all_orders k os)) (directions (after k (all_orders k os))) (step.ran c ch ready x).core.tunnels
-      (step.ran c ch ready x).core.pairs
-  pub keys : (step.ran c ch ready x).core.keys ≡ past.keys (after k (all_orders k os))
-  pub serials : (step.ran c ch ready x).core.serials ≡ past.serials (after k (all_orders k os))
+  where
+    pub acts : (step.ran c ch ready x).acts ≡ all_done ps (all_orders k os)
+    pub orders : Orders (all_orders k os)
+    pub stations : (step.ran c ch ready x).core.stations ≡ numbered (longer ps h (all_orders k os)) 0 ps
+    pub tunnels : TunnelsStand (after k (all_orders k os)) (directions (after k (all_orders k os))) (step.ran c ch ready x).core.tunnels
+        (step.ran c ch ready x).core.pairs
+    pub keys : (step.ran c ch ready x).core.keys ≡ past.keys (after k (all_orders k os))
+    pub serials : (step.ran c ch ready x).core.serials ≡ past.serials (after k (all_orders k os))
 
 pub runs : (ps : List Peer) (h k os : List ControllerAct) (c : Core) (ch : passes.Effect) (ready : List Bool) (x : Drafted)
     → Runs ps h k os c ch ready x → Ran ps h k os c ch ready x
@@ -115,7 +115,7 @@ runs ps h k os c ch ready x r = record {
   tunnels = subst (λ ds. TunnelsStand (after k (all_orders k os)) ds c.tunnels (passes.pass_pairs c.stations c.keys ch ready c.tunnels
       c.pairs x)) (sym ways)
       (subst (λ m. TunnelsStand m (directions (after k os)) c.tunnels (passes.pass_pairs c.stations c.keys ch ready c.tunnels c.pairs x))
-          (sym last) passing.stands);
+      (sym last) passing.stands);
   keys = r.keys ∙ sym (keys-after-orders k (all_orders k os) all);
   serials = ap (λ (y : Drafted). y.serials) passing.draft ∙ passing.serials ∙ ap past.serials (sym last);
 }

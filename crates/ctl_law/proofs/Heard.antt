@@ -78,8 +78,15 @@ progress-end p h r d l i = case (d.tunnel.reqid == r) refl
     own x j = ap (λ (z : Way). z.tunnel.reqid) (sym (own-way p h l d x i j))
 
     life : Bool → Association → Life
-    life b x = record { serial = x.serial; in_done = (life_of h x).in_done; out_sent = (life_of h x).out_sent; out_done =
-        (life_of h x).out_done; out_gone = (life_of h x).out_gone; ended = b || is_ended x h }
+    life b x = record {
+      serial = x.serial;
+      in_done = (life_of h x).in_done;
+      out_sent = (life_of h x).out_sent;
+      out_done =
+          (life_of h x).out_done;
+      out_gone = (life_of h x).out_gone;
+      ended = b || is_ended x h;
+    }
 
     after-end : (x : Association) → Has x (left d h) → (b : Bool) → (d.tunnel.reqid == r) ≡ b → life b x ≡ life_of (Accepted (End r) ∷ h) x
     after-end x j b t = let e : (x.way.tunnel.reqid == r) ≡ b = (rw (own x j) t) in rw e refl
@@ -88,9 +95,9 @@ progress-end p h r d l i = case (d.tunnel.reqid == r) refl
         else progress_of h d)
     case true t = same-progress _ _ _ _ _ _ _ _ _ _ (rw t refl) refl refl
         (sym (made-first (lives.ended_if true) (life_of h) (life_of (Accepted (End r) ∷ h)) (older_left d h)
-            (λ x e. after-end x (older-left d h x e) true t)))
+        (λ x e. after-end x (older-left d h x e) true t)))
         (sym (made-first (lives.ended_if true) (life_of h) (life_of (Accepted (End r) ∷ h)) (newest_left d h)
-            (λ x e. after-end x (newest-left d h x e) true t)))
+        (λ x e. after-end x (newest-left d h x e) true t)))
     case false t = same-progress _ _ _ _ _ _ _ _ _ _ (rw t refl) refl refl
         (same-first (life_of (Accepted (End r) ∷ h)) (life_of h) (older_left d h) (λ x e. sym (after-end x (older-left d h x e) false t)))
         (same-first (life_of (Accepted (End r) ∷ h)) (life_of h) (newest_left d h) (λ x e. sym (after-end x (newest-left d h x e) false t)))
@@ -122,7 +129,7 @@ progress-new p h t d l u =
     let m : is_made_by (Tunnel t) (length (directions h)) d ≡ true = grind arith in
     let a : filter (is_own d []) (queue d.sender h) ≡ [] = filter-none (is_own d []) (queue d.sender h) (not-own p h d l u d.sender) in
     let b : filter (is_own d []) (queue d.receiver h) ≡ [] = filter-none (is_own d []) (queue d.receiver h) (not-own p h d l u d.receiver)
-        in
+    in
     rw (m, a, b) refl
 
 -- ## a notice
@@ -229,9 +236,9 @@ worn p h d g name l a = by-half h d g (half_named name)
 
     case : (half : Option HalfName) (m : Option Association) → newest_left d h ≡ m → IsHalfName name half
         → list_any (λ x. (x.serial == newest_serial d h) && not (is_ended x h)) (left d h) ≡ steps.when (λ x. not x.ended)
-            (option_map (life_of h) m)
+        (option_map (life_of h) m)
         → worn_half h d g half m ≡ (is_half_at d g name (newest_serial d h)
-            && list_any (λ x. (x.serial == newest_serial d h) && not (is_ended x h)) (left d h))
+        && list_any (λ x. (x.serial == newest_serial d h) && not (is_ended x h)) (left d h))
     case None None e k u = rw u (sym (and-false (is_half_at d g name (newest_serial d h))))
     case None (Some x) e k u = rw (side d g name (newest_serial d h) None k (is-small x e), no-half d g (newest_serial d h)) refl
     case (Some half) None e k u = rw u (sym (and-false (is_half_at d g name (newest_serial d h))))

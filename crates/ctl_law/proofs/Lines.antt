@@ -128,7 +128,7 @@ drafted-queues ps (Ordered g s n o ∷ os) x before a e =
     drafted-queues ps os (with_order ps g o x) (λ j. if j == g then before j ++ o ∷ [] else before j) a
     (ap (queued g (waiting_of ps o)) e
     ∙ numbered-queued (waiting_of ps o) (λ j p. map (waiting_of ps) (before j)) (λ j p. map (waiting_of ps) (if j == g then before j ++ o
-        ∷ [] else before j)) g 0 g ps (omega arith)
+    ∷ [] else before j)) g 0 g ps (omega arith)
     (λ p. one-more ps (g == g) (before g) o (grind arith))
     (λ j p t. rw t refl))
     ∙ numbered-same _ _ 0 ps (λ j p l. ap (map (waiting_of ps)) (add-one-for (j == g) (before j) (orders_for j os) o))

@@ -87,23 +87,29 @@ reads-at ps h ss g e l =
     ap (λ xs. passes.is_read (readiness xs) g) e
     ∙ ap (λ xs. passes.is_read xs g) (numbered-map (λ s. core.is_ready s.session) (station_of ps h) 0 ps)
     ∙ ap passes.or_false (numbered-get (λ j p. core.is_ready (session_of (is_open j h) (is_first_answered j h))) g 0 g ps (omega arith)
-        ∙ ap (option_map (λ p. core.is_ready (session_of (is_open g h) (is_first_answered g h)))) q.1)
+    ∙ ap (option_map (λ p. core.is_ready (session_of (is_open g h) (is_first_answered g h)))) q.1)
     ∙ ready-of (is_open g h) (is_first_answered g h)
 
 pub reads-set : (ps : List Peer) (h : List ControllerAct) (ss : List Station) (g j : ℕ) (b : Bool) → ss ≡ numbered (station_of ps h) 0 ps
     → g < length ps → j < length ps → passes.is_read (set_ready g b (readiness ss)) j ≡ (if j == g then b else is_read j h)
 reads-set ps h ss g j b e l m =
     let c : length (readiness ss) ≡ length ps = ap (λ xs. length (readiness xs)) e
-        ∙ ap length (numbered-map (λ s. core.is_ready s.session) (station_of ps h) 0 ps)
-        ∙ numbered-length (λ j p. core.is_ready (session_of (is_open j h) (is_first_answered j h))) 0 ps in
+    ∙ ap length (numbered-map (λ s. core.is_ready s.session) (station_of ps h) 0 ps)
+    ∙ numbered-length (λ j p. core.is_ready (session_of (is_open j h) (is_first_answered j h))) 0 ps in
     set-get g j b (readiness ss) (rw c l) ∙ ap (λ z. if j == g then b else z) (reads-at ps h ss j e m)
 
 -- ## a gateway after more orders
 
 pub station-after : (ps : List Peer) (k xs : List ControllerAct) (j : ℕ) (p : Peer) → Orders xs
-    → station_of ps (after k xs) j p ≡ record { name = p.name; address = p.address; session =
-    session_of (is_open j k) (is_first_answered j k); list = newest_list j k; queue = map (waiting_of ps) (queue j k)
-    ++ map (waiting_of ps) (orders_for j xs) }
+    → station_of ps (after k xs) j p ≡ record {
+      name = p.name;
+      address = p.address;
+      session =
+          session_of (is_open j k) (is_first_answered j k);
+      list = newest_list j k;
+      queue = map (waiting_of ps) (queue j k)
+          ++ map (waiting_of ps) (orders_for j xs);
+    }
 station-after ps k xs j p a =
     let s = same-after k xs j a in
     let u : is_open j (after k xs) ≡ is_open j k = s.up in

@@ -96,9 +96,9 @@ at-cut : (p : ℕ) (h : List ControllerAct) (d : Way) (f s : ℕ) (os : List Con
     → progress_of (Cut f s ∷ h) d ≡ after_loss h d os (first_half (own_orders d (Cut f s ∷ h)))
 at-cut p h d f s os k = same-progress _ _ _ _ _ _ _ _ _ _ refl (ap (λ b. b || is_wanted d h) k.puts) refl
     (same-first (life_of (Cut f s ∷ h)) (λ x. lives.ended_if (list_any (puts_serial x.serial) os) (life_of h x)) (older_left d h)
-        (λ x e. ap (λ b. lives.ended_if b (life_of h x)) (k.serials x (older-left d h x e))))
+    (λ x e. ap (λ b. lives.ended_if b (life_of h x)) (k.serials x (older-left d h x e))))
     (same-first (life_of (Cut f s ∷ h)) (λ x. lives.ended_if (list_any (puts_serial x.serial) os) (life_of h x)) (newest_left d h)
-        (λ x e. ap (λ b. lives.ended_if b (life_of h x)) (k.serials x (newest-left d h x e))))
+    (λ x e. ap (λ b. lives.ended_if b (life_of h x)) (k.serials x (newest-left d h x e))))
 
 filter-if : {A : Type 0} (r : A → Bool) (b : Bool) (xs : List A) → filter r (if b then [] else xs) ≡ (if b then [] else filter r xs)
 filter-if r true xs = refl
@@ -106,8 +106,11 @@ filter-if r false xs = refl
 
 own-cut : (h : List ControllerAct) (d : Way) (f s : ℕ) → own_orders d (Cut f s ∷ h) ≡ (if d.sender == f then [] else own_at d h d.sender)
     ++ (if d.receiver == f then [] else own_at d h d.receiver)
-own-cut h d f s = rw (filter-if (is_own d (left d h)) (d.sender == f) (queue d.sender h), filter-if (is_own d (left d h)) (d.receiver == f)
-    (queue d.receiver h)) refl
+own-cut h d f s = rw (
+  filter-if (is_own d (left d h)) (d.sender == f) (queue d.sender h),
+  filter-if (is_own d (left d h)) (d.receiver == f)
+      (queue d.receiver h),
+) refl
 
 none-lost : (p : ℕ) (h : List ControllerAct) (d : Way) (f s : ℕ) → IsControllerPast p h → Has d (directions h) → own_at d h f ≡ []
     → first_half (own_orders d (Cut f s ∷ h)) ≡ first_half (own_orders d h)
@@ -141,9 +144,9 @@ one-lost p h d f s o t n l i e u v q w r =
     lost = same-progress _ _ _ _ _ _ _ _ _ _ refl (ap (λ b. b || is_wanted d h) (or-false (is_put_of d o)
         ∙ own-puts d (left d h) o t n v u)) refl
         (sym (made-first (steps.lost_life (record { task = t; serial = n })) (life_of h)
-            (λ x. lives.ended_if (list_any (puts_serial x.serial) (o ∷ [])) (life_of h x)) (older_left d h) (λ x j. life x)))
+        (λ x. lives.ended_if (list_any (puts_serial x.serial) (o ∷ [])) (life_of h x)) (older_left d h) (λ x j. life x)))
         (sym (made-first (steps.lost_life (record { task = t; serial = n })) (life_of h)
-            (λ x. lives.ended_if (list_any (puts_serial x.serial) (o ∷ [])) (life_of h x)) (newest_left d h) (λ x j. life x)))
+        (λ x. lives.ended_if (list_any (puts_serial x.serial) (o ∷ [])) (life_of h x)) (newest_left d h) (λ x j. life x)))
 
     taken : steps.cut_waits (d.sender == f) (d.receiver == f) (progress_of h d) (first_half (own_orders d h)) ≡ steps.lost
         (record { task = t; serial = n }) (progress_of h d)

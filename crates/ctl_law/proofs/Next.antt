@@ -33,7 +33,7 @@ half_in t x = record { task = t; serial = x.serial }
 asked-first : (t : Task) (q : Life → Bool) (r : Association → Bool) (h : List ControllerAct) (a b : Option Association)
     → ((x : Association) → r x ≡ q (life_of h x))
     → steps.either (steps.asked t q (option_map (life_of h) a)) (steps.asked t q (option_map (life_of h) b)) ≡ option_map (half_in t)
-        (first r (listed a ++ listed b))
+    (first r (listed a ++ listed b))
 asked-first t q r h None None e = refl
 asked-first t q r h None (Some x) e = rw (e x) (one (q (life_of h x)))
   where
@@ -141,7 +141,7 @@ free-next p h d l y = rw (fresh-key p h l, out, inn, put) (by-out (first (may_ou
 
 pub next-is : (p : ℕ) (h : List ControllerAct) (d : Way) → IsControllerPast p h → PlainAnswers h → Awaits h d
     → steps.next (is_read d.sender h) (is_read d.receiver h) (passes.fresh_serial (keys h) (serials h)) (progress_of h d) ≡ next_half
-        (give h d)
+    (give h d)
 next-is p h d l y w = by w
   where
     busy : (xs : List ControllerOrder) → own_orders d h ≡ xs → is_busy d h ≡ is_busy d h

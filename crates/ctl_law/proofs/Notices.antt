@@ -48,11 +48,11 @@ draft-notice ps k g (notices.BadSpi n) x = rw (reading-waits ps (queue g k)) (ca
 heard : (ps : List Peer) (h : List ControllerAct) (c : Core) (g : ℕ) (t : Notice) → IsControllerPast (length ps) h → PlainAnswers h
     → StandsFor ps h c → g < length ps → is_open g h ≡ true
     → Follows ps h (going h (Heard g (openings g h) t)) (step.ran c (step.notice_effect g (core.list_at c.stations g) t)
-        (step.readiness c.stations) (step.asked_again g (core.queue_at c.stations g) t (step.no_draft c)))
+    (step.readiness c.stations) (step.asked_again g (core.queue_at c.stations g) t (step.no_draft c)))
 heard ps h c g t l y s i o =
     follows-run ps h (by_notice (Heard g (openings g h) t ∷ h) g t) (Heard g (openings g h) t) c
-        (step.notice_effect g (core.list_at c.stations g) t) (step.readiness c.stations) (step.asked_again g (core.queue_at c.stations g) t
-        (step.no_draft c)) refl run same
+    (step.notice_effect g (core.list_at c.stations g) t) (step.readiness c.stations) (step.asked_again g (core.queue_at c.stations g) t
+    (step.no_draft c)) refl run same
   where
     run : Ran ps h (Heard g (openings g h) t ∷ h) (by_notice (Heard g (openings g h) t ∷ h) g t) c
         (step.notice_effect g (core.list_at c.stations g) t) (step.readiness c.stations) (step.asked_again g (core.queue_at c.stations g) t
@@ -64,7 +64,7 @@ heard ps h c g t l y s i o =
       changed = changes (step.notice_effect g (core.list_at c.stations g) t) h (Heard g (openings g h) t ∷ h) (directions h) c.tunnels
           c.pairs s.tunnels
           (λ d j. ap (λ z. step.notice_effect g z t (direction_of d) (progress_of h d)) (list-at ps h c.stations g s.gateways i)
-              ∙ sym (progress-noticed (length ps) h g (openings g h) t d l y))
+          ∙ sym (progress-noticed (length ps) h g (openings g h) t d l y))
           (λ d j u. record { over = u.over; left = u.left });
       reads = λ j m. reads-at ps h c.stations j s.gateways m;
       lawful = ((o, refl), l);

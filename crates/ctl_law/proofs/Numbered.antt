@@ -67,7 +67,7 @@ numbered-queued w f g n i k (p ∷ ps) e a b = case (k == 0) refl (numbered-queu
     case : (z : Bool) → (k == 0) ≡ z → (n ≡ i + 1 + (k - 1) → ((q : Peer) → f n q ++ w ∷ [] ≡ g n q)
         → ((j : ℕ) (q : Peer) → (j == n) ≡ false → f j q ≡ g j q) → queued (k - 1) w (numbered f (i + 1) ps) ≡ numbered g (i + 1) ps)
         → (if z then (f i p ++ w ∷ []) ∷ numbered f (i + 1) ps else f i p ∷ queued (k - 1) w (numbered f (i + 1) ps)) ≡ g i p
-            ∷ numbered g (i + 1) ps
+        ∷ numbered g (i + 1) ps
     case true t ih =
         let m : n ≡ i = grind arith in
         let h : f i p ++ w ∷ [] ≡ g i p = subst (λ z. f z p ++ w ∷ [] ≡ g z p) m (a p) in
@@ -103,7 +103,7 @@ first-place : (name : List ℕ) (f : ℕ → Peer → Station) (i : ℕ) (ps : L
 first-place name f i [] e = refl
 first-place name f i (p ∷ ps) e =
     let ih : position_or_len (λ (s : Station). bytes_eq s.name name) (numbered f (i + 1) ps) ≡ peer_number name ps =
-        first-place name f (i + 1) ps e in
+    first-place name f (i + 1) ps e in
     let h : (f i p).name ≡ p.name = e i p in
     rw (h, ih) (case (bytes_eq p.name name))
   where

@@ -114,11 +114,11 @@ now-own p h g s n o d l i t w = one-is (own_orders d (Ordered g s n o ∷ h)) o 
 pub progress-remove-in : (p : ℕ) (h : List ControllerAct) (g s n : ℕ) (x : Association) (d : Way)
     → IsControllerPast p (Ordered g s n (RemoveIn x.serial) ∷ h) → Has d (directions h) → Has x (left d h) → g ≡ d.receiver
     → progress_of (Ordered g s n (RemoveIn x.serial) ∷ h) d ≡ steps.ordered (record { task = tasks.RemoveIn; serial = x.serial })
-        (progress_of h d)
+    (progress_of h d)
 progress-remove-in p h g s n x d l i j e =
     let k : left d (Ordered g s n (RemoveIn x.serial) ∷ h) ≡ left d h = append-nil (left d h) in
     let t : list_any (λ z. z.serial == x.serial) (left d h) ≡ true = any-has (λ (z : Association). z.serial == x.serial) x (left d h) j
-        (eq-own x.serial) in
+    (eq-own x.serial) in
     let w = now-own p h g s n (RemoveIn x.serial) d l i (rw k t) (inr e) in
     same-progress _ _ _ _ _ _ _ _ _ _ refl refl (ap first_half w)
     (ap (option_map (life_of h)) (rw k refl))
@@ -127,11 +127,11 @@ progress-remove-in p h g s n x d l i j e =
 pub progress-remove-out : (p : ℕ) (h : List ControllerAct) (g s n : ℕ) (x : Association) (d : Way)
     → IsControllerPast p (Ordered g s n (RemoveOut x.serial) ∷ h) → Has d (directions h) → Has x (left d h) → g ≡ d.sender
     → progress_of (Ordered g s n (RemoveOut x.serial) ∷ h) d ≡ steps.ordered (record { task = tasks.RemoveOut; serial = x.serial })
-        (progress_of h d)
+    (progress_of h d)
 progress-remove-out p h g s n x d l i j e =
     let k : left d (Ordered g s n (RemoveOut x.serial) ∷ h) ≡ left d h = append-nil (left d h) in
     let t : list_any (λ z. z.serial == x.serial) (left d h) ≡ true = any-has (λ (z : Association). z.serial == x.serial) x (left d h) j
-        (eq-own x.serial) in
+    (eq-own x.serial) in
     let w = now-own p h g s n (RemoveOut x.serial) d l i (rw k t) (inl e) in
     same-progress _ _ _ _ _ _ _ _ _ _ refl refl (ap first_half w)
     (ap (option_map (life_of h)) (rw k refl))
@@ -145,11 +145,11 @@ progress-put-out p h g s n x d l i t e =
     let w = now-own p h g s n (PutOut x) d l i t (inl e) in
     same-progress _ _ _ _ _ _ _ _ _ _ refl refl (ap first_half w)
     (ap (option_map (life_of (Ordered g s n (PutOut x) ∷ h))) (rw k refl)
-        ∙ sym (made-first (steps.sent_life x.serial) (life_of h) (life_of (Ordered g s n (PutOut x) ∷ h)) (older_left d h)
-        (λ z u. life z (z.serial == x.serial) refl)))
+    ∙ sym (made-first (steps.sent_life x.serial) (life_of h) (life_of (Ordered g s n (PutOut x) ∷ h)) (older_left d h)
+    (λ z u. life z (z.serial == x.serial) refl)))
     (ap (option_map (life_of (Ordered g s n (PutOut x) ∷ h))) (rw k refl)
-        ∙ sym (made-first (steps.sent_life x.serial) (life_of h) (life_of (Ordered g s n (PutOut x) ∷ h)) (newest_left d h)
-        (λ z u. life z (z.serial == x.serial) refl)))
+    ∙ sym (made-first (steps.sent_life x.serial) (life_of h) (life_of (Ordered g s n (PutOut x) ∷ h)) (newest_left d h)
+    (λ z u. life z (z.serial == x.serial) refl)))
   where
     life : (z : Association) (b : Bool) → (z.serial == x.serial) ≡ b
         → (if z.serial == x.serial then lives.sent (life_of h z) else life_of h z) ≡ life_of (Ordered g s n (PutOut x) ∷ h) z
@@ -167,7 +167,7 @@ listed-two (Some y) (Some x) = omega arith
 older-of-new : (a b : Option Association) (x : Association) → length ((listed a ++ listed b) ++ x ∷ []) ≤ 2
     → ((z : Association) → Has z (listed a ++ listed b) → nat_lt z.serial x.serial ≡ true) → (f : Association → Life)
     → option_map f (first (λ z. nat_lt z.serial x.serial) ((listed a ++ listed b) ++ x ∷ [])) ≡ steps.newer_or (option_map f b)
-        (option_map f a)
+    (option_map f a)
 older-of-new None None x m k f = let t : nat_lt x.serial x.serial ≡ false = grind arith in rw t refl
 older-of-new None (Some y) x m k f = let t = k y (inl refl) in rw t refl
 older-of-new (Some y) None x m k f = let t = k y (inl refl) in rw t refl
@@ -184,7 +184,7 @@ pub progress-put-in : (p : ℕ) (h : List ControllerAct) (g s n : ℕ) (x : Asso
     → progress_of (Ordered g s n (PutIn x) ∷ h) d ≡ steps.ordered (record { task = tasks.PutIn; serial = x.serial }) (progress_of h d)
 progress-put-in p h g s n x d l y i t u e =
     same-progress _ _ _ _ _ _ _ _ _ _ refl (ap (λ b. not b && is_wanted d h) t)
-        (ap first_half (now-own p h g s n (PutIn x) d l i t (inr e))) older newer
+    (ap first_half (now-own p h g s n (PutIn x) d l i t (inr e))) older newer
   where
     lower : (z : Association) → Has z (left d h) → z.serial < x.serial
     lower z j = let q = low p h l.1 d z j in omega arith
@@ -201,7 +201,7 @@ progress-put-in p h g s n x d l y i t u e =
     few : length ((listed (older_left d h) ++ listed (newest_left d h)) ++ x ∷ []) ≤ 2
     few =
         let a : left d h ++ x ∷ [] ≡ listed (older_left d (Ordered g s n (PutIn x) ∷ h))
-            ++ listed (newest_left d (Ordered g s n (PutIn x) ∷ h)) = sym all ∙ left-two p (Ordered g s n (PutIn x) ∷ h) l y d in
+        ++ listed (newest_left d (Ordered g s n (PutIn x) ∷ h)) = sym all ∙ left-two p (Ordered g s n (PutIn x) ∷ h) l y d in
         let b = listed-two (older_left d (Ordered g s n (PutIn x) ∷ h)) (newest_left d (Ordered g s n (PutIn x) ∷ h)) in
         subst (λ z. length (z ++ x ∷ []) ≤ 2) two (subst (λ z. length z ≤ 2) (sym a) b)
 
@@ -214,19 +214,19 @@ progress-put-in p h g s n x d l y i t u e =
     newer : option_map (life_of (Ordered g s n (PutIn x) ∷ h)) (newest_left d (Ordered g s n (PutIn x) ∷ h)) ≡ Some (lives.begun x.serial)
     newer =
         let a : newest_left d (Ordered g s n (PutIn x) ∷ h) ≡ Some x =
-            rw (all, newest) (newest-of-new (left d h) x (λ z j. let q = lower z j in grind arith)) in
+        rw (all, newest) (newest-of-new (left d h) x (λ z j. let q = lower z j in grind arith)) in
         ap (option_map (life_of (Ordered g s n (PutIn x) ∷ h))) a ∙ ap Some new-life
 
     older : option_map (life_of (Ordered g s n (PutIn x) ∷ h)) (older_left d (Ordered g s n (PutIn x) ∷ h)) ≡ steps.newer_or
         (option_map (life_of h) (newest_left d h)) (option_map (life_of h) (older_left d h))
     older =
         let a : older_left d (Ordered g s n (PutIn x) ∷ h) ≡ first (λ z. nat_lt z.serial x.serial)
-            ((listed (older_left d h) ++ listed (newest_left d h)) ++ x ∷ []) =
-            rw (all, newest) (ap (λ xs. first (λ z. nat_lt z.serial x.serial) (xs ++ x ∷ [])) two) in
+        ((listed (older_left d h) ++ listed (newest_left d h)) ++ x ∷ []) =
+        rw (all, newest) (ap (λ xs. first (λ z. nat_lt z.serial x.serial) (xs ++ x ∷ [])) two) in
         ap (option_map (life_of (Ordered g s n (PutIn x) ∷ h))) a
         ∙ older-of-new (older_left d h) (newest_left d h) x few (λ z j. let q = lower z (subst (Has z) (sym two) j) in
-            grind arith) (life_of (Ordered g s n (PutIn x) ∷ h))
+        grind arith) (life_of (Ordered g s n (PutIn x) ∷ h))
         ∙ ap (steps.newer_or (option_map (life_of (Ordered g s n (PutIn x) ∷ h)) (newest_left d h)))
-            (same-first (life_of (Ordered g s n (PutIn x) ∷ h)) (life_of h) (older_left d h) (λ z j. old-life z (older-left d h z j)))
+        (same-first (life_of (Ordered g s n (PutIn x) ∷ h)) (life_of h) (older_left d h) (λ z j. old-life z (older-left d h z j)))
         ∙ ap (λ z. steps.newer_or z (option_map (life_of h) (older_left d h))) (same-first (life_of (Ordered g s n (PutIn x) ∷ h))
-            (life_of h) (newest_left d h) (λ z j. old-life z (newest-left d h z j)))
+        (life_of h) (newest_left d h) (λ z j. old-life z (newest-left d h z j)))

@@ -58,27 +58,51 @@ own-order p h l d i g (Policy r) j t = cc
 own-order p h l d i g (PutIn y) j t =
     let w = waiting-left p h l g (PutIn y) j in
     let e : d ≡ y.way = one-way h d y.way i w.0 (same-id d y.way t) in
-    record { task = tasks.PutIn; association = y; is = refl; left = subst (λ z. Has y (left z h)) (sym e) w.1; at = w.2
-        ∙ ap (λ (z : Way). z.receiver) (sym e) }
+    record {
+      task = tasks.PutIn;
+      association = y;
+      is = refl;
+      left = subst (λ z. Has y (left z h)) (sym e) w.1;
+      at = w.2
+          ∙ ap (λ (z : Way). z.receiver) (sym e);
+    }
 own-order p h l d i g (PutOut y) j t =
     let w = waiting-left p h l g (PutOut y) j in
     let e : d ≡ y.way = one-way h d y.way i w.0 (same-id d y.way t) in
-    record { task = tasks.PutOut; association = y; is = refl; left = subst (λ z. Has y (left z h)) (sym e) w.1; at = w.2
-        ∙ ap (λ (z : Way). z.sender) (sym e) }
+    record {
+      task = tasks.PutOut;
+      association = y;
+      is = refl;
+      left = subst (λ z. Has y (left z h)) (sym e) w.1;
+      at = w.2
+          ∙ ap (λ (z : Way). z.sender) (sym e);
+    }
 own-order p h l d i g (RemoveIn n) j t =
     let w = waiting-left p h l g (RemoveIn n) j in
     let q = any-one n (left d h) t in
     let s : q.0 ≡ w.0 = one p h l d w.0.way q.0 w.0 q.1 w.3 (q.2 ∙ w.1) in
     let e : d ≡ q.0.way = own-way p h l d q.0 i q.1 in
-    record { task = tasks.RemoveIn; association = q.0; is = ap (half tasks.RemoveIn) (sym q.2); left = q.1; at = w.4
-        ∙ ap (λ (z : Association). z.way.receiver) (sym s) ∙ ap (λ (z : Way). z.receiver) (sym e) }
+    record {
+      task = tasks.RemoveIn;
+      association = q.0;
+      is = ap (half tasks.RemoveIn) (sym q.2);
+      left = q.1;
+      at = w.4
+          ∙ ap (λ (z : Association). z.way.receiver) (sym s) ∙ ap (λ (z : Way). z.receiver) (sym e);
+    }
 own-order p h l d i g (RemoveOut n) j t =
     let w = waiting-left p h l g (RemoveOut n) j in
     let q = any-one n (left d h) t in
     let s : q.0 ≡ w.0 = one p h l d w.0.way q.0 w.0 q.1 w.3 (q.2 ∙ w.1) in
     let e : d ≡ q.0.way = own-way p h l d q.0 i q.1 in
-    record { task = tasks.RemoveOut; association = q.0; is = ap (half tasks.RemoveOut) (sym q.2); left = q.1; at = w.4
-        ∙ ap (λ (z : Association). z.way.sender) (sym s) ∙ ap (λ (z : Way). z.sender) (sym e) }
+    record {
+      task = tasks.RemoveOut;
+      association = q.0;
+      is = ap (half tasks.RemoveOut) (sym q.2);
+      left = q.1;
+      at = w.4
+          ∙ ap (λ (z : Association). z.way.sender) (sym s) ∙ ap (λ (z : Way). z.sender) (sym e);
+    }
 
 -- An order of another direction is of no association left in this one.
 pub foreign : (p : ℕ) (h : List ControllerAct) → IsControllerPast p h → (d : Way) → Has d (directions h) → (g : ℕ) (o : ControllerOrder)
@@ -90,14 +114,14 @@ foreign p h l d i g (PutIn y) j t x k = not-true (x.serial == y.serial) (λ u.
     let s : x ≡ y = one p h l d y.way x y k w.1 (grind arith) in
     let e : d ≡ x.way = own-way p h l d x i k in
     let f : (d.id == y.way.id) ≡ true = (let q : d.id ≡ y.way.id = ap (λ (z : Way). z.id) e ∙ ap (λ (z : Association). z.way.id) s in
-        grind arith) in
+    grind arith) in
     let v : true ≡ false = sym f ∙ t in cc)
 foreign p h l d i g (PutOut y) j t x k = not-true (x.serial == y.serial) (λ u.
     let w = waiting-left p h l g (PutOut y) j in
     let s : x ≡ y = one p h l d y.way x y k w.1 (grind arith) in
     let e : d ≡ x.way = own-way p h l d x i k in
     let f : (d.id == y.way.id) ≡ true = (let q : d.id ≡ y.way.id = ap (λ (z : Way). z.id) e ∙ ap (λ (z : Association). z.way.id) s in
-        grind arith) in
+    grind arith) in
     let v : true ≡ false = sym f ∙ t in cc)
 foreign p h l d i g (RemoveIn n) j t x k = not-true (x.serial == n) (λ u. let v : true ≡ false =
     sym (any-has (λ (z : Association). z.serial == n) x (left d h) k u) ∙ t in cc)

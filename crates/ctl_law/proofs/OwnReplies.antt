@@ -78,7 +78,7 @@ own-less d q xs (RemoveOut n) e = any-less (λ x. x.serial == n) q xs e
 gone-at : (h : List ControllerAct) (d : Way) (f g : ℕ) (o : ControllerOrder) (os : List ControllerOrder) (r : ControllerOrder → Bool)
     → queue f h ≡ o ∷ os → ((z : ControllerOrder) → r z ≡ true → is_own d (left d h) z ≡ true)
     → filter (is_own d (left d h)) os ≡ [] → (b : Bool) → (g == f) ≡ b → (b ≡ false → own_at d h g ≡ [])
-        → filter r (if b then rest (queue g h) else queue g h) ≡ []
+    → filter r (if b then rest (queue g h) else queue g h) ≡ []
 gone-at h d f g o os r e k u true t v =
     let w : g ≡ f = grind arith in
     let q : queue g h ≡ o ∷ os = ap (λ z. queue z h) w ∙ e in
@@ -91,9 +91,9 @@ gone h f s n a o os d e k =
     let l = left-answered h f s n a o os d e in
     let m = own-less d (λ x. not (is_kind RemovingIn x.serial o)) (left d h) in
     let r = gone-at h d f d.sender o os (is_own d (filter (λ x. not (is_kind RemovingIn x.serial o)) (left d h))) e m k.others
-        (d.sender == f) refl k.sender in
+    (d.sender == f) refl k.sender in
     let t = gone-at h d f d.receiver o os (is_own d (filter (λ x. not (is_kind RemovingIn x.serial o)) (left d h))) e m k.others
-        (d.receiver == f) refl k.receiver in
+    (d.receiver == f) refl k.receiver in
     rw (l, r, t) refl
 
 -- ## what becomes of its associations
@@ -174,19 +174,19 @@ keeps : (p : ℕ) (h : List ControllerAct) (f s n : ℕ) (a : Answer) (o : Contr
     → IsControllerPast p h → PlainAnswers h → queue f h ≡ o ∷ os → Keeps h f s n a o d
 keeps p h f s n a o os d l y e =
     let k : left d (Answered f s n a ∷ h) ≡ filter (λ x. not (is_kind RemovingIn x.serial o)) (left d h) = left-answered h f s n a o os d e
-        in
+    in
     let w : left d h ≡ listed (older_left d h) ++ listed (newest_left d h) = left-two p h l y d in
     record {
       older = ap (first (λ x. nat_lt x.serial (newest_serial d h))) k
           ∙ first-filter (λ x. nat_lt x.serial (newest_serial d h)) (λ x. not (is_kind RemovingIn x.serial o)) (left d h)
           ∙ ap (first (λ x. not (is_kind RemovingIn x.serial o) && nat_lt x.serial (newest_serial d h))) w
           ∙ first-two (λ x. nat_lt x.serial (newest_serial d h)) (λ x. not (is_kind RemovingIn x.serial o)) (older_left d h)
-              (newest_left d h) (below d h) (not-below d h);
+          (newest_left d h) (below d h) (not-below d h);
       newest = ap (first (λ x. x.serial == newest_serial d h)) k
           ∙ first-filter (λ x. x.serial == newest_serial d h) (λ x. not (is_kind RemovingIn x.serial o)) (left d h)
           ∙ ap (first (λ x. not (is_kind RemovingIn x.serial o) && (x.serial == newest_serial d h))) w
           ∙ second-two (λ x. x.serial == newest_serial d h) (λ x. not (is_kind RemovingIn x.serial o)) (older_left d h) (newest_left d h)
-              (older-below d h) (newest-is d h);
+          (older-below d h) (newest-is d h);
     }
 
 own-half : (h : List ControllerAct) (f s n : ℕ) (a : Answer) (o : ControllerOrder) (os : List ControllerOrder) (d : Way) (t : Task) (m : ℕ)
@@ -196,13 +196,13 @@ own-half h f s n a o os d t m e k w r =
     by-parts h f s n a o os d e
     ∙ same-progress _ _ _ _ _ _ _ _ _ _ refl (ap (λ b. b || is_wanted d h) r.cause) (ap first_half (gone h f s n a o os d e k))
     (ap (option_map (answered_life h f a o)) w.older ∙ kept-keep (lives.answered (record { task = t; serial = m }) a.status) (life_of h)
-        (answered_life h f a o) (λ x. not (is_kind RemovingIn x.serial o)) (older_left d h) (λ x j. r.left x (older-left d h x j)))
+    (answered_life h f a o) (λ x. not (is_kind RemovingIn x.serial o)) (older_left d h) (λ x j. r.left x (older-left d h x j)))
     (ap (option_map (answered_life h f a o)) w.newest ∙ kept-keep (lives.answered (record { task = t; serial = m }) a.status) (life_of h)
-        (answered_life h f a o) (λ x. not (is_kind RemovingIn x.serial o)) (newest_left d h) (λ x j. r.left x (newest-left d h x j)))
+    (answered_life h f a o) (λ x. not (is_kind RemovingIn x.serial o)) (newest_left d h) (λ x j. r.left x (newest-left d h x j)))
     ∙ sym (ap (λ b. if b then progress (is_over d h) (is_wanted d h) None
-        (steps.kept (lives.answered (record { task = t; serial = m }) a.status) (option_map (life_of h) (older_left d h)))
-        (steps.kept (lives.answered (record { task = t; serial = m }) a.status) (option_map (life_of h) (newest_left d h)))
-        else progress_of h d) waits)
+    (steps.kept (lives.answered (record { task = t; serial = m }) a.status) (option_map (life_of h) (older_left d h)))
+    (steps.kept (lives.answered (record { task = t; serial = m }) a.status) (option_map (life_of h) (newest_left d h)))
+    else progress_of h d) waits)
   where
     waits : steps.awaits m (first_half (own_orders d h)) ≡ true
     waits = ap (λ z. steps.awaits m (first_half z)) k.waited ∙ ap (steps.awaits m) r.is ∙ eq-own m

@@ -93,9 +93,9 @@ untouched-pass p h [] e l f j t = untouched h e
 untouched-pass p h (d ∷ ds) e l f j t =
     let a = untouched-give p h d e l (f d (inl refl)) j (t d (inl refl)) in
     let b = untouched-pass p (after h (give h d)) ds e (past-give p h d l (f d (inl refl))) (λ c i. has-give h d c (f c (inr i)))
-        (has-give h d e j) (λ c i. t c (inr i)) in
+    (has-give h d e j) (λ c i. t c (inr i)) in
     subst (λ k. Untouched h k e) (sym (after-append h (give h d) (pass (after h (give h d)) ds)))
-        (and-untouched h (after h (give h d)) (after (after h (give h d)) (pass (after h (give h d)) ds)) e a b)
+    (and-untouched h (after h (give h d)) (after (after h (give h d)) (pass (after h (give h d)) ds)) e a b)
 
 -- ## a spent direction gets nothing
 
@@ -182,7 +182,7 @@ pub record PassIs (ps : List Peer) (h : List ControllerAct) (ds : List Way) (ts 
 pass-spent : (ps : List Peer) (h : List ControllerAct) (d e : Way) (ds : List Way) (ts : List Tunnel) (qs : List Pair) (ss : List Station)
     (ks : List (List ℕ)) (ready : List Bool) (ch : passes.Effect) (x : Drafted)
     → IsSpent h d → IsSpent h e → Untouched h (after h (pass h ds)) d → Untouched h (after h (pass h ds)) e
-        → PassIs ps h ds ts qs ss ks ready ch x → PassIs ps h (d ∷ e ∷ ds) ts qs ss ks ready ch x
+    → PassIs ps h ds ts qs ss ks ready ch x → PassIs ps h (d ∷ e ∷ ds) ts qs ss ks ready ch x
 pass-spent ps h d e ds ts qs ss ks ready ch x a b u v k = record {
   draft = k.draft ∙ ap (λ os. drafting ps os x) (sym none);
   serials = subst (λ os. (drafting ps os x).serials ≡ serials (after h os)) (sym none) k.serials;
@@ -281,7 +281,7 @@ differs d e m i j = (grind arith, grind arith)
 pub pass-is : (ps : List Peer) (ss : List Station) (ks : List (List ℕ)) (ready : List Bool) (ch : passes.Effect) (h : List ControllerAct)
     (ds : List Way) (ts : List Tunnel) (qs : List Pair) (x : Drafted) (m : ℕ)
     → IsControllerPast (length ps) h → PlainAnswers h → Rising m ds → ((d : Way) → Has d ds → Has d (directions h))
-        → AtHand ps h ss ks ready → x.serials ≡ serials h → Changed ch h ds ts qs
+    → AtHand ps h ss ks ready → x.serials ≡ serials h → Changed ch h ds ts qs
     → PassIs ps h ds ts qs ss ks ready ch x
 pass-is ps ss ks ready ch h [] _ _ x m l y r f b n none_changed = record { draft = refl; serials = n; stands = no_more }
 pass-is ps ss ks ready ch h (d ∷ []) ts qs x m l y r f b n c = elim c [ ]
@@ -306,16 +306,16 @@ pass-is ps ss ks ready ch h (d ∷ e ∷ ds) (t ∷ ts) (q ∷ qs) x m l y r f b
     let l2 : IsControllerPast (length ps) (second_past h d e) = past-give (length ps) (first_past h d) e l1 he1 in
     let y2 : PlainAnswers (second_past h d e) = plain-given (first_past h d) e (give (first_past h d) e) y1 (given (first_past h d) e) in
     let b2 : AtHand ps (second_past h d e) ss ks ready = after-given ps (first_past h d) e ss ks ready (give (first_past h d) e) b1
-        (given (first_past h d) e) in
+    (given (first_past h d) e) in
     let n2 : (second_draft ps h d e x).serials ≡ serials (second_past h d e) = serials-given ps (first_past h d) e (first_draft ps h d x)
-        (give (first_past h d) e) n1 (given (first_past h d) e) in
+    (give (first_past h d) e) n1 (given (first_past h d) e) in
     let f2 : (z : Way) → Has z ds → Has z (directions (second_past h d e)) =
-        λ z k. has-give (first_past h d) e z (has-give h d z (f z (inr (inr k)))) in
+    λ z k. has-give (first_past h d) e z (has-give h d z (f z (inr (inr k)))) in
     let moved : (z : Way) → Has z ds → Untouched h (second_past h d e) z = λ z k.
     and-untouched h (first_past h d) (second_past h d e) z
     (untouched-give (length ps) h d z l hd (f z (inr (inr k))) (let o = late z k in let i = r.0 in grind arith))
     (untouched-give (length ps) (first_past h d) e z l1 he1 (has-give h d z (f z (inr (inr k)))) (let o = late z k in let i = r.1.0 in
-        grind arith)) in
+    grind arith)) in
     pass-two ps h d e ds t ts q qs ss ks ready ch x a v w
     (drafts ps h d ss ks ready x l y hd b n)
     (untouched-give (length ps) h d e l hd he apart.1)
@@ -323,8 +323,8 @@ pass-is ps ss ks ready ch h (d ∷ e ∷ ds) (t ∷ ts) (q ∷ qs) x m l y r f b
     (and-untouched (first_past h d) (second_past h d e) (last_past h d e ds) d
     (untouched-give (length ps) (first_past h d) e d l1 he1 hd1 apart.0)
     (untouched-pass (length ps) (second_past h d e) ds d l2 f2 (has-give (first_past h d) e d hd1) (λ z k. let o = late z k in
-        let i = r.0 in grind arith)))
+    let i = r.0 in grind arith)))
     (untouched-pass (length ps) (second_past h d e) ds e l2 f2 (has-give (first_past h d) e e he1) (λ z k. let o = late z k in
-        let i = r.1.0 in grind arith))
+    let i = r.1.0 in grind arith))
     (pass-is ps ss ks ready ch (second_past h d e) ds ts qs (second_draft ps h d e x) (m + 1 + 1) l2 y2 r.1.1 f2 b2 n2
-        (changed-moves ch h (second_past h d e) ds ts qs c moved))
+    (changed-moves ch h (second_past h d e) ds ts qs c moved))

@@ -63,11 +63,11 @@ refused ps h c (commands.Policy name r) w l y f u = subst (λ g. Still c w (step
     (policy ps h c (peer_number name ps) r w f u)
 refused ps h c (commands.Tunnel spec) w l y f u =
     subst (λ n. Still c w (step.tunnel_by c spec n (core.number_of spec.second c.stations)
-        (step.tunnel_refusal c spec.reqid n (core.number_of spec.second c.stations)))) (sym (number-is ps h c spec.first f))
+    (step.tunnel_refusal c spec.reqid n (core.number_of spec.second c.stations)))) (sym (number-is ps h c spec.first f))
     (subst (λ m. Still c w (step.tunnel_by c spec (peer_number spec.first ps) m
-        (step.tunnel_refusal c spec.reqid (peer_number spec.first ps) m))) (sym (number-is ps h c spec.second f))
+    (step.tunnel_refusal c spec.reqid (peer_number spec.first ps) m))) (sym (number-is ps h c spec.second f))
     (tunnel c (record { spec = spec; first = peer_number spec.first ps; second = peer_number spec.second ps }) w _
-        (same-refusal ps h c (record { spec = spec; first = peer_number spec.first ps; second = peer_number spec.second ps }) l y f ∙ u)))
+    (same-refusal ps h c (record { spec = spec; first = peer_number spec.first ps; second = peer_number spec.second ps }) l y f ∙ u)))
 refused ps h c (commands.End r) w l y f u = by-known h c r (step.end_effect r) w (law.has_tunnel r h)
     (tunnel-known h r (directions h) c.tunnels c.pairs f.tunnels) u
 refused ps h c (commands.Rekey r) w l y f u = by-known h c r (step.rekey_effect r) w (law.has_tunnel r h)

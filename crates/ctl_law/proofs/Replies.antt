@@ -88,13 +88,13 @@ life-answered h f s n a o os x e = rw e refl
 pub by-parts : (h : List ControllerAct) (f s n : ℕ) (a : Answer) (o : ControllerOrder) (os : List ControllerOrder) (d : Way) → queue f h ≡ o
     ∷ os
     → progress_of (Answered f s n a ∷ h) d ≡ progress (is_over d h) (is_cause_reading h d f (Some o) a || is_wanted d h)
-        (first_half (own_orders d (Answered f s n a ∷ h))) (option_map (answered_life h f a o) (older_left d (Answered f s n a ∷ h)))
-        (option_map (answered_life h f a o) (newest_left d (Answered f s n a ∷ h)))
+    (first_half (own_orders d (Answered f s n a ∷ h))) (option_map (answered_life h f a o) (older_left d (Answered f s n a ∷ h)))
+    (option_map (answered_life h f a o) (newest_left d (Answered f s n a ∷ h)))
 by-parts h f s n a o os d e = same-progress _ _ _ _ _ _ _ _ _ _ refl (rw e refl) refl
     (same-first (life_of (Answered f s n a ∷ h)) (answered_life h f a o) (older_left d (Answered f s n a ∷ h))
-        (λ x i. life-answered h f s n a o os x e))
+    (λ x i. life-answered h f s n a o os x e))
     (same-first (life_of (Answered f s n a ∷ h)) (answered_life h f a o) (newest_left d (Answered f s n a ∷ h))
-        (λ x i. life-answered h f s n a o os x e))
+    (λ x i. life-answered h f s n a o os x e))
 
 -- ## an order that is not of the direction
 
@@ -133,7 +133,7 @@ stays : (p : ℕ) (h : List ControllerAct) (f s n : ℕ) (a : Answer) (o : Contr
     → IsControllerPast p h → Has d (directions h) → queue f h ≡ o ∷ os → is_own d (left d h) o ≡ false → Stays h f s n a d
 stays p h f s n a o os d l i e t =
     let k = left-stays h f s n a o os d e
-        (λ x j. kind-serial RemovingIn x.serial o (foreign p h l d i f o (subst (Has o) (sym e) (inl refl)) t x j)) in
+    (λ x j. kind-serial RemovingIn x.serial o (foreign p h l d i f o (subst (Has o) (sym e) (inl refl)) t x j)) in
     record {
       older = ap (first (λ x. nat_lt x.serial (newest_serial d h))) k;
       newest = ap (first (λ x. x.serial == newest_serial d h)) k;
@@ -144,12 +144,12 @@ by-stays : (h : List ControllerAct) (f s n : ℕ) (a : Answer) (o : ControllerOr
     → Life) → queue f h ≡ o ∷ os → Stays h f s n a d
     → ((x : Association) → Has x (left d h) → answered_life h f a o x ≡ k x)
     → progress_of (Answered f s n a ∷ h) d ≡ progress (is_over d h) (is_cause_reading h d f (Some o) a || is_wanted d h)
-        (first_half (own_orders d h)) (option_map k (older_left d h)) (option_map k (newest_left d h))
+    (first_half (own_orders d h)) (option_map k (older_left d h)) (option_map k (newest_left d h))
 by-stays h f s n a o os d k e y g = by-parts h f s n a o os d e ∙ same-progress _ _ _ _ _ _ _ _ _ _ refl refl (ap first_half y.orders)
     (ap (option_map (answered_life h f a o)) y.older ∙ same-first (answered_life h f a o) k (older_left d h)
-        (λ x j. g x (older-left d h x j)))
+    (λ x j. g x (older-left d h x j)))
     (ap (option_map (answered_life h f a o)) y.newest ∙ same-first (answered_life h f a o) k (newest_left d h)
-        (λ x j. g x (newest-left d h x j)))
+    (λ x j. g x (newest-left d h x j)))
 
 -- ## a list, and a reading
 
@@ -175,12 +175,12 @@ pub answered-read : (p : ℕ) (h : List ControllerAct) (f s n : ℕ) (a : Answer
     → progress_of (Answered f s n a ∷ h) d ≡ front_effect f a (Some (waiting_of ps Read)) (direction_of d) (progress_of h d)
 answered-read p h f s n a os ps d l y i e =
     by-stays h f s n a Read os d (λ x. steps.read_life (d.receiver == f) (shows_in a.names) (life_of h x)) e
-        (stays p h f s n a Read os d l i e refl) read
+    (stays p h f s n a Read os d l i e refl) read
     ∙ same-progress _ _ _ _ _ _ _ _ _ _ refl (ap (λ b. b || is_wanted d h) missing) refl
     (sym (made-first (steps.read_life (d.receiver == f) (shows_in a.names)) (life_of h)
-        (λ x. steps.read_life (d.receiver == f) (shows_in a.names) (life_of h x)) (older_left d h) (λ x j. refl)))
+    (λ x. steps.read_life (d.receiver == f) (shows_in a.names) (life_of h x)) (older_left d h) (λ x j. refl)))
     (sym (made-first (steps.read_life (d.receiver == f) (shows_in a.names)) (life_of h)
-        (λ x. steps.read_life (d.receiver == f) (shows_in a.names) (life_of h x)) (newest_left d h) (λ x j. refl)))
+    (λ x. steps.read_life (d.receiver == f) (shows_in a.names) (life_of h x)) (newest_left d h) (λ x j. refl)))
   where
     small : (x : Association) → Has x (left d h) → x.serial < 2 ^ 32
     small x j = let q = left-serial p h l d x j in omega arith
@@ -206,12 +206,12 @@ answered-read p h f s n a os ps d l y i e =
         (option_map (life_of h) (newest_left d h)))
     missing =
         any-same (is_unseen h d f a.names) (λ x. steps.is_missing (d.sender == f) (d.receiver == f) (shows_in a.names) (shows_out a.names)
-            (life_of h x)) (left d h) unseen
+        (life_of h x)) (left d h) unseen
         ∙ ap (list_any (λ x. steps.is_missing (d.sender == f) (d.receiver == f) (shows_in a.names) (shows_out a.names) (life_of h x)))
-            (left-two p h l y d)
+        (left-two p h l y d)
         ∙ any-two (λ x. steps.is_missing (d.sender == f) (d.receiver == f) (shows_in a.names) (shows_out a.names) (life_of h x))
-            (steps.is_missing (d.sender == f) (d.receiver == f) (shows_in a.names) (shows_out a.names)) (life_of h) (older_left d h)
-            (newest_left d h) (λ x. refl)
+        (steps.is_missing (d.sender == f) (d.receiver == f) (shows_in a.names) (shows_out a.names)) (life_of h) (older_left d h)
+        (newest_left d h) (λ x. refl)
 
 -- ## a put or a removal of another direction
 
@@ -232,9 +232,9 @@ other-half h f s n a o os d t m e k w g j c =
     by-stays h f s n a o os d (life_of h) e k j
     ∙ same-progress _ _ _ _ _ _ _ _ _ _ refl (ap (λ b. b || is_wanted d h) c) refl refl refl
     ∙ sym (ap (λ b. if b then progress (is_over d h) (is_wanted d h) None
-        (steps.kept (lives.answered (record { task = t; serial = m }) a.status) (option_map (life_of h) (older_left d h)))
-        (steps.kept (lives.answered (record { task = t; serial = m }) a.status) (option_map (life_of h) (newest_left d h)))
-        else progress_of h d) (waiting-serial h d m w g))
+    (steps.kept (lives.answered (record { task = t; serial = m }) a.status) (option_map (life_of h) (older_left d h)))
+    (steps.kept (lives.answered (record { task = t; serial = m }) a.status) (option_map (life_of h) (newest_left d h)))
+    else progress_of h d) (waiting-serial h d m w g))
 
 other-put-out : (h : List ControllerAct) (f : ℕ) (a : Answer) (d : Way) (x y : Association) → d ≡ x.way → (d.id == y.way.id) ≡ false
     → (x.serial == y.serial) ≡ false → answered_life h f a (PutOut y) x ≡ life_of h x
@@ -249,16 +249,16 @@ answered-other p h f s n a (Policy r) os ps d l y i c e t = answered-policy p h 
 answered-other p h f s n a (PutIn z) os ps d l y i c e t =
     let k = foreign p h l d i f (PutIn z) (subst (Has (PutIn z)) (sym e) (inl refl)) t in
     other-half h f s n a (PutIn z) os d tasks.PutIn z.serial e (stays p h f s n a (PutIn z) os d l i e t) (awaits p h l d i c) k
-        (λ x j. rw (k x j) refl) refl
+    (λ x j. rw (k x j) refl) refl
 answered-other p h f s n a (PutOut z) os ps d l y i c e t =
     let k = foreign p h l d i f (PutOut z) (subst (Has (PutOut z)) (sym e) (inl refl)) t in
     other-half h f s n a (PutOut z) os d tasks.PutOut z.serial e (stays p h f s n a (PutOut z) os d l i e t) (awaits p h l d i c) k
-        (λ x j. other-put-out h f a d x z (own-way p h l d x i j) t (k x j)) refl
+    (λ x j. other-put-out h f a d x z (own-way p h l d x i j) t (k x j)) refl
 answered-other p h f s n a (RemoveIn m) os ps d l y i c e t =
     let k = foreign p h l d i f (RemoveIn m) (subst (Has (RemoveIn m)) (sym e) (inl refl)) t in
     other-half h f s n a (RemoveIn m) os d tasks.RemoveIn m e (stays p h f s n a (RemoveIn m) os d l i e t) (awaits p h l d i c) k
-        (λ x j. refl) refl
+    (λ x j. refl) refl
 answered-other p h f s n a (RemoveOut m) os ps d l y i c e t =
     let k = foreign p h l d i f (RemoveOut m) (subst (Has (RemoveOut m)) (sym e) (inl refl)) t in
     other-half h f s n a (RemoveOut m) os d tasks.RemoveOut m e (stays p h f s n a (RemoveOut m) os d l i e t) (awaits p h l d i c) k
-        (λ x j. rw (k x j) refl) refl
+    (λ x j. rw (k x j) refl) refl

@@ -43,14 +43,14 @@ draft-list ps k g (Some l) x = refl
 opening : (ps : List Peer) (h : List ControllerAct) (c : Core) (g s : ℕ) → IsControllerPast (length ps) h → PlainAnswers h
     → StandsFor ps h c → g < length ps → is_open g h ≡ false → s ≡ openings g h + 1
     → Follows ps h (going h (Opened g s))
-        (step.opening_with c g (step.with_list g (core.list_at c.stations g) (given g tree.Read None (step.no_draft c))))
+    (step.opening_with c g (step.with_list g (core.list_at c.stations g) (given g tree.Read None (step.no_draft c))))
 opening ps h c g s l y f i o n =
     follows-at ps h (read_put (Opened g s ∷ h) g) (Opened g s) c step.nothing (step.readiness c.stations)
-        (step.with_list g (core.list_at c.stations g) (given g tree.Read None (step.no_draft c))) g
-        (λ t. record t { session = sessions.Unread }) refl run
+    (step.with_list g (core.list_at c.stations g) (given g tree.Read None (step.no_draft c))) g
+    (λ t. record t { session = sessions.Unread }) refl run
     (numbered-at (λ t. record t { session = sessions.Unread }) (longer ps h (all_orders (Opened g s ∷ h) (read_put (Opened g s ∷ h) g)))
-        (station_of ps (after (Opened g s ∷ h) (all_orders (Opened g s ∷ h) (read_put (Opened g s ∷ h) g)))) g 0 g ps (omega arith) here
-        there)
+    (station_of ps (after (Opened g s ∷ h) (all_orders (Opened g s ∷ h) (read_put (Opened g s ∷ h) g)))) g 0 g ps (omega arith) here
+    there)
   where
     reads : (j : ℕ) (b : Bool) → (j == g) ≡ b → is_read j h ≡ ((b || is_open j h) && (not b && is_first_answered j h))
     reads j true t = let w : j ≡ g = grind arith in let u : is_open j h ≡ false = (rw w o) in rw u refl
@@ -102,9 +102,9 @@ closing : (ps : List Peer) (h : List ControllerAct) (c : Core) (g s : ℕ) → I
     → Follows ps h (going h (Cut g s)) (step.closing c g)
 closing ps h c g s l y f i o n lawful =
     follows-at ps h [] (Cut g s) c (step.cut_effect g) (step.set_ready g false (step.readiness c.stations)) (step.no_draft c) g
-        (λ t. record t { session = sessions.Closed; queue = [] }) refl run
+    (λ t. record t { session = sessions.Closed; queue = [] }) refl run
     (numbered-at (λ t. record t { session = sessions.Closed; queue = [] }) (longer ps h (all_orders (Cut g s ∷ h) []))
-        (station_of ps (after (Cut g s ∷ h) (all_orders (Cut g s ∷ h) []))) g 0 g ps (omega arith) here there)
+    (station_of ps (after (Cut g s ∷ h) (all_orders (Cut g s ∷ h) []))) g 0 g ps (omega arith) here there)
   where
     reads : (j : ℕ) (b : Bool) → (if b then false else is_read j h) ≡ ((not b && is_open j h) && is_first_answered j h)
     reads j true = refl
@@ -136,7 +136,7 @@ closing ps h c g s l y f i o n lawful =
         let u : is_open g (after (Cut g s ∷ h) (all_orders (Cut g s ∷ h) [])) ≡ false = k.up ∙ ap (λ b. not b && is_open g h) e in
         let w : newest_list g (after (Cut g s ∷ h) (all_orders (Cut g s ∷ h) [])) ≡ newest_list g h = k.list in
         let q : queue g (after (Cut g s ∷ h) (all_orders (Cut g s ∷ h) [])) ≡ [] =
-            shut-queue (length ps) (after (Cut g s ∷ h) (all_orders (Cut g s ∷ h) [])) g lawful u in
+        shut-queue (length ps) (after (Cut g s ∷ h) (all_orders (Cut g s ∷ h) [])) g lawful u in
         rw (u, w, q) refl
 
     there : (j : ℕ) (p : Peer) → (j == g) ≡ false → longer ps h (all_orders (Cut g s ∷ h) []) j p ≡ station_of ps

@@ -120,9 +120,11 @@ plain-answer : (ps : List Peer) (h : List ControllerAct) (g : ℕ) (a : Answer) 
     → may_answer (core.order_or_none (core.front (map (waiting_of ps) (queue g h)))) a.status ≡ true → PlainAnswers h
     → PlainAnswers (after h (by_answer h g a os))
 plain-answer ps h g a [] e m y = y
-plain-answer ps h g a (o ∷ os) e m y = plain-going h (Answered g (openings g h) (answered g h + 1) a)
-    (ap (λ z. is_plain (oldest z) a.status) e
-    ∙ plain-status ps o a.status (ap (λ z. may_answer (core.order_or_none (core.front (map (waiting_of ps) z))) a.status) (sym e) ∙ m), y)
+plain-answer ps h g a (o ∷ os) e m y = plain-going h (Answered g (openings g h) (answered g h + 1) a) (
+  ap (λ z. is_plain (oldest z) a.status) e
+      ∙ plain-status ps o a.status (ap (λ z. may_answer (core.order_or_none (core.front (map (waiting_of ps) z))) a.status) (sym e) ∙ m),
+  y,
+)
 
 pub plain-stays : (ps : List Peer) (h : List ControllerAct) (c : Core) (e : CtlEvent) → PlainAnswers h → StandsFor ps h c → MayBeTold c e
     → PlainAnswers (after h (block ps h (event_of e)))
@@ -155,10 +157,10 @@ run-follows ps h c [] l y s m = record { acts = refl; stands = s }
 run-follows ps h c (e ∷ es) l y s m =
     let f = step-follows ps h c e l y s m.0 in
     let r = run-follows ps (after h (block ps h (event_of e))) (stepped c e).core es (past-stays ps h (event_of e) l)
-        (plain-stays ps h c e y s m.0) f.stands m.1 in
+    (plain-stays ps h c e y s m.0) f.stands m.1 in
     let b : all_done ps (block ps h (event_of e) ++ history ps (after h (block ps h (event_of e))) (events_of es)) ≡ all_done ps
-        (block ps h (event_of e)) ++ all_done ps (history ps (after h (block ps h (event_of e))) (events_of es)) =
-        all-done-append ps (block ps h (event_of e)) (history ps (after h (block ps h (event_of e))) (events_of es)) in
+    (block ps h (event_of e)) ++ all_done ps (history ps (after h (block ps h (event_of e))) (events_of es)) =
+    all-done-append ps (block ps h (event_of e)) (history ps (after h (block ps h (event_of e))) (events_of es)) in
     record {
       acts = ap (λ z. z ++ run (stepped c e).core es) f.acts ∙ ap (λ z. all_done ps (block ps h (event_of e)) ++ z) r.acts ∙ sym b;
       stands = subst (λ z. StandsFor ps z (run_core (stepped c e).core es))

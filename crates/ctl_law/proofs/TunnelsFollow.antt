@@ -65,12 +65,12 @@ taken : (ps : List Peer) (h : List ControllerAct) (c : Core) (t : PlacedTunnel) 
     → Follows ps h (going h (Accepted (Tunnel t))) (step.tunnel_taken c (tunnels.of_spec t.spec t.first t.second) t.spec.now)
 taken ps h c t l y f w =
     quietly ps h (step.with_tunnel c (tunnels.of_spec t.spec t.first t.second) t.spec.now) step.nothing (Tunnel t) l y w f.gateways (f.keys
-        ∙ sym (append-nil (past.keys h))) f.serials
+    ∙ sym (append-nil (past.keys h))) f.serials
     (changed-more step.nothing (Accepted (Tunnel t) ∷ h) (directions h) (both_ways (length (directions h)) t)
-        (changes.unspent_tunnels c.tunnels c.pairs) (tunnels.of_spec t.spec t.first t.second ∷ []) (changes.unspent_pairs c.tunnels c.pairs)
-        (tunnels.begun t.spec.now ∷ [])
+    (changes.unspent_tunnels c.tunnels c.pairs) (tunnels.of_spec t.spec t.first t.second ∷ []) (changes.unspent_pairs c.tunnels c.pairs)
+    (tunnels.begun t.spec.now ∷ [])
     (all-changes step.nothing h (Accepted (Tunnel t) ∷ h) (directions h) _ _ (unspent-stand (length ps) h (directions h) c.tunnels c.pairs l
-        y f.tunnels) (λ d j. sym (progress-tunnel h t d j)) (λ d j u. spent-then h t d j u))
+    y f.tunnels) (λ d j. sym (progress-tunnel h t d j)) (λ d j u. spent-then h t d j u))
     (new-tunnel (length ps) h t l))
     (λ j. refl)
 
@@ -79,15 +79,15 @@ pub same-refusal : (ps : List Peer) (h : List ControllerAct) (c : Core) (t : Pla
 same-refusal ps h c t l y f =
     let a : length c.stations ≡ length ps = count-of ps h c.stations f.gateways in
     let b : changes.has_tunnel t.spec.reqid c.tunnels c.pairs ≡ law.has_tunnel t.spec.reqid h =
-        tunnel-known h t.spec.reqid (directions h) c.tunnels c.pairs f.tunnels in
+    tunnel-known h t.spec.reqid (directions h) c.tunnels c.pairs f.tunnels in
     let e : changes.count_tunnels c.pairs ≡ law.tunnels h (directions h) = tunnels-count (length ps) h (directions h) c.tunnels c.pairs l y
-        f.tunnels in
+    f.tunnels in
     rw (a, b, e) refl
 
 placed : (ps : List Peer) (h : List ControllerAct) (c : Core) (t : PlacedTunnel) → IsControllerPast (length ps) h → PlainAnswers h
     → StandsFor ps h c
     → Follows ps h (by_refusal h (Tunnel t) (refusal (length ps) h (Tunnel t)))
-        (step.tunnel_by c t.spec t.first t.second (step.tunnel_refusal c t.spec.reqid t.first t.second))
+    (step.tunnel_by c t.spec t.first t.second (step.tunnel_refusal c t.spec.reqid t.first t.second))
 placed ps h c t l y f = case (refusal (length ps) h (Tunnel t)) refl (same-refusal ps h c t l y f)
   where
     case : (o : Option Refusal) → refusal (length ps) h (Tunnel t) ≡ o → step.tunnel_refusal c t.spec.reqid t.first t.second ≡ refusal
@@ -111,11 +111,11 @@ commanded ps h c (commands.Policy name r) l y f =
     (policy-follows ps h c (peer_number name ps) r l y f)
 commanded ps h c (commands.Tunnel spec) l y f =
     subst (λ n. Follows ps h (by_refusal h (placed_command ps (commands.Tunnel spec))
-        (refusal (length ps) h (placed_command ps (commands.Tunnel spec)))) (step.tunnel_by c spec n (core.number_of spec.second c.stations)
-        (step.tunnel_refusal c spec.reqid n (core.number_of spec.second c.stations)))) (sym (number-is ps h c spec.first f))
+    (refusal (length ps) h (placed_command ps (commands.Tunnel spec)))) (step.tunnel_by c spec n (core.number_of spec.second c.stations)
+    (step.tunnel_refusal c spec.reqid n (core.number_of spec.second c.stations)))) (sym (number-is ps h c spec.first f))
     (subst (λ m. Follows ps h (by_refusal h (placed_command ps (commands.Tunnel spec))
-        (refusal (length ps) h (placed_command ps (commands.Tunnel spec)))) (step.tunnel_by c spec (peer_number spec.first ps) m
-        (step.tunnel_refusal c spec.reqid (peer_number spec.first ps) m))) (sym (number-is ps h c spec.second f))
+    (refusal (length ps) h (placed_command ps (commands.Tunnel spec)))) (step.tunnel_by c spec (peer_number spec.first ps) m
+    (step.tunnel_refusal c spec.reqid (peer_number spec.first ps) m))) (sym (number-is ps h c spec.second f))
     (placed ps h c (record { spec = spec; first = peer_number spec.first ps; second = peer_number spec.second ps }) l y f))
 commanded ps h c (commands.End r) l y f = end-follows ps h c r l y f
 commanded ps h c (commands.Rekey r) l y f = rekey-follows ps h c r l y f

@@ -44,8 +44,8 @@ tunnel-known h r _ _ _ (left_out d e ds ts qs a b k) =
     let u : is_over d h ≡ true = (spent-parts h d a).over in
     let v : is_over e h ≡ true = (spent-parts h e b).over in
     tunnel-known h r ds ts qs k
-        ∙ sym (rw (u, v) (gone-both (d.tunnel.reqid == r) (e.tunnel.reqid == r) (list_any (λ d. (d.tunnel.reqid == r) && not (is_over d h))
-        ds)))
+    ∙ sym (rw (u, v) (gone-both (d.tunnel.reqid == r) (e.tunnel.reqid == r) (list_any (λ d. (d.tunnel.reqid == r) && not (is_over d h))
+    ds)))
 tunnel-known h r _ _ _ (stands d e ds t ts qs a k) =
     let ih : changes.has_tunnel r ts qs ≡ list_any (λ d. (d.tunnel.reqid == r) && not (is_over d h)) ds = tunnel-known h r ds ts qs k in
     let u : d.tunnel.reqid ≡ t.reqid = ap (λ (z : Direction). z.reqid) (sym a.forth) in
@@ -83,8 +83,8 @@ unspent-stand p h _ _ _ l y (stands d e ds t ts qs a k) =
     case : (b : Bool) → changes.is_spent (record { forth = progress_of h d; back = progress_of h e }) ≡ b
         → TunnelsStand h ds (changes.unspent_tunnels ts qs) (changes.unspent_pairs ts qs)
         → TunnelsStand h (d ∷ e ∷ ds) (if b then changes.unspent_tunnels ts qs else t ∷ changes.unspent_tunnels ts qs)
-            (if b then changes.unspent_pairs ts qs else record { forth = progress_of h d; back = progress_of h e }
-            ∷ changes.unspent_pairs ts qs)
+        (if b then changes.unspent_pairs ts qs else record { forth = progress_of h d; back = progress_of h e }
+        ∷ changes.unspent_pairs ts qs)
     case true u ih =
         let q = and-both (steps.is_spent (progress_of h d)) (steps.is_spent (progress_of h e)) u in
         left_out d e ds _ _ (spent-there p h d l y q.0) (spent-there p h e l y q.1) ih

@@ -85,7 +85,7 @@ sound t n e =
     let f = by-form t n (is_number t) (nat_lt (2 ^ 64 - 1) (digits_value 10 t)) refl refl e in
     let g = three (not (length t == 0)) (not (get_or t 0 0 == 48) || length t == 1) (list_all is_ascii_digit t) f.0 in
     let h : decimal (digits_value 10 t) ≡ t = decimal-digits_value decimal_model t g.2 (some-digit (length t) g.0)
-        (lone-zero (get_or t 0 0) (length t) g.1) f.2 in
+    (lone-zero (get_or t 0 0) (length t) g.1) f.2 in
     sym (ap decimal f.1) ∙ h
 
 -- the name, cut at its front

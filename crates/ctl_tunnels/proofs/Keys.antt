@@ -35,7 +35,7 @@ seen-lookup part salt four k q e (x ∷ xs) =
     let ih = seen-lookup part salt four k q e xs in
     let a : bytes_eq q (part x.0) ≡ bytes_eq (aes_part (part x.0 ++ salt x.1)) (aes_part k) =
     flip q (part x.0) ∙ ap (bytes_eq (part x.0)) e ∙ ap (λ y. bytes_eq y (aes_part k)) (sym (aes-of-whole (part x.0) (salt x.1) (four x.1)))
-        in
+    in
     case (bytes_eq q (part x.0)) (bytes_eq (aes_part (part x.0 ++ salt x.1)) (aes_part k)) a ih
   where
     case : (b c : Bool) → b ≡ c → is_some (lookup (λ y. bytes_eq q (part y)) xs) ≡ is_seen k (map (λ z. part z.0 ++ salt z.1) xs)
@@ -72,4 +72,4 @@ pub one-more : {K V : Type 0} (part : K → List ℕ) (salt : V → List ℕ) (e
     → map (λ e. part e.0 ++ salt e.1) new ≡ keys ++ key ∷ []
 one-more part salt es new k v key keys m n e =
     ap (map (λ z. part z.0 ++ salt z.1)) n ∙ map-append (λ z. part z.0 ++ salt z.1) es ((k, v) ∷ [])
-        ∙ ap (λ z. map (λ w. part w.0 ++ salt w.1) es ++ z ∷ []) e ∙ ap (λ z. z ++ key ∷ []) m
+    ∙ ap (λ z. map (λ w. part w.0 ++ salt w.1) es ++ z ∷ []) e ∙ ap (λ z. z ++ key ∷ []) m

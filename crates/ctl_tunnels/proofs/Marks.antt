@@ -10,4 +10,4 @@ pub one-name-more : (p : List ℕ → Bool) (names : List (List ℕ)) (i : ℕ) 
 one-name-more p names i x old new l e o n =
     let t : take (i + 1) names ≡ take i names ++ x ∷ [] = rw add-one (take-suc names i x l ∙ ap (λ y. take i names ++ y ∷ []) (sym e)) in
     n ∙ ap (λ b. b || p x) o ∙ ap (λ b. list_any p (take i names) || b) (sym (or-false (p x)))
-        ∙ sym (list_any-append p (take i names) (x ∷ [])) ∙ ap (list_any p) (sym t)
+    ∙ sym (list_any-append p (take i names) (x ∷ [])) ∙ ap (list_any p) (sym t)

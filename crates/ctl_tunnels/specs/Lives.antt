@@ -36,8 +36,15 @@ is_open x = not x.ended && not x.out_done
 
 -- ended, where it was so before or this holds; it never ends being ended
 abbrev pub ended_if : Bool → Life → Life
-ended_if e x = record { serial = x.serial; in_done = x.in_done; out_sent = x.out_sent; out_done = x.out_done; out_gone = x.out_gone; ended =
-    e || x.ended }
+ended_if e x = record {
+  serial = x.serial;
+  in_done = x.in_done;
+  out_sent = x.out_sent;
+  out_done = x.out_done;
+  out_gone = x.out_gone;
+  ended =
+      e || x.ended;
+}
 
 -- its outbound half was ordered put
 abbrev pub sent : Life → Life
@@ -53,14 +60,34 @@ is_replaced x n status tasks.RemoveOut = false
 -- after the answer to an order of its own
 abbrev pub answered_own : Life → ℕ → Task → Option Life
 answered_own x status tasks.PutIn =
-    Some (record { serial = x.serial; in_done = true; out_sent = x.out_sent; out_done = x.out_done; out_gone = x.out_gone; ended =
-    nat_le 400 status || x.ended })
+    Some (record {
+      serial = x.serial;
+      in_done = true;
+      out_sent = x.out_sent;
+      out_done = x.out_done;
+      out_gone = x.out_gone;
+      ended =
+          nat_le 400 status || x.ended;
+    })
 answered_own x status tasks.PutOut =
-    Some (record { serial = x.serial; in_done = x.in_done; out_sent = x.out_sent; out_done = true; out_gone = x.out_gone; ended =
-    nat_le 400 status || x.ended })
+    Some (record {
+      serial = x.serial;
+      in_done = x.in_done;
+      out_sent = x.out_sent;
+      out_done = true;
+      out_gone = x.out_gone;
+      ended =
+          nat_le 400 status || x.ended;
+    })
 answered_own x status tasks.RemoveIn = None
-answered_own x status tasks.RemoveOut = Some (record { serial = x.serial; in_done = x.in_done; out_sent = x.out_sent; out_done = x.out_done;
-    out_gone = true; ended = x.ended })
+answered_own x status tasks.RemoveOut = Some (record {
+  serial = x.serial;
+  in_done = x.in_done;
+  out_sent = x.out_sent;
+  out_done = x.out_done;
+  out_gone = true;
+  ended = x.ended;
+})
 
 -- after the answer to an order of its direction; none once its inbound half is removed
 abbrev pub answered : HalfOrder → ℕ → Life → Option Life

@@ -54,8 +54,14 @@ is_spent p = p.over && is_none p.older && is_none p.newer
 
 -- the tunnel of the direction is ended, and with it each association left; they are removed from now on
 abbrev pub ended : Progress → Progress
-ended p = record { over = true; wanted = p.wanted; waits = p.waits; older = made (lives.ended_if true) p.older; newer =
-    made (lives.ended_if true) p.newer }
+ended p = record {
+  over = true;
+  wanted = p.wanted;
+  waits = p.waits;
+  older = made (lives.ended_if true) p.older;
+  newer =
+      made (lives.ended_if true) p.newer;
+}
 
 -- a new association is wanted, where it was so before or a cause came
 abbrev pub wanted_if : Bool → Progress → Progress
@@ -67,8 +73,14 @@ lost_life o x = lives.ended_if (lives.puts o.task && (x.serial == o.serial)) x
 
 -- The order that waited is lost with its session. Where it was a put, its association is ended and a new one is wanted.
 abbrev pub lost : HalfOrder → Progress → Progress
-lost o p = record { over = p.over; wanted = lives.puts o.task || p.wanted; waits = None; older = made (lost_life o) p.older; newer =
-    made (lost_life o) p.newer }
+lost o p = record {
+  over = p.over;
+  wanted = lives.puts o.task || p.wanted;
+  waits = None;
+  older = made (lost_life o) p.older;
+  newer =
+      made (lost_life o) p.newer;
+}
 
 -- an order of the direction is at its receiver or its sender
 abbrev pub is_at : Bool → Bool → Task → Bool
@@ -92,8 +104,14 @@ awaits n (Some o) = o.serial == n
 abbrev pub answered : HalfOrder → ℕ → Progress → Progress
 answered o status p =
     if awaits o.serial p.waits
-    then record { over = p.over; wanted = p.wanted; waits = None; older = kept (lives.answered o status) p.older; newer =
-        kept (lives.answered o status) p.newer }
+    then record {
+      over = p.over;
+      wanted = p.wanted;
+      waits = None;
+      older = kept (lives.answered o status) p.older;
+      newer =
+          kept (lives.answered o status) p.newer;
+    }
     else p
 
 -- ended by a reading at the receiver that came before its outbound put was ordered
@@ -150,11 +168,11 @@ in_put sender receiver p (Some n) = if p.wanted && not p.over && sender && recei
 abbrev pub next_free : Bool → Bool → Option ℕ → Progress → Option HalfOrder
 next_free sender receiver fresh p =
     either (either (asked tasks.RemoveOut (lives.is_out_removable sender) p.older) (asked tasks.RemoveOut (lives.is_out_removable sender)
-        p.newer))
+    p.newer))
     (either (either (asked tasks.RemoveIn (lives.is_in_removable receiver) p.older) (asked tasks.RemoveIn (lives.is_in_removable receiver)
-        p.newer))
+    p.newer))
     (either (either (asked tasks.PutOut (lives.is_out_puttable sender receiver) p.older)
-        (asked tasks.PutOut (lives.is_out_puttable sender receiver) p.newer))
+    (asked tasks.PutOut (lives.is_out_puttable sender receiver) p.newer))
     (in_put sender receiver p fresh)))
 
 -- while an order of its own waits, a direction gets none
@@ -178,10 +196,22 @@ sent_life n x = if x.serial == n then lives.sent x else x
 
 -- the direction once this order was given, which then waits; a put of an inbound half begins an association and answers what was wanted
 abbrev pub ordered_by : HalfOrder → Progress → Task → Progress
-ordered_by o p tasks.PutIn = record { over = p.over; wanted = false; waits = Some o; older = newer_or p.newer p.older; newer =
-    Some (lives.begun o.serial) }
-ordered_by o p tasks.PutOut = record { over = p.over; wanted = p.wanted; waits = Some o; older = made (sent_life o.serial) p.older; newer =
-    made (sent_life o.serial) p.newer }
+ordered_by o p tasks.PutIn = record {
+  over = p.over;
+  wanted = false;
+  waits = Some o;
+  older = newer_or p.newer p.older;
+  newer =
+      Some (lives.begun o.serial);
+}
+ordered_by o p tasks.PutOut = record {
+  over = p.over;
+  wanted = p.wanted;
+  waits = Some o;
+  older = made (sent_life o.serial) p.older;
+  newer =
+      made (sent_life o.serial) p.newer;
+}
 ordered_by o p tasks.RemoveIn = record { over = p.over; wanted = p.wanted; waits = Some o; older = p.older; newer = p.newer }
 ordered_by o p tasks.RemoveOut = record { over = p.over; wanted = p.wanted; waits = Some o; older = p.older; newer = p.newer }
 

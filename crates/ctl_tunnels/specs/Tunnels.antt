@@ -12,15 +12,39 @@ begun now = record { forth = steps.begun now; back = steps.begun now }
 
 -- the tunnel that a command tells, between the gateways with these numbers
 abbrev pub of_spec : TunnelSpec → ℕ → ℕ → Tunnel
-of_spec spec f s = record { reqid = spec.reqid; first = f; second = s; first_prefix = spec.first_prefix; second_prefix = spec.second_prefix;
-    window = spec.window; hard = spec.hard; soft = spec.soft }
+of_spec spec f s = record {
+  reqid = spec.reqid;
+  first = f;
+  second = s;
+  first_prefix = spec.first_prefix;
+  second_prefix = spec.second_prefix;
+  window = spec.window;
+  hard = spec.hard;
+  soft = spec.soft;
+}
 
 -- the direction from the first gateway to the second; near is the prefix behind the sender, far that behind the receiver
 abbrev pub forth : Tunnel → Direction
-forth t = record { reqid = t.reqid; sender = t.first; receiver = t.second; near = t.first_prefix; far = t.second_prefix; window = t.window;
-    hard = t.hard; soft = t.soft }
+forth t = record {
+  reqid = t.reqid;
+  sender = t.first;
+  receiver = t.second;
+  near = t.first_prefix;
+  far = t.second_prefix;
+  window = t.window;
+  hard = t.hard;
+  soft = t.soft;
+}
 
 -- the direction from the second gateway to the first
 abbrev pub back : Tunnel → Direction
-back t = record { reqid = t.reqid; sender = t.second; receiver = t.first; near = t.second_prefix; far = t.first_prefix; window = t.window;
-    hard = t.hard; soft = t.soft }
+back t = record {
+  reqid = t.reqid;
+  sender = t.second;
+  receiver = t.first;
+  near = t.second_prefix;
+  far = t.first_prefix;
+  window = t.window;
+  hard = t.hard;
+  soft = t.soft;
+}

@@ -89,7 +89,8 @@ fn read_where(life: Option<Life>, receives: bool, shown: &Shown) -> Option<Life>
 }
 
 fn misses(life: Option<Life>, sends: bool, receives: bool, shown: &Shown) -> bool
-    ensures { result ≡ steps.when (steps.is_missing sends receives (contains nat_eq shown.now.inbound) (contains nat_eq shown.now.outbound)) life }
+    ensures { result ≡ steps.when (steps.is_missing sends receives (contains nat_eq shown.now.inbound) (contains nat_eq shown.now.outbound))
+        life }
 {
     match life {
         Some(x) => is_missing(x, sends, receives, shown),

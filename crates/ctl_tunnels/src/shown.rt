@@ -26,8 +26,10 @@ fn mark(serials: &mut HashSet<u32>, serial: u32) -> Result<(), NoMemory>
 impl Shown {
     // Adds the half of a name.
     fn add(&mut self, name: &[u8]) -> Result<(), NoMemory>
-        ensures inbound { OnOk result ((n : ℕ) → contains nat_eq self.new.inbound n ≡ (contains nat_eq self.old.inbound n || names_in (half_named name.now) n)) }
-        ensures outbound { OnOk result ((n : ℕ) → contains nat_eq self.new.outbound n ≡ (contains nat_eq self.old.outbound n || names_out (half_named name.now) n)) }
+        ensures inbound { OnOk result ((n : ℕ) → contains nat_eq self.new.inbound n ≡ (contains nat_eq self.old.inbound n
+            || names_in (half_named name.now) n)) }
+        ensures outbound { OnOk result ((n : ℕ) → contains nat_eq self.new.outbound n ≡ (contains nat_eq self.old.outbound n
+            || names_out (half_named name.now) n)) }
     {
         match read_half_name(name) {
             Some(half) => match half.side {

@@ -60,7 +60,7 @@ pub line-more : (n k x lets nows : ℕ) (old out one two : List ℕ) → x ≡ d
 line-more n k x lets nows old out one two ex el en e f g =
     grown old (drawn_text n k) (drawn_line x lets nows) out one two e f g
     ∙ ap (λ (z : List ℕ). old ++ (drawn_text n k ++ (z ++ 10 ∷ []))) (line-of x (drawn n (k + 1)) lets nows (many is_let n k)
-        (many is_now n k) ex el en)
+    (many is_now n k) ex el en)
     ∙ ap (λ (z : List ℕ). old ++ z) (line-step n k)
 
 -- ---- where loops begin

@@ -83,20 +83,20 @@ many front xs = lines_with front (map act_text xs ++ [] ∷ [])
 tallied : (xs : List Act) → tally_in (map act_text xs ++ [] ∷ []) ≡ tally_of xs
 tallied xs =
     let sent : many (codes "sent ") xs ≡ count_by is_sent xs = count-mapped (begins (codes "sent ")) is_sent act_text sent-word xs ([] ∷ [])
-        refl in
+    refl in
     let gave : many (codes "gave ") xs ≡ count_by is_gave xs = count-mapped (begins (codes "gave ")) is_gave act_text gave-word xs ([] ∷ [])
-        refl in
+    refl in
     let clear : many (codes "clear ") xs ≡ count_by is_clear xs = count-mapped (begins (codes "clear ")) is_clear act_text clear-word xs ([]
-        ∷ []) refl in
+    ∷ []) refl in
     let dropped : many (codes "drop ") xs ≡ count_by is_drop xs = count-mapped (begins (codes "drop ")) is_drop act_text drop-word xs ([]
-        ∷ []) refl in
+    ∷ []) refl in
     let orders : many (codes "order ") xs ≡ count_by is_order xs = count-mapped (begins (codes "order ")) is_order act_text order-word xs
-        ([] ∷ []) refl in
+    ([] ∷ []) refl in
     same-tally _ _ _ _ _ _ _ _ _ _ sent gave clear dropped orders
   where
     same-tally : (a b c d e a' b' c' d' e' : ℕ) → a ≡ a' → b ≡ b' → c ≡ c' → d ≡ d' → e ≡ e'
         → ◌≡◌ {A = Tally} (record { sent = a; gave = b; clear = c; dropped = d; orders = e })
-            (record { sent = a'; gave = b'; clear = c'; dropped = d'; orders = e' })
+        (record { sent = a'; gave = b'; clear = c'; dropped = d'; orders = e' })
     same-tally a b c d e a' b' c' d' e' p q r s t = rw (p, q, r, s, t) refl
 
 pub transcript-counts : ReadsDigits → (gateways : List Peer) (happened : List Act) → are_spelled gateways ≡ true
@@ -105,6 +105,6 @@ pub transcript-counts : ReadsDigits → (gateways : List Peer) (happened : List 
 transcript-counts digits gateways happened spelled all =
     let read : AllByRecursion (IsReadAgain gateways) happened =
     each_holds (λ a. IsActUnder gateways a × IsAct a) (IsReadAgain gateways) (λ a is. act_again digits gateways a spelled is.0 is.1)
-        happened
+    happened
     (recursion_from_All (λ a. IsActUnder gateways a × IsAct a) happened all) in
     ap tally_in (lines-of gateways happened read) ∙ tallied happened

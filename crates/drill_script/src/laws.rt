@@ -9,7 +9,8 @@ ghost use Rattle.drill_script.specs.Tallies.{tally_of, tally_of_text};
 
 /// What is counted of the lines of a transcript is what is counted of its acts: nothing is done.
 pub fn lines_count_acts()
-    ensures { (gateways : List Peer) (happened : List Act) → IsTrue (are_spelled gateways) → All (λ a. IsActUnder gateways a × IsAct a) happened
+    ensures { (gateways : List Peer) (happened : List Act) → IsTrue (are_spelled gateways)
+        → All (λ a. IsActUnder gateways a × IsAct a) happened
         → tally_of_text (text_of happened) ≡ tally_of happened }
 {
     yang_values::digits_read_again();

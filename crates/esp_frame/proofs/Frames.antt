@@ -64,7 +64,7 @@ module _ (b head text icv x : List ℕ) (parts : b ≡ head ++ (text ++ icv)) (h
   pub written_is : head ++ (x ++ icv) ≡ with_text b x
   written_is =
       sym ((λ i. head_is b head text icv parts head_len icv_len i ++ x ++ icv_is b head text icv parts head_len icv_len i)
-          ∙ append_assoc head x icv)
+      ∙ append_assoc head x icv)
 
   pub rest_is : head ++ (x ++ icv) ≡ with_text b (text_of (head ++ (x ++ icv)))
   rest_is = written_is ∙ sym (ap (with_text b) opened_is)

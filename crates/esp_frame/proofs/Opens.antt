@@ -60,7 +60,7 @@ pub opened_finds : (k : Keying) (b x : List ℕ) → EspOpens k b x → opened k
 unfolding opened
 opened_finds k b x o =
     chosen_true (opens_test k b) (sealed k.cipher (k.salt ++ iv_of b) (text_of b)) x ((opens_decides k b).1 (o.0, o.1.1))
-        (sym (opens_once k b x o))
+    (sym (opens_once k b x o))
 
 none_found : {A : Type 0} (o : Option A) (P : Type 0) (Q : A → Type 0) → MatchOption o P Q → ((a : A) → Q a → ⊥) → o ≡ None
 none_found None P Q m none = refl
@@ -117,8 +117,12 @@ to_trailed x p next inner =
     let same : pad_at x ≡ q = pad_len_at x p q next inner.1 in
     let le : pad_at x ≤ end x = omega arith in
     let long : length (pads x) ≡ length (padding (pad_at x)) =
-    omega (arith, length-take (end x - (end x - pad_at x)) (drop (end x - pad_at x) x), length-drop (end x - pad_at x) x,
-        length-range_with_len 1 (pad_at x)) in (
+    omega (
+      arith,
+      length-take (end x - (end x - pad_at x)) (drop (end x - pad_at x) x),
+      length-drop (end x - pad_at x) x,
+      length-range_with_len 1 (pad_at x),
+    ) in (
       (omega arith, le),
       same_number_lists (pads x) (padding (pad_at x)) long (λ i lt.
           let small : i < pad_at x = omega (arith, length-range_with_len 1 (pad_at x)) in

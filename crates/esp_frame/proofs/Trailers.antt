@@ -39,7 +39,7 @@ padded-end q next i p =
 -- the octets of x, one by one
 pub padded_is : (x p : List ℕ) (q next : ℕ) → length x ≡ length p + q + 2 → ((k : ℕ) → k < length p → get_or x k 0 ≡ get_or p k 0)
     → ((i : ℕ) → i < q → get_or x (length p + i) 0 ≡ i + 1) → get_or x (length p + q) 0 ≡ q → get_or x (length p + q + 1) 0 ≡ next
-        → x ≡ padded q next p
+    → x ≡ padded q next p
 padded_is x p q next long packet pads len last =
     same_number_lists x (padded q next p) (long ∙ sym (length-padded q next p)) (λ k h.
     elim (cases_lt k (length p)) [
@@ -50,7 +50,7 @@ padded_is x p q next long packet pads len last =
             let e : length p + i ≡ k = omega arith in
             let lt : i < q = omega arith in
             ap (λ (n : ℕ). get_or x n 0) (sym e) ∙ pads i lt ∙ sym (ap (λ (n : ℕ). get_or (padded q next p) n 0) (sym e)
-                ∙ padded-padding q next i p lt)
+            ∙ padded-padding q next i p lt)
         | inr after ↦ elim (cases_eq k (length p + q)) [
           | inl same ↦
               let e : k ≡ length p + q + 0 = omega arith in
@@ -72,10 +72,10 @@ trailer_is back q next long pads =
     (λ i lt.
     let e : 0 + i ≡ i = omega arith in
     ap (λ (n : ℕ). get_or (slice_set once (q + 1) next) n 0) e ∙ get_or-set_other once (q + 1) i next 0 (omega arith)
-        ∙ get_or-set_other back q i q 0 (omega arith) ∙ pads i lt)
+    ∙ get_or-set_other back q i q 0 (omega arith) ∙ pads i lt)
     (let e : 0 + q ≡ q = omega arith in
     ap (λ (n : ℕ). get_or (slice_set once (q + 1) next) n 0) e ∙ get_or-set_other once (q + 1) q next 0 (omega arith)
-        ∙ get_or-set_same back q q 0 (omega arith))
+    ∙ get_or-set_same back q q 0 (omega arith))
     (let e : 0 + q + 1 ≡ q + 1 = omega arith in
     ap (λ (n : ℕ). get_or (slice_set once (q + 1) next) n 0) e ∙ get_or-set_same once (q + 1) next 0 (omega arith))
 

@@ -135,8 +135,11 @@ fn open_text(sa: &SealKey, head: &[u8], text: &mut [u8], icv: &[u8]) -> bool
     requires head { length head.now ≡ 16 }
     requires text { length text.old ≤ 65535 }
     requires icv { length icv.now ≡ 16 }
-    ensures opened { OnTrue result (Opens (cipher_of sa.now.schedule) (sa.now.salt ++ drop 8 head.now) (take 8 head.now) text.old icv.now text.new) }
-    ensures refused { OnFalse result ((icv.now ≢ tag_of (cipher_of sa.now.schedule) (sa.now.salt ++ drop 8 head.now) (take 8 head.now) text.old) × (text.new ≡ text.old)) }
+    ensures opened { OnTrue result (Opens (cipher_of sa.now.schedule) (sa.now.salt ++ drop 8 head.now) (take 8 head.now) text.old icv.now
+        text.new) }
+    ensures refused { OnFalse result
+        ((icv.now ≢ tag_of (cipher_of sa.now.schedule) (sa.now.salt ++ drop 8 head.now) (take 8 head.now) text.old)
+        × (text.new ≡ text.old)) }
 {
     let mut tag = [0u8; 16];
     tag.copy_from_slice(icv);

@@ -38,7 +38,7 @@ event_line : (gateways : List Peer) (e : Event) (w : List ℕ) (ws : List (List 
 unfolding event_of event_text
 event_line gateways e w ws is are read =
     let p : list_all is_printable (line_text (event_words e)) ≡ true = ap (λ us. list_all is_printable (line_text us)) is
-        ∙ line_printable w ws are in
+    ∙ line_printable w ws are in
     let s : words (line_text (event_words e)) ≡ w ∷ ws = ap (λ us. words (line_text us)) is ∙ line_words w ws are in
     rw (p, s, read) refl
 
@@ -99,8 +99,13 @@ unfolding event_in arrive_in flip_of AreWords
 arrive_flip_event gateways g k n b spelled named one small place bit =
     event_line gateways (events.ArriveFlip g k n b) (codes "arrive") (g ∷ (35 ∷ decimal k) ∷ codes "flip" ∷ decimal n ∷ decimal b ∷ []) refl
     (refl, (name_word g spelled, (sent_word k small, (refl, (number_word n place, (number_word b (omega arith), tt))))))
-    (rw (named, sent_read k small one, number_again faults.Number n (2 ^ 64 - 1) place (omega arith), number_again faults.Number b 7
-        (omega arith) bit) refl)
+    (rw (
+      named,
+      sent_read k small one,
+      number_again faults.Number n (2 ^ 64 - 1) place (omega arith),
+      number_again faults.Number b 7
+          (omega arith) bit,
+    ) refl)
 
 -- ---- clocks, gateways and sessions
 
@@ -186,7 +191,7 @@ keys_event : ReadsDigits → (gateways : List Peer) (octets : List ℕ) → AreO
 unfolding event_in session_in command_in keys_in AreWords
 keys_event digits gateways octets are =
     event_line gateways (events.Keys octets) (codes "keys") (hex_text octets ∷ []) refl (refl, (hex_word octets are, tt))
-        (rw (hex_read digits octets are) refl)
+    (rw (hex_read digits octets are) refl)
 
 mode_read : (m : Bool) → mode_of (mode_text m) ≡ Ok m
 mode_read m = ap (one_of faults.Mode) (mode_again m)
@@ -208,8 +213,13 @@ window_word n is =
     number_word n (omega arith)
 
 ends_read : (s : TunnelSpec) → IsTypedTunnel s → is_gateway s.first ≡ true → is_gateway s.second ≡ true
-    → ends_of (decimal s.reqid) (mode_text s.now) s.first s.second ≡ Ok (record { reqid = s.reqid; now = s.now; first = s.first; second =
-        s.second })
+    → ends_of (decimal s.reqid) (mode_text s.now) s.first s.second ≡ Ok (record {
+      reqid = s.reqid;
+      now = s.now;
+      first = s.first;
+      second =
+          s.second;
+    })
 unfolding ends_of
 ends_read s is first second =
     let small = is.reqid in
@@ -222,8 +232,13 @@ lifetimes_read fault hard soft h s = rw (limits_read fault hard h, limits_read f
 
 flow_read : (s : TunnelSpec) → IsTypedTunnel s → is_window s.window ≡ true
     → flow_of (prefix_text s.first_prefix) (prefix_text s.second_prefix) (decimal s.window) (limits_text s.hard) (limits_text s.soft)
-    ≡ Ok (record { first = s.first_prefix; second = s.second_prefix; window = s.window; lifetimes =
-        record { hard = s.hard; soft = s.soft } })
+    ≡ Ok (record {
+      first = s.first_prefix;
+      second = s.second_prefix;
+      window = s.window;
+      lifetimes =
+          record { hard = s.hard; soft = s.soft };
+    })
 unfolding flow_of
 flow_read s is window =
     rw (

@@ -78,7 +78,7 @@ arrive_of_under gateways gateway w e is =
     (λ g known more. either P (is_numbered w) _ _ e more
     (λ read. after P (sent_of w) _ e read
     (λ k sent same. let q : events.ArriveSent g k ≡ e = cc in
-        subst (IsEventUnder gateways) q (known_named gateways gateway g known, sent_from_one w k sent)))
+    subst (IsEventUnder gateways) q (known_named gateways gateway g known, sent_from_one w k sent)))
     (λ read. after P (octets_of w) _ e read
     (λ o _ same. let q : events.Arrive g o ≡ e = cc in subst (IsEventUnder gateways) q (known_named gateways gateway g known))))
 
@@ -92,7 +92,7 @@ ttl_under gateways gateway sent how ttl e is =
     (λ k counted more2. passed P (bytes_eq how (codes "ttl")) _ faults.Word e more2
     (λ _ more3. after P (number_in faults.Number 255 ttl) _ e more3
     (λ t _ same. let q : events.ArriveTtl g k t ≡ e = cc in
-        subst (IsEventUnder gateways) q (known_named gateways gateway g known, sent_from_one sent k counted)))))
+    subst (IsEventUnder gateways) q (known_named gateways gateway g known, sent_from_one sent k counted)))))
 
 flip_under : (gateways : List Peer) (gateway sent how offset bit : List ℕ) (e : Event) → flip_of gateways gateway sent how offset bit ≡ Ok e
     → IsEventUnder gateways e
@@ -105,8 +105,12 @@ flip_under gateways gateway sent how offset bit e is =
     (λ _ more3. after P (number_in faults.Number (2 ^ 64 - 1) offset) _ e more3
     (λ n _ more4. after P (number_in faults.Number 7 bit) _ e more4
     (λ b few same. let q : events.ArriveFlip g k n b ≡ e = cc in
-    subst (IsEventUnder gateways) q (known_named gateways gateway g known, sent_from_one sent k counted, number_most faults.Number 7 bit b
-        few))))))
+    subst (IsEventUnder gateways) q (
+      known_named gateways gateway g known,
+      sent_from_one sent k counted,
+      number_most faults.Number 7 bit b
+          few,
+    ))))))
 
 arrive_under : (gateways : List Peer) (ws : List (List ℕ)) (e : Event) → arrive_in gateways ws ≡ Ok e → IsEventUnder gateways e
 unfolding arrive_in
@@ -245,7 +249,7 @@ pub event_under : (gateways : List Peer) (line : List ℕ) (e : Event) → event
 unfolding event_of
 event_under gateways line e is =
     passed (IsEventUnder gateways e) (list_all is_printable line) _ faults.Octet e is (λ _ read. event_words_under gateways (words line) e
-        read)
+    read)
 
 -- ---- headers
 

@@ -22,7 +22,7 @@ policy_in [] = Err faults.Count
 policy_in (gateway ∷ entries) =
     if nat_le (length entries) 256
     then gateway_of gateway >>=
-        (λ g. entries_of entries >>= (λ list. unless_fault (spd_fault list) list >>= (λ good. Ok (events.Policy g good))))
+    (λ g. entries_of entries >>= (λ list. unless_fault (spd_fault list) list >>= (λ good. Ok (events.Policy g good))))
     else Err faults.Count
 
 -- a gateway of the header, and the octets of a packet from inside
@@ -121,7 +121,7 @@ ends_of reqid mode first second =
 unfoldable pub flow_of : List ℕ → List ℕ → List ℕ → List ℕ → List ℕ → Result Flow LineFault
 flow_of first second window hard soft =
     prefix_in faults.Prefix first >>=
-        (λ f. prefix_in faults.Prefix second >>= (λ s. window_of window >>= (λ w. lifetimes_of faults.Limits hard soft >>= (λ l.
+    (λ f. prefix_in faults.Prefix second >>= (λ s. window_of window >>= (λ w. lifetimes_of faults.Limits hard soft >>= (λ l.
     Ok (record { first = f; second = s; window = w; lifetimes = l })))))
 
 -- the tunnel with these ends, and what flows in it

@@ -24,7 +24,7 @@ seq_last_of w = or_fault faults.Header (number_of (2 ^ 32 - 1) w) >>= (λ n. if 
 unfoldable pub gateway_in : List (List ℕ) → Result Peer LineFault
 gateway_in (name ∷ address ∷ []) =
     if is_gateway name then or_fault faults.Header (address_of address) >>= (λ a. Ok (record { name = name; address = a }))
-        else Err faults.Header
+    else Err faults.Header
 gateway_in _ = Err faults.Header
 
 -- one word, `GATEWAY=ADDRESS`

@@ -76,38 +76,38 @@ of_h h a = multiply 128 0x87 a h
 pub row_is : (p q r s k h : ℕ) → h < 2 ^ 128 → k + 4 ≤ 128 → p ≡ of_h h (2 ^ k) → q ≡ times_x 128 0x87 p → r ≡ times_x 128 0x87 q
     → s ≡ times_x 128 0x87 r
     → 0 ∷ p ∷ q ∷ bit_xor q p ∷ r ∷ bit_xor r p ∷ bit_xor r q ∷ bit_xor r (bit_xor q p) ∷ s ∷ bit_xor s p ∷ bit_xor s q
-        ∷ bit_xor s (bit_xor q p)
+    ∷ bit_xor s (bit_xor q p)
     ∷ bit_xor s r ∷ bit_xor s (bit_xor r p) ∷ bit_xor s (bit_xor r q) ∷ bit_xor s (bit_xor r (bit_xor q p)) ∷ []
     ≡ map (λ n. of_h h (n * 2 ^ k)) (range_with_len 0 16)
 row_is p q r s k h fits le hp hq hr hs =
     let w : 16 * 2 ^ k ≤ 2 ^ 128 = omega (arith, pow-add 2 4 k, pow-le-pow_right {n = 2} (omega arith) {i = 4 + k} {j = 128} (omega arith))
-        in
+    in
     let pos : 0 < 2 ^ k = pow_pos k in
     let m : ℕ → ℕ = λ n. of_h h (n * 2 ^ k) in
     let zero_is : 0 ≡ m 0 = sym (ap (of_h h) (let z : 0 * 2 ^ k ≡ 0 = omega arith in z) ∙ multiply-zero 128 0x87 low_fits h) in
     let e1 : p ≡ m 1 = hp ∙ ap (of_h h) (let z : 2 ^ k ≡ 1 * 2 ^ k = omega arith in z) in
     let e2 : q ≡ m 2 = hq ∙ ap (times_x 128 0x87) e1 ∙ sym (multiply-double 128 0x87 low_fits (1 * 2 ^ k) h (omega arith))
-        ∙ ap (of_h h) (let z : 2 * (1 * 2 ^ k) ≡ 2 * 2 ^ k = omega arith in z) in
+    ∙ ap (of_h h) (let z : 2 * (1 * 2 ^ k) ≡ 2 * 2 ^ k = omega arith in z) in
     let e4 : r ≡ m 4 = hr ∙ ap (times_x 128 0x87) e2 ∙ sym (multiply-double 128 0x87 low_fits (2 * 2 ^ k) h (omega arith))
-        ∙ ap (of_h h) (let z : 2 * (2 * 2 ^ k) ≡ 4 * 2 ^ k = omega arith in z) in
+    ∙ ap (of_h h) (let z : 2 * (2 * 2 ^ k) ≡ 4 * 2 ^ k = omega arith in z) in
     let e8 : s ≡ m 8 = hs ∙ ap (times_x 128 0x87) e4 ∙ sym (multiply-double 128 0x87 low_fits (4 * 2 ^ k) h (omega arith))
-        ∙ ap (of_h h) (let z : 2 * (4 * 2 ^ k) ≡ 8 * 2 ^ k = omega arith in z) in
+    ∙ ap (of_h h) (let z : 2 * (4 * 2 ^ k) ≡ 8 * 2 ^ k = omega arith in z) in
     let e3 : bit_xor q p ≡ m 3 = (λ i. bit_xor (e2 i) (e1 i)) ∙ multiply-parts 128 0x87 low_fits 2 1 k h (omega arith) (omega arith) in
     let e5 : bit_xor r p ≡ m 5 = (λ i. bit_xor (e4 i) (e1 i)) ∙ multiply-parts 128 0x87 low_fits 4 1 k h (omega arith) (omega arith) in
     let e6 : bit_xor r q ≡ m 6 = (λ i. bit_xor (e4 i) (e2 i)) ∙ multiply-parts 128 0x87 low_fits 4 2 k h (omega arith) (omega arith) in
     let e7 : bit_xor r (bit_xor q p) ≡ m 7 = (λ i. bit_xor (e4 i) (e3 i)) ∙ multiply-parts 128 0x87 low_fits 4 3 k h (omega arith)
-        (omega arith) in
+    (omega arith) in
     let e9 : bit_xor s p ≡ m 9 = (λ i. bit_xor (e8 i) (e1 i)) ∙ multiply-parts 128 0x87 low_fits 8 1 k h (omega arith) (omega arith) in
     let e10 : bit_xor s q ≡ m 10 = (λ i. bit_xor (e8 i) (e2 i)) ∙ multiply-parts 128 0x87 low_fits 8 2 k h (omega arith) (omega arith) in
     let e11 : bit_xor s (bit_xor q p) ≡ m 11 = (λ i. bit_xor (e8 i) (e3 i)) ∙ multiply-parts 128 0x87 low_fits 8 3 k h (omega arith)
-        (omega arith) in
+    (omega arith) in
     let e12 : bit_xor s r ≡ m 12 = (λ i. bit_xor (e8 i) (e4 i)) ∙ multiply-parts 128 0x87 low_fits 8 4 k h (omega arith) (omega arith) in
     let e13 : bit_xor s (bit_xor r p) ≡ m 13 = (λ i. bit_xor (e8 i) (e5 i)) ∙ multiply-parts 128 0x87 low_fits 8 5 k h (omega arith)
-        (omega arith) in
+    (omega arith) in
     let e14 : bit_xor s (bit_xor r q) ≡ m 14 = (λ i. bit_xor (e8 i) (e6 i)) ∙ multiply-parts 128 0x87 low_fits 8 6 k h (omega arith)
-        (omega arith) in
+    (omega arith) in
     let e15 : bit_xor s (bit_xor r (bit_xor q p)) ≡ m 15 = (λ i. bit_xor (e8 i) (e7 i))
-        ∙ multiply-parts 128 0x87 low_fits 8 7 k h (omega arith) (omega arith) in
+    ∙ multiply-parts 128 0x87 low_fits 8 7 k h (omega arith) (omega arith) in
     (λ i. zero_is i ∷ e1 i ∷ e2 i ∷ e3 i ∷ e4 i ∷ e5 i ∷ e6 i ∷ e7 i ∷ e8 i ∷ e9 i ∷ e10 i ∷ e11 i ∷ e12 i ∷ e13 i ∷ e14 i ∷ e15 i ∷ [])
 
 -- the rows' first entries
@@ -124,7 +124,7 @@ unfolding power_at iterate
 power_at_next h i p q hp hq =
     let e : 4 * (i + 1) ≡ suc (suc (suc (suc (4 * i)))) = omega arith in
     hq ∙ ap (λ (x : ℕ). times_x 128 0x87 (times_x 128 0x87 (times_x 128 0x87 (times_x 128 0x87 x)))) hp
-        ∙ sym (ap (λ (n : ℕ). iterate 128 0x87 low_fits n h) e)
+    ∙ sym (ap (λ (n : ℕ). iterate 128 0x87 low_fits n h) e)
 
 pub power_at_is : (h i p : ℕ) → h < 2 ^ 128 → i < 32 → p ≡ power_at h i → p ≡ of_h h (2 ^ (4 * i))
 unfolding power_at
@@ -184,13 +184,13 @@ eight_more y h i z o v v' is fits hz hv hv' =
     let start : 8 * i ≡ 4 * (2 * i) = omega arith in
     let end : 4 * (2 * i + 1 + 1) ≡ 8 * (i + 1) = omega arith in
     let half : y / 2 ^ (4 * (2 * i + 1)) ≡ y / 2 ^ (8 * i) / 2 ^ 4 = ap (λ (n : ℕ). y / 2 ^ n) (let e : 4 * (2 * i + 1) ≡ 8 * i + 4 =
-        omega arith in e) ∙ sym (shr-shr y (8 * i) 4) in
+    omega arith in e) ∙ sym (shr-shr y (8 * i) 4) in
     let low : o % 16 ≡ y / 2 ^ (4 * (2 * i)) % 16 = ap (λ (n : ℕ). n % 16) is ∙ omega arith ∙ ap (λ (n : ℕ). y / 2 ^ n % 16) start in
     let high : o / 16 ≡ y / 2 ^ (4 * (2 * i + 1)) % 16 = ap (λ (n : ℕ). n / 16) is ∙ omega arith ∙ sym (ap (λ (n : ℕ). n % 16) half) in
     let first = four_more y h (2 * i) z v (32 * i + o % 16) (o % 16) fits low (omega arith) (hz ∙ ap (λ (n : ℕ). of_h h (y % 2 ^ n)) start)
-        hv in
+    hv in
     four_more y h (2 * i + 1) (bit_xor z v) v' (32 * i + 16 + o / 16) (o / 16) fits high (omega arith) first hv'
-        ∙ ap (λ (n : ℕ). of_h h (y % 2 ^ n)) end
+    ∙ ap (λ (n : ℕ). of_h h (y % 2 ^ n)) end
 
 pub all_multiplied : (y h i z : ℕ) → y < 2 ^ 128 → i ≡ 16 → z ≡ of_h h (y % 2 ^ (8 * i)) → z ≡ of_h h y
 all_multiplied y h i z fits e held =
@@ -228,7 +228,7 @@ pub absorbed : (h : ℕ) (xs : List ℕ) (i y x : ℕ) (zs : List ℕ) → h < 2
 absorbed h xs i y x zs p fit hy hx =
     (λ k. multiply 128 0x87 (bit_xor (hy k) (hx k)) h)
     ∙ sym (power_sum-append 128 0x87 low_fits d_pos h (zs ++ blocks xs i) (block_at xs i) p
-        (AllFit-append zs (blocks xs i) fit (blocks_fit xs i)) (element-lt _))
+    (AllFit-append zs (blocks xs i) fit (blocks_fit xs i)) (element-lt _))
     ∙ ap (power_sum 128 0x87 h) (append_assoc zs (blocks xs i) (block_at xs i ∷ []) ∙ ap (λ (t : List ℕ). zs ++ t) (sym (blocks-suc xs i)))
 
 pub all_blocks_fit : (xs : List ℕ) → AllFit (all_blocks xs)
@@ -247,7 +247,7 @@ one_block xs e = ap (λ (n : ℕ). blocks xs ((n + 15) / 16)) e
 
 pub ghash_is : (h y1 y2 y3 : ℕ) (aad c ls : List ℕ) → ls ≡ lengths aad c → y1 ≡ power_sum 128 0x87 h ([] ++ all_blocks aad)
     → y2 ≡ power_sum 128 0x87 h (all_blocks aad ++ all_blocks c) → y3 ≡ power_sum 128 0x87 h (all_blocks aad ++ all_blocks c
-        ++ all_blocks ls)
+    ++ all_blocks ls)
     → y3 ≡ ghash h aad c
 unfolding ghash
 ghash_is h y1 y2 y3 aad c ls e p q r =

@@ -70,7 +70,7 @@ reversed_halves v fits = each v fits.1
     each [] h = refl
     each (x ∷ xs) h =
         let one = eqb-true (bit_or (low_half x) (high_half x)) (reversed x)
-            (all_below_at (λ x. bit_or (low_half x) (high_half x) == reversed x) 256 x halves_are h.0.fits) in
+        (all_below_at (λ x. bit_or (low_half x) (high_half x) == reversed x) 256 x halves_are h.0.fits) in
         (λ i. one i ∷ each xs h.1 i)
 
 -- ---- loads
@@ -84,13 +84,13 @@ loaded xs at le =
     same_number_lists (chunk 0 16 part) (map f (range_with_len 0 16)) (same ∙ sym (length-map-range_with_len f 0 16)) (λ k lt.
     let small : k < 16 = omega arith in
     get_or-chunk 0 16 part k 0 small ∙ ap (λ n. get_or part n 0) (zero-add k) ∙ get_or-take (at + 16 - at) (drop at xs) k 0 (omega arith)
-        ∙ get_or-drop at xs k 0
+    ∙ get_or-drop at xs k 0
     ∙ sym (get_or-map-range_with_len f 0 16 k k 0 small (zero-add k)))
 
 -- ---- a sum that is written back
 pub added : (xs ys : List ℕ) (at k : ℕ) → at + 16 ≤ length xs → length ys ≡ 16 → at ≤ k → k < at + 16
     → get_or (put_mid at (at + 16 - at) xs
-        (put_chunk 0 (take (at + 16 - at) (drop at xs)) (zip2 bit_xor (chunk 0 16 (take (at + 16 - at) (drop at xs))) ys))) k 0
+    (put_chunk 0 (take (at + 16 - at) (drop at xs)) (zip2 bit_xor (chunk 0 16 (take (at + 16 - at) (drop at xs))) ys))) k 0
     ≡ bit_xor (get_or xs k 0) (get_or ys (k - at) 0)
 added xs ys at k le long above below =
     let n : ℕ = at + 16 - at in
@@ -110,7 +110,7 @@ added xs ys at k le long above below =
     ∙ get_or-zip2 bit_xor load ys j 0 0 0 (omega arith) (omega arith)
     ∙ ap (λ (x : ℕ). bit_xor x (get_or ys j 0))
     (get_or-chunk 0 16 part j 0 (omega arith) ∙ ap (λ (m : ℕ). get_or part m 0) (zero-add j) ∙ get_or-take n (drop at xs) j 0 (omega arith)
-        ∙ get_or-drop at xs j 0
+    ∙ get_or-drop at xs j 0
     ∙ ap (λ (m : ℕ). get_or xs m 0) place)
 
 -- ---- a sum of two blocks

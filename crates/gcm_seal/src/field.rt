@@ -39,7 +39,8 @@ pub(crate) fn times_x(a: u128) -> u128
 
 // The products of p by the polynomials of four coefficients.
 fn row_of(p: u128) -> [u128; 16]
-    ensures { (k h : ℕ) → h < 2 ^ 128 → k + 4 ≤ 128 → p ≡ multiply 128 0x87 (2 ^ k) h → result ≡ map (λ n. multiply 128 0x87 (n * 2 ^ k) h) (range_with_len 0 16) }
+    ensures { (k h : ℕ) → h < 2 ^ 128 → k + 4 ≤ 128 → p ≡ multiply 128 0x87 (2 ^ k) h → result ≡ map (λ n. multiply 128 0x87 (n * 2 ^ k) h)
+        (range_with_len 0 16) }
 {
     let q = times_x(p);
     let r = times_x(q);

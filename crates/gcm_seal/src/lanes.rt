@@ -97,7 +97,8 @@ pub(crate) fn sum(a: &[u8; 16], b: &[u8; 16]) -> [u8; 16]
 pub(crate) fn add_block(text: &mut [u8], at: usize, stream: &[u8; 16])
     requires { at + 16 ≤ length text.old }
     ensures before { (k : ℕ) → k < at → slice_index text.new k ≡ slice_index text.old k }
-    ensures within { (k : ℕ) → at ≤ k → k < at + 16 → slice_index text.new k ≡ bit_xor (slice_index text.old k) (slice_index stream.now (k - at)) }
+    ensures within { (k : ℕ) → at ≤ k → k < at + 16 → slice_index text.new k ≡ bit_xor (slice_index text.old k)
+        (slice_index stream.now (k - at)) }
     ensures after { (k : ℕ) → at + 16 ≤ k → slice_index text.new k ≡ slice_index text.old k }
 {
     let place = &mut text[at..at + 16];

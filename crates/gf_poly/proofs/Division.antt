@@ -19,7 +19,7 @@ product-half (suc n) a b =
     let w : a * 2 ^ suc n ≡ 2 * (a * 2 ^ n) = omega (arith, ap (λ (x : ℕ). a * x) (pow-suc 2 n)) in
     let v : c * (2 * (a * 2 ^ n)) ≡ 2 * (c * (a * 2 ^ n)) = omega arith in
     let last : bit_at b (suc n) * (a * 2 ^ suc n) ≡ 2 * (c * (a * 2 ^ n)) = ap (λ (x : ℕ). x * (a * 2 ^ suc n)) (bit_at-suc b n)
-        ∙ ap (λ (x : ℕ). c * x) w ∙ v in
+    ∙ ap (λ (x : ℕ). c * x) w ∙ v in
     (λ i. bit_xor (product-half n a b i) (last i))
     ∙ xor_assoc (b % 2 * a) (2 * product n a (b / 2)) (2 * (c * (a * 2 ^ n)))
     ∙ ap (bit_xor (b % 2 * a)) (sym (double_xor (product n a (b / 2)) (c * (a * 2 ^ n))))
@@ -45,7 +45,7 @@ module _ (d low : ℕ) (low_fits : low < 2 ^ d) where
         let t : bit_at (2 * r) d ≡ 0 = bit_at_above (2 * r) d d small (le_refl d) in
         let z : 0 * (2 ^ d + low) ≡ 0 = omega arith in
         sym (times_x-low d low low_fits r small)
-            ∙ sym (ap (λ (x : ℕ). bit_xor x (times_x d low r)) (ap (λ (x : ℕ). x * (2 ^ d + low)) t ∙ z))
+        ∙ sym (ap (λ (x : ℕ). bit_xor x (times_x d low r)) (ap (λ (x : ℕ). x * (2 ^ d + low)) t ∙ z))
     | inr large ↦
         let q : ℕ = 2 * r - 2 ^ d in
         let t : bit_at (2 * r) d ≡ 1 = top_set r large h in
@@ -54,7 +54,7 @@ module _ (d low : ℕ) (low_fits : low < 2 ^ d) where
         let blk : bit_xor (1 * 2 ^ d + low) (0 * 2 ^ d + bit_xor q low) ≡ bit_xor 1 0 * 2 ^ d + bit_xor low (bit_xor q low) =
         xor_block d 1 0 low (bit_xor q low) low_fits (xor_fits r large h) in
         let back : bit_xor low (bit_xor q low) ≡ q = xor_comm low (bit_xor q low) ∙ xor_assoc q low low ∙ ap (bit_xor q) (xor_self low)
-            ∙ xor_zero_r q in
+        ∙ xor_zero_r q in
         let sum : 1 * 2 ^ d + q ≡ 2 * r = omega arith in
         sym (
         ap (λ (x : ℕ). bit_xor x (times_x d low r)) (ap (λ (x : ℕ). x * (2 ^ d + low)) t ∙ o)
@@ -98,5 +98,5 @@ module _ (d low : ℕ) (low_fits : low < 2 ^ d) where
       ∙ ap (bit_xor (p % 2)) (double_xor (product n m q) r ∙ ap (bit_xor (2 * product n m q)) (doubled r (remainder-lt n (p / 2) some))
       ∙ sym (xor_assoc (2 * product n m q) (t * m) x) ∙ ap (λ (y : ℕ). bit_xor y x) (xor_comm (2 * product n m q) (t * m) ∙ sym prod))
       ∙ sym (xor_assoc (p % 2) (product (suc n) m (2 * q + t)) x)
-          ∙ ap (λ (y : ℕ). bit_xor y x) (xor_comm (p % 2) (product (suc n) m (2 * q + t)))
+      ∙ ap (λ (y : ℕ). bit_xor y x) (xor_comm (p % 2) (product (suc n) m (2 * q + t)))
       ∙ xor_assoc (product (suc n) m (2 * q + t)) (p % 2) x

@@ -223,7 +223,7 @@ module _ (d low : ℕ) (low_fits : low < 2 ^ d) where
   lin-xor_right (suc n) a b c =
       ap (bit_xor (lin n a (bit_xor b c)))
       (ap (λ (x : ℕ). x * iterate n a) (bit_at_xor b c n) ∙ bits_sum (bit_at b n) (bit_at c n) (iterate n a) (bit_at-lt b n)
-          (bit_at-lt c n))
+      (bit_at-lt c n))
       ∙ ap (λ (x : ℕ). bit_xor x (bit_xor (bit_at b n * iterate n a) (bit_at c n * iterate n a))) (lin-xor_right n a b c)
       ∙ xor_four (lin n a b) (lin n a c) (bit_at b n * iterate n a) (bit_at c n * iterate n a)
 
@@ -242,7 +242,7 @@ module _ (d low : ℕ) (low_fits : low < 2 ^ d) where
         f_xor (lin n a b) (bit_at b n * iterate n a)
         ∙ ap (λ (x : ℕ). bit_xor x (f (bit_at b n * iterate n a))) (lin-through n a b)
         ∙ ap (bit_xor (lin n (f a) b)) (scaled f f_zero (bit_at b n) (iterate n a) (bit_at-lt b n)
-            ∙ ap (λ (x : ℕ). bit_at b n * x) (iterate-through n a))
+        ∙ ap (λ (x : ℕ). bit_at b n * x) (iterate-through n a))
 
   iterate-xor : (i a b : ℕ) → iterate i (bit_xor a b) ≡ bit_xor (iterate i a) (iterate i b)
   unfolding iterate
@@ -303,7 +303,7 @@ module _ (d low : ℕ) (low_fits : low < 2 ^ d) where
       let c : ℕ = b / 2 ^ n % 2 in
       let lo : b % 2 ^ n < 2 ^ n = mod_below b (2 ^ n) (pow_pos n) in
       let blk : bit_xor (0 * 2 ^ n + b % 2 ^ n) (c * 2 ^ n + 0) ≡ bit_xor 0 c * 2 ^ n + bit_xor (b % 2 ^ n) 0 =
-          xor_block n 0 c (b % 2 ^ n) 0 lo (pow_pos n) in
+      xor_block n 0 c (b % 2 ^ n) 0 lo (pow_pos n) in
       let sum : b % 2 ^ suc n ≡ c * 2 ^ n + b % 2 ^ n = ap (λ (x : ℕ). b % 2 ^ x) (omega arith) ∙ mod-pow-add b 1 n in
       let l : 0 * 2 ^ n + b % 2 ^ n ≡ b % 2 ^ n = omega arith in
       let r : c * 2 ^ n + 0 ≡ c * 2 ^ n = add-zero (c * 2 ^ n) in
@@ -371,7 +371,7 @@ module _ (d low : ℕ) (low_fits : low < 2 ^ d) where
       let l : 0 * 2 ^ k + r ≡ r = omega arith in
       let e : bit_xor r (c * 2 ^ k) ≡ c * 2 ^ k + r =
       ap (λ (x : ℕ). bit_xor x (c * 2 ^ k)) (sym l) ∙ ap (bit_xor (0 * 2 ^ k + r)) (sym (add-zero (c * 2 ^ k))) ∙ blk
-          ∙ ap (λ (x : ℕ). c * 2 ^ k + x) (xor_zero_r r) in
+      ∙ ap (λ (x : ℕ). c * 2 ^ k + x) (xor_zero_r r) in
       sym (ap (λ (x : ℕ). multiply d low x h) (sum ∙ sym e) ∙ multiply-xor r (c * 2 ^ k) h (omega arith) (omega arith))
 
   -- the i-th multiple by x
@@ -382,7 +382,7 @@ module _ (d low : ℕ) (low_fits : low < 2 ^ d) where
       let below : 2 ^ suc i < 2 ^ d = pow_below (suc i) d lt in
       let e : 2 ^ suc i ≡ 2 * 2 ^ i = omega (arith, pow-suc 2 i) in
       ap (times_x d low) (iterate-pow i h fits (omega arith)) ∙ sym (multiply-double (2 ^ i) h (omega arith))
-          ∙ ap (λ (x : ℕ). multiply d low x h) (sym e)
+      ∙ ap (λ (x : ℕ). multiply d low x h) (sym e)
 
   module _ (d_pos : 0 < d) where
     one_lt : 1 < 2 ^ d
@@ -412,10 +412,10 @@ module _ (d low : ℕ) (low_fits : low < 2 ^ d) where
         let longer : length (zs ++ x ∷ []) ≡ k = length-append zs (x ∷ []) in
         let first : multiply d low z (power d low h (k + 1)) ≡ multiply d low (multiply d low z (power d low h k)) h =
         ap (λ (n : ℕ). multiply d low z (power d low h n)) (add-one k) ∙ sym (multiply_assoc z (power d low h k) h fits.0 (power-lt h k) p)
-            in
+        in
         ap (λ (n : ℕ). bit_xor (multiply d low z (power d low h (n + 1))) (power_sum d low h (zs ++ x ∷ []))) longer
         ∙ ap (λ (y : ℕ). bit_xor y (power_sum d low h (zs ++ x ∷ []))) first
         ∙ ap (bit_xor (multiply d low (multiply d low z (power d low h k)) h)) (power_sum-append h zs x p fits.1 q)
         ∙ sym (multiply-xor (multiply d low z (power d low h k)) (bit_xor (power_sum d low h zs) x) h (multiply-lt z _ fits.0)
-            (xor_lt d _ _ (power_sum-lt h zs fits.1) q))
+        (xor_lt d _ _ (power_sum-lt h zs fits.1) q))
         ∙ ap (λ (y : ℕ). multiply d low y h) (sym (xor_assoc (multiply d low z (power d low h k)) (power_sum d low h zs) x))

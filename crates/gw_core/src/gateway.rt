@@ -77,7 +77,8 @@ impl Gateway {
         ensures acts { OnOk result (acts.new ≡ acts.old ++ (stepped self.old.config (seen e.entry) self.old.kept).acts) }
         ensures state { OnOk result (self.new ≡ with_kept (stepped self.old.config (seen e.entry) self.old.kept).kept self.old) }
         ensures err { OnErr result ((self.new ≡ self.old) × (acts.new ≡ acts.old)) }
-        ensures response { (o : Order) → seen e.entry ≡ Handle (Ok (ask_of o)) → OnOk result (IsAnswered o (reply (tree_of self.old.kept) (ask_of o))) }
+        ensures response { (o : Order) → seen e.entry ≡ Handle (Ok (ask_of o))
+            → OnOk result (IsAnswered o (reply (tree_of self.old.kept) (ask_of o))) }
         ensures tree { (ask : Ask) → seen e.entry ≡ Handle (Ok ask) → OnOk result (CanTell (tree_of self.old.kept)) }
         ensures sound { IsSound self.old.kept }
     {

@@ -71,12 +71,21 @@ pub record IsTold (c : Config) (n : Naming) (k : Kept) (e : Event) (step : Step)
   pub naming : naming_after n e ≡ step.naming
 
 pub step-told : (g : List ℕ) (c : Config) (n : Naming) (k : Kept) (e : Event) → IsTold c n k e (step_of (gateway_of g c) n k (event_of e))
-step-told g c n k (Let o) = record { acts = ap (λ zs. acts.Let n.name o ∷ zs) (done-told n (let_in c.seq_last o k).done); kept = refl;
-    naming = refl }
-step-told g c n k (Arrive o) = record { acts = ap (λ zs. acts.Arrived n.name o ∷ zs) (done-told n (arrive c.address o k).done); kept = refl;
-    naming = refl }
-step-told g c n k (Clock t) = record { acts = ap (λ zs. acts.Now (clock_read t k).kept.clock ∷ zs) (done-told n (clock_read t k).done);
-    kept = refl; naming = refl }
+step-told g c n k (Let o) = record {
+  acts = ap (λ zs. acts.Let n.name o ∷ zs) (done-told n (let_in c.seq_last o k).done);
+  kept = refl;
+  naming = refl;
+}
+step-told g c n k (Arrive o) = record {
+  acts = ap (λ zs. acts.Arrived n.name o ∷ zs) (done-told n (arrive c.address o k).done);
+  kept = refl;
+  naming = refl;
+}
+step-told g c n k (Clock t) = record {
+  acts = ap (λ zs. acts.Now (clock_read t k).kept.clock ∷ zs) (done-told n (clock_read t k).done);
+  kept = refl;
+  naming = refl;
+}
 step-told g c n k (Handle (Ok ask)) =
     let r : table.Outcome = table.reply (tree_of k) ask in
     let last : List GwAct = done.Reply (reply_of r) ∷ [] in

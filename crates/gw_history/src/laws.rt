@@ -42,9 +42,11 @@ pub fn runs_follow()
         (run_of c (begun g) tables.booted es).acts ≡ gw_history (gateway_of g c) [] (map event_of es) }
     ensures begun_kept { (c : Config) (g : List ℕ) (es : List Event) → AreTunnelEvents es →
         (run_of c (begun g) tables.booted es).kept ≡ kept_of (state_of g (after [] (gw_history (gateway_of g c) [] (map event_of es)))) }
-    ensures past { (c : Config) (g : List ℕ) (h : List Act) (es : List Event) → IsGatewayPast (gateway_of g c) h → All InstallsTunnel h → AreTunnelEvents es →
+    ensures past { (c : Config) (g : List ℕ) (h : List Act) (es : List Event) → IsGatewayPast (gateway_of g c) h → All InstallsTunnel h
+        → AreTunnelEvents es →
         (run_of c (naming_of g (state_of g h)) (kept_of (state_of g h)) es).acts ≡ gw_history (gateway_of g c) h (map event_of es) }
-    ensures past_kept { (c : Config) (g : List ℕ) (h : List Act) (es : List Event) → IsGatewayPast (gateway_of g c) h → All InstallsTunnel h → AreTunnelEvents es →
+    ensures past_kept { (c : Config) (g : List ℕ) (h : List Act) (es : List Event) → IsGatewayPast (gateway_of g c) h → All InstallsTunnel h
+        → AreTunnelEvents es →
         (run_of c (naming_of g (state_of g h)) (kept_of (state_of g h)) es).kept ≡ kept_of (state_of g (after h (gw_history (gateway_of g c) h (map event_of es)))) }
 {
     gw_law::runs_follow();
@@ -54,9 +56,11 @@ pub fn runs_follow()
 /// restart, and its steps are the history after that.
 pub fn restarts_follow()
     ensures acts { (c : Config) (t : ℕ) → (stepped c (Clock t) tables.booted).acts ≡ [] }
-    ensures kept { (c : Config) (g : List ℕ) (h : List Act) → (stepped c (Clock (clock h)) tables.booted).kept ≡ kept_of (state_of g (acts.Boot g ∷ h)) }
+    ensures kept { (c : Config) (g : List ℕ) (h : List Act) → (stepped c (Clock (clock h)) tables.booted).kept ≡ kept_of
+        (state_of g (acts.Boot g ∷ h)) }
     ensures naming { (g : List ℕ) (h : List Act) → restarted (naming_of g (state_of g h)) ≡ naming_of g (state_of g (acts.Boot g ∷ h)) }
-    ensures run { (c : Config) (g : List ℕ) (h : List Act) (es : List Event) → IsGatewayPast (gateway_of g c) h → All InstallsTunnel h → AreTunnelEvents es →
+    ensures run { (c : Config) (g : List ℕ) (h : List Act) (es : List Event) → IsGatewayPast (gateway_of g c) h → All InstallsTunnel h
+        → AreTunnelEvents es →
         (run_of c (restarted (naming_of g (state_of g h))) (stepped c (Clock (clock h)) tables.booted).kept es).acts ≡ gw_history (gateway_of g c) (acts.Boot g ∷ h) (map event_of es) }
 {
     gw_law::restarts_follow();
@@ -65,8 +69,10 @@ pub fn restarts_follow()
 /// Whatever events come to a gateway, it lets out and in in clear only what a bypass entry in force lets, sends no number twice under
 /// one installation, and gives none that it took before: from its start, and after any lawful past, a restart at its end too.
 pub fn is_every_run_safe()
-    ensures begun { (c : Config) (g : List ℕ) (es : List Event) → AreTunnelEvents es → IsGatewaySafe (after [] (run_of c (begun g) tables.booted es).acts) }
-    ensures past { (c : Config) (g : List ℕ) (h : List Act) (es : List Event) → IsGatewayPast (gateway_of g c) h → All InstallsTunnel h → AreTunnelEvents es →
+    ensures begun { (c : Config) (g : List ℕ) (es : List Event) → AreTunnelEvents es
+        → IsGatewaySafe (after [] (run_of c (begun g) tables.booted es).acts) }
+    ensures past { (c : Config) (g : List ℕ) (h : List Act) (es : List Event) → IsGatewayPast (gateway_of g c) h → All InstallsTunnel h
+        → AreTunnelEvents es →
         IsGatewaySafe (after h (run_of c (naming_of g (state_of g h)) (kept_of (state_of g h)) es).acts) }
 {
     gw_law::is_every_run_safe();
@@ -75,7 +81,8 @@ pub fn is_every_run_safe()
 /// No history of events whose requests speak of entries without a fault puts a fault into the databases, and what is kept of it has
 /// none.
 pub fn histories_have_no_fault()
-    ensures acts { (c : Config) (g : List ℕ) (h : List Act) (es : List Event) → c.seq_last < 4294967296 → AreEvents es → AreTunnelEvents es →
+    ensures acts { (c : Config) (g : List ℕ) (h : List Act) (es : List Event) → c.seq_last < 4294967296 → AreEvents es → AreTunnelEvents es
+        →
         IsGatewayPast (gateway_of g c) h → All InstallsTunnel h → All HasNoFault h → All HasNoFault (after h (gw_history (gateway_of g c) h (map event_of es))) }
     ensures kept { (c : Config) (g : List ℕ) (es : List Event) → c.seq_last < 4294967296 → AreEvents es → AreTunnelEvents es →
         IsSound (kept_of (state_of g (after [] (gw_history (gateway_of g c) [] (map event_of es))))) }

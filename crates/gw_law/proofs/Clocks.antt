@@ -74,15 +74,18 @@ read-on g s t k p =
 read-off : (g : List ℕ) (s : GatewayState) → IsRead g s s.clock [] (outcome None [] [] (kept_of s))
 read-off g s =
     let told : IsTold g s (with_clock s.clock s) [] (outcome None [] [] (kept_of s)) = record { acts = refl; kept = refl } in
-    record { clock = refl; told = subst (λ m. IsTold g s (with_clock m s) [] (outcome None [] [] (kept_of s))) (sym (own-max s.clock))
-        told }
+    record {
+      clock = refl;
+      told = subst (λ m. IsTold g s (with_clock m s) [] (outcome None [] [] (kept_of s))) (sym (own-max s.clock))
+          told;
+    }
 
 read-by : (g : List ℕ) (s : GatewayState) (t : ℕ) (b : Bool) → IsOrderly s → nat_lt s.clock t ≡ b →
     IsRead g s (max t s.clock) (if b then look_of g s.session (max t s.clock) s.halves else [])
     (if b then looked (tables.with_clock t (kept_of s)) else outcome None [] [] (kept_of s))
 read-by g s t true k p =
     subst (λ m. IsRead g s m (look_of g s.session m s.halves) (looked (tables.with_clock t (kept_of s)))) (sym (raised t s.clock p))
-        (read-on g s t k p)
+    (read-on g s t k p)
 read-by g s t false k p = subst (λ m. IsRead g s m [] (outcome None [] [] (kept_of s))) (sym (same t s.clock p)) (read-off g s)
 
 pub clock-told : (g : List ℕ) (s : GatewayState) (t : ℕ) → IsOrderly s →

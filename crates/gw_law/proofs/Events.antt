@@ -48,7 +48,7 @@ let-step : (c : Gateway) (s : GatewayState) (o : List ℕ) → AreSized → IsOr
     → IsStep c s (Let o) (step_of c (naming_of c.name s) (kept_of s) (Let o))
 let-step c s o sized k =
     told-step c s (quiet s) (Let o) (acts.Let c.name o) (machine.out_by_view c.name c.seq_last s o (view_of o))
-        (let_in c.seq_last o (kept_of s)) refl refl
+    (let_in c.seq_last o (kept_of s)) refl refl
     (let-told c.name c.seq_last s o sized k)
 
 own : {A : Type 0} → (g : List ℕ) (x y : A) → (if bytes_eq g g then x else y) ≡ x
@@ -58,7 +58,7 @@ arrive-step : (c : Gateway) (s : GatewayState) (o : List ℕ) → IsOrderly s
     → IsStep c s (Arrive o) (step_of c (naming_of c.name s) (kept_of s) (Arrive o))
 arrive-step c s o k =
     told-step c s (with_arrival o s) (Arrive o) (acts.Arrived c.name o) (machine.in_by_view c.name c.address s o (view_of o))
-        (arrive c.address o (kept_of s)) refl
+    (arrive c.address o (kept_of s)) refl
     (own c.name (with_arrival o s) (quiet s)) (arrive-told c.name c.address s o k)
 
 clock-step : (c : Gateway) (s : GatewayState) (t : ℕ) → IsOrderly s

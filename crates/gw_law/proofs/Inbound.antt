@@ -101,7 +101,7 @@ did-use g s o b i x n a k f (inl (p, is)) =
     ∙ (ap (λ z. with_halves (map (given_under x.entry.name s.clock (length z) n) s.halves) s) f.octets ∙ ap (λ hs. with_halves hs s) given))
 did-use g s o b i x n a k f (inr (w, is, p)) =
     let spi : by_spi (spi_of (esp_of o)) (entries_of s.halves) ≡ Some x.entry = ap (λ z. by_spi (spi_of z) (entries_of s.halves)) f.octets
-        ∙ f.spi in
+    ∙ f.spi in
     let opened = opened-at o s.clock i x s.halves k.apart f.there spi in
     let size : octets_in (Some o) ≡ length b = ap length f.octets in
     let number : number_from x.entry x.window.top (esp_of o) ≡ n = ap (number_from x.entry x.window.top) f.octets ∙ sym f.number in
@@ -114,15 +114,15 @@ did-use g s o b i x n a k f (inr (w, is, p)) =
 in-use : (g : List ℕ) (s : GatewayState) (o b : List ℕ) (i : ℕ) (x : Half) (n : ℕ) (act : Act) (a : PacketAnswer) → IsOrderly s
     → IsFor s o b i x n → IsFound g x.entry n act a →
     IsTold g s (with_arrival o s) (uses_of g s o x n act) (used a i (take_number s.clock (length b) n) (take_number s.clock (length b) n x)
-        (kept_of s))
+    (kept_of s))
 in-use g s o b i x n act a k f found =
     let told = told-use g s (with_arrival o s) a i (take_number s.clock (length b) n) x k f.there (λ z. refl)
-        (did-use g s o b i x n a k f found.use-of) in
+    (did-use g s o b i x n a k f found.use-of) in
     let out = used a i (take_number s.clock (length b) n) (take_number s.clock (length b) n x) (kept_of s) in
     let size : length b ≡ octets_in (Some o) = sym (ap length f.octets) in
     subst (λ l. IsTold g s (with_arrival o s) (act ∷ look_of g s.session s.clock (take_number s.clock l n x ∷ [])) out) size
     (subst (λ z. IsTold g s (with_arrival o s) (z ∷ look_of g s.session s.clock (take_number s.clock (length b) n x ∷ [])) out)
-        (sym found.told) told)
+    (sym found.told) told)
 
 -- ---- ESP
 
@@ -132,7 +132,7 @@ in-text : (g : List ℕ) (s : GatewayState) (o b : List ℕ) (i : ℕ) (x : Half
 in-text g s o b i x n None k f = told-drop g s (with_arrival o s) why.Auth refl refl
 in-text g s o b i x n (Some text) k f =
     in-use g s o b i x n (arrive.by_packet g x.entry n (esp.inner_packet text)) (inbound.answer_by_packet x.entry n (esp.inner_packet text))
-        k f
+    k f
     (found-packet g x.entry n (esp.inner_packet text))
 
 in-verdict : (g : List ℕ) (s : GatewayState) (o b : List ℕ) (i : ℕ) (x : Half) (n : ℕ) (w : Verdict) → IsOrderly s → IsFor s o b i x n →
@@ -148,7 +148,7 @@ no-half g s o b k =
     told-unless g s (with_arrival o s) why.BadSpi (tells_of g s (notices.BadSpi (spi_of b))) _ (list_any (λ z. z == spi_of b) s.bad_spis)
     (told-drop g s (with_arrival o s) why.BadSpi refl refl)
     (told-notice g s (with_arrival o s) why.BadSpi (notices.BadSpi (spi_of b)) s.halves (take 64 (spi_of b ∷ s.bad_spis)) refl refl
-        (bad-spi-at (spi_of b) s.halves) refl)
+    (bad-spi-at (spi_of b) s.halves) refl)
 
 entry-step : (spi : ℕ) (y x : Half) (ys : List Half) (c : Bool)
     → (find (is_half_of_spi spi) ys ≡ Some x → by_spi spi (entries_of ys) ≡ Some x.entry) →
@@ -167,15 +167,20 @@ in-half : (g : List ℕ) (s : GatewayState) (o b : List ℕ) (i : ℕ) (found : 
 in-half g s o b i None k e at spi = no-half g s o b k
 in-half g s o b i (Some x) k e at spi =
     let n : ℕ = number_from x.entry x.window.top b in
-    in-verdict g s o b i x n (judged x.window n) k (record { there = at; octets = e; spi = entry-by (spi_of b) s.halves x spi; number =
-        refl })
+    in-verdict g s o b i x n (judged x.window n) k (record {
+      there = at;
+      octets = e;
+      spi = entry-by (spi_of b) s.halves x spi;
+      number =
+          refl;
+    })
 
 in-place : (g : List ℕ) (s : GatewayState) (o b : List ℕ) (place : Option ℕ) → IsOrderly s → esp_of o ≡ b
     → option_and_then (slice_get s.halves) place ≡ half_by_spi (spi_of b) s.halves →
     IsTold g s (with_arrival o s) (in_by_half g s o b (half_by_spi (spi_of b) s.halves)) (inbound.opened_by_place b place (kept_of s))
 in-place g s o b None k e at =
     subst (λ found. IsTold g s (with_arrival o s) (in_by_half g s o b found) (inbound.without_half (spi_of b) (kept_of s))) at
-        (no-half g s o b k)
+    (no-half g s o b k)
 in-place g s o b (Some i) k e at =
     subst (λ found. IsTold g s (with_arrival o s) (in_by_half g s o b found) (inbound.opened_at b i (slice_get s.halves i) (kept_of s))) at
     (in-half g s o b i (slice_get s.halves i) k e refl (sym at))
@@ -204,7 +209,7 @@ in-view : (g : List ℕ) (own : Addr) (s : GatewayState) (o : List ℕ) (r : Res
 in-view g own s o (Err fault) k e = told-drop g s (with_arrival o s) (fault_why fault) (fault-quiet fault) refl
 in-view g own s o (Ok v) k e =
     told-if g s (with_arrival o s) _ _ _ _ (arrive.is_sealed_for own v) (in-octets g s o v.payload k (ap payload_of e))
-        (in-entry g s o (first_entry s.spd In v))
+    (in-entry g s o (first_entry s.spd In v))
 
 pub arrive-told : (g : List ℕ) (own : Addr) (s : GatewayState) (o : List ℕ) → IsOrderly s →
     IsTold g s (with_arrival o s) (in_by_view g own s o (view_of o)) (inbound.arrive own o (kept_of s))

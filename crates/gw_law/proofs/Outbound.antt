@@ -57,25 +57,25 @@ sent g s o v i x sized k at =
     let told = told-use g s (quiet s) (answers.Sent x.entry.name n d) i (send s.clock size) x k at (λ z. refl) did-it in
     let same : size ≡ esp_len (length o) = sized x.entry n v o (half-at HasTunnel s.halves i x k.tunnels at) in
     subst (λ l. IsTold g s (quiet s) (sends_of g s x n d) (used (answers.Sent x.entry.name n d) i (send s.clock l) (send s.clock l x)
-        (kept_of s))) same told
+    (kept_of s))) same told
 
 over : (g : List ℕ) (s : GatewayState) (i : ℕ) (x : Half) → IsOrderly s → slice_get s.halves i ≡ Some x →
     IsTold g s (quiet s) (acts.Drop g why.SeqLimit ∷ unless x.overflow (tells_of g s (notices.SeqOverflow x.entry.name)))
-        (spent i x (kept_of s))
+    (spent i x (kept_of s))
 over g s i x k at =
     told-unless g s (quiet s) why.SeqLimit (tells_of g s (notices.SeqOverflow x.entry.name)) _ x.overflow
     (told-drop g s (quiet s) why.SeqLimit refl refl)
     (told-notice g s (quiet s) why.SeqLimit (notices.SeqOverflow x.entry.name) (changed (with_overflow true) i s.halves) s.bad_spis refl
-        refl (overflow-at i x s.halves k.apart at) k.few_spis)
+    refl (overflow-at i x s.halves k.apart at) k.few_spis)
 
 no-half : (g : List ℕ) (s : GatewayState) (v : Packet) (p : SpdEntry) → IsOrderly s →
     IsTold g s (quiet s) (acts.Drop g why.NoSa ∷ unless (list_any (λ q. bytes_eq q p.name) s.acquires)
-        (tells_of g s (notices.Acquire p.name (flow_of v)))) (without_half v p (kept_of s))
+    (tells_of g s (notices.Acquire p.name (flow_of v)))) (without_half v p (kept_of s))
 no-half g s v p k =
     told-unless g s (quiet s) why.NoSa (tells_of g s (notices.Acquire p.name (flow_of v))) _ (list_any (λ q. bytes_eq q p.name) s.acquires)
     (told-drop g s (quiet s) why.NoSa refl refl)
     (told-notice g s (quiet s) why.NoSa (notices.Acquire p.name (flow_of v)) s.halves s.bad_spis refl refl
-        (acquire-at p.name (flow_of v) s.halves) k.few_spis)
+    (acquire-at p.name (flow_of v) s.halves) k.few_spis)
 
 out-half : (g : List ℕ) (q : ℕ) (s : GatewayState) (o : List ℕ) (v : Packet) (p : SpdEntry) (i : ℕ) (found : Option Half) → AreSized
     → IsOrderly s → slice_get s.halves i ≡ found →
@@ -96,7 +96,7 @@ out-action : (g : List ℕ) (q : ℕ) (s : GatewayState) (o : List ℕ) (v : Pac
 out-action g q s o v p actions.Protect sized k =
     let told = out-place g q s o v p (newest_place p.reqid v s.halves) sized k in
     subst (λ found. IsTold g s (quiet s) (out_by_half g q s o v p found) (protected_by q o v p (newest_place p.reqid v s.halves)
-        (kept_of s)))
+    (kept_of s)))
     (newest-there p.reqid v s.halves) told
 out-action g q s o v p actions.Bypass sized k = told-answer g s (quiet s) (answers.Clear o) refl
 out-action g q s o v p actions.Discard sized k = told-drop g s (quiet s) why.Discard refl refl
@@ -118,7 +118,7 @@ out-view : (g : List ℕ) (q : ℕ) (s : GatewayState) (o : List ℕ) (r : Resul
 out-view g q s o (Err fault) sized k = told-drop g s (quiet s) (fault_why fault) (fault-quiet fault) refl
 out-view g q s o (Ok v) sized k =
     told-if g s (quiet s) _ _ _ _ (nat_lt 65000 (length o)) (told-drop g s (quiet s) why.TooLong refl refl)
-        (out-entry g q s o v (first_entry s.spd Out v) sized k)
+    (out-entry g q s o v (first_entry s.spd Out v) sized k)
 
 pub let-told : (g : List ℕ) (q : ℕ) (s : GatewayState) (o : List ℕ) → AreSized → IsOrderly s →
     IsTold g s (quiet s) (out_by_view g q s o (view_of o)) (let_in q o (kept_of s))

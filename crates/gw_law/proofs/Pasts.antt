@@ -32,7 +32,7 @@ pub apart-is : (g : List ℕ) (h : List Act) (es : List SadEntry) → are_names_
 apart-is g h [] = refl
 apart-is g h (e ∷ es) =
     ap (λ b. not b && are_names_apart (names_of (map (half_of g h) es))) (names-any g h e.name es)
-        ∙ ap (λ b. not (has_half e.name es) && b) (apart-is g h es)
+    ∙ ap (λ b. not (has_half e.name es) && b) (apart-is g h es)
 
 same-length : (g : List ℕ) (h : List Act) (es : List SadEntry) → length (map (half_of g h) es) ≡ length es
 same-length g h [] = refl
@@ -55,7 +55,7 @@ windows-are : (g : List ℕ) (h : List Act) (es : List SadEntry) → All HasOwnW
 windows-are g h [] = All-nil HasOwnWindow
 windows-are g h (e ∷ es) =
     All-cons HasOwnWindow (half_of g h e) (map (half_of g h) es) (size-is (no_marks e.window) (numbers_taken g e.name h))
-        (windows-are g h es)
+    (windows-are g h es)
 
 -- ---- what was installed
 

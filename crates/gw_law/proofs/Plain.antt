@@ -72,9 +72,9 @@ notices-all Q p g s (n ∷ ns) = All-cons Q (acts.Notice g s n) (given_by g s ns
 done-all : (Q : Act → Type 0) → IsPlain Q → (n : Naming) (d : Done) → All Q (acts_told n d)
 done-all Q p n d =
     All-append Q (if_answered n.name d.answer) (ends_told n.name d.gone ++ given_by n.name n.session d.notices)
-        (answers-all Q p n.name d.answer)
+    (answers-all Q p n.name d.answer)
     (All-append Q (ends_told n.name d.gone) (given_by n.name n.session d.notices) (ends-all Q p n.name d.gone)
-        (notices-all Q p n.name n.session d.notices))
+    (notices-all Q p n.name n.session d.notices))
 
 -- it holds of each act of a step
 pub step-all : (Q : Act → Type 0) → IsPlain Q → (c : Gateway) (n : Naming) (k : Kept) (e : GatewayEvent) → HoldsOfChange Q n k e
@@ -85,15 +85,15 @@ step-all Q p c n k (Arrive o) h = All-cons Q (acts.Arrived n.name o) (acts_told 
     (done-all Q p n (arrive c.address o k).done)
 step-all Q p c n k (Clock t) h =
     All-cons Q (acts.Now (clock_read t k).kept.clock) (acts_told n (clock_read t k).done) (p.read (clock_read t k).kept.clock)
-        (done-all Q p n (clock_read t k).done)
+    (done-all Q p n (clock_read t k).done)
 step-all Q p c n k (Handle (Ok ask)) h =
     let r : table.Outcome = table.reply (tree_of k) ask in
     let last : Act = acts.Handled n.name n.session (n.requests + 1) (answer_of r) in
     All-append Q (change_acts n.name r r.change) (last ∷ []) h
-        (All-cons Q last [] (p.handled n.name n.session (n.requests + 1) (answer_of r)) (All-nil Q))
+    (All-cons Q last [] (p.handled n.name n.session (n.requests + 1) (answer_of r)) (All-nil Q))
 step-all Q p c n k (Handle (Err fault)) h =
     All-cons Q (acts.Handled n.name n.session (n.requests + 1) (fault_answer fault)) []
-        (p.handled n.name n.session (n.requests + 1) (fault_answer fault)) (All-nil Q)
+    (p.handled n.name n.session (n.requests + 1) (fault_answer fault)) (All-nil Q)
 step-all Q p c n k Session_taken h = All-cons Q (acts.Opened n.name (n.openings + 1)) [] (p.opened n.name (n.openings + 1)) (All-nil Q)
 
 -- ---- halves between addresses of one family
@@ -130,7 +130,7 @@ puts-ask t asks.GetSpd p = tt
 puts-ask t (asks.PutSpd list) p = tt
 puts-ask t (asks.PostSpd e place) p =
     puts-if (table.has_policy e.name t.spd) _ _ tt
-        (puts-if (table.is_spd_full t.spd) _ _ tt (puts-if (not (table.has_point place t.spd)) _ _ tt tt))
+    (puts-if (table.is_spd_full t.spd) _ _ tt (puts-if (not (table.has_point place t.spd)) _ _ tt tt))
 puts-ask t (asks.GetSpdEntry name) p = shows-policy t (find (is_named name) t.spd)
 puts-ask t (asks.PutSpdEntry e) p = puts-if (table.has_policy e.name t.spd) _ _ tt (puts-if (table.is_spd_full t.spd) _ _ tt tt)
 puts-ask t (asks.DeleteSpdEntry name) p = puts-if (table.has_policy name t.spd) _ _ tt tt

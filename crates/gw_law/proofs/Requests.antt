@@ -43,7 +43,7 @@ pub change-left : (g : List ℕ) (s : GatewayState) (r : table.Outcome) (c : Cha
 change-left g s r changes.Nothing = record { kept = refl; naming = refl }
 change-left g s r changes.Spd =
     one-left g s (acts.Policy g r.tree.spd) (with_policy r.tree.spd s) (own (bytes_eq g g) (with_policy r.tree.spd s) (quiet s)
-        (same-refl g))
+    (same-refl g))
 change-left g s r (changes.Put e) =
     let z : GatewayState = with_put (s.halves ++ fresh s.clock e ∷ []) (wanted_after e s) s in
     one-left g s (acts.Put g e) z (own (bytes_eq g g) z (quiet s) (same-refl g))
@@ -61,7 +61,7 @@ fault-left g s t m a = handled-left g s t m a
 
 pub reply-left : (g : List ℕ) (s : GatewayState) (r : table.Outcome) (t m : ℕ) →
     Leaves g s (change_acts g r r.change ++ acts.Handled g t m (answer_of r) ∷ []) (kept_after r.tree.spd r.change (kept_of s))
-        (told.with_request (naming_of g s))
+    (told.with_request (naming_of g s))
 reply-left g s r t m =
     let z : GatewayState = did_all g s (change_acts g r r.change) in
     let last : List Act = acts.Handled g t m (answer_of r) ∷ [] in
@@ -95,13 +95,19 @@ same-top true n = refl
 same-top false n = refl
 
 abbrev row-made : SadEntry → ℕ → ℕ → SadRow
-row-made e time top = record { entry = e; state = record { current = record { time = time; bytes = 0; packets = 0; idle = time }; top =
-    top } }
+row-made e time top = record {
+  entry = e;
+  state = record {
+    current = record { time = time; bytes = 0; packets = 0; idle = time };
+    top =
+        top;
+  };
+}
 
 row-fresh : (now : ℕ) (e : SadEntry) → row_from now (fresh now e) ≡ table.new_row e
 row-fresh now e =
     ap (λ t. row-made e t (if is_inbound e.name then 0 else 0)) (no-time now)
-        ∙ ap (λ top. row-made e 0 top) (same-top (is_inbound e.name) 0)
+    ∙ ap (λ top. row-made e 0 top) (same-top (is_inbound e.name) 0)
 
 rows-end : (now : ℕ) (e : SadEntry) (xs : List Half) → map (row_from now) (xs ++ fresh now e ∷ []) ≡ map (row_from now) xs
     ++ table.new_row e ∷ []

@@ -64,7 +64,7 @@ installs-after law c h e l t p =
     let s : GatewayState = state_of c.name h in
     let block = block-is law c h e l t in
     all-after InstallsTunnel h (gw_block c h e) t
-        (subst (All InstallsTunnel) block.acts (step-installs c (naming_of c.name s) (kept_of s) e p))
+    (subst (All InstallsTunnel) block.acts (step-installs c (naming_of c.name s) (kept_of s) e p))
 
 -- what events do after a past
 pub record IsHistory (c : Gateway) (h : List Act) (es : List GatewayEvent) (run : Step) : Type 0 where
@@ -85,7 +85,7 @@ run-step c h e es k n block same-kept same-naming ih =
     let step : Step = step_of c (naming_of c.name (state_of c.name h)) (kept_of (state_of c.name h)) e in
     let ih' : IsHistory c later es (run_of c step.naming step.kept es) =
     subst (λ m. IsHistory c later es (run_of c m step.kept es)) same-naming (subst (λ z. IsHistory c later es (run_of c n z es)) same-kept
-        ih) in
+    ih) in
     let joined = after-append h (gw_block c h e) (gw_history c later es) in
     record {
       acts = ap (λ zs. zs ++ (run_of c step.naming step.kept es).acts) block.acts ∙ ap (λ zs. gw_block c h e ++ zs) ih'.acts;
@@ -101,7 +101,7 @@ run-is law c h (e ∷ es) l t p =
     let block = block-is law c h e l t in
     let ih = run-is law c later es (law.lawful c h e l) (installs-after law c h e l t p.0) p.1 in
     run-step c h e es (kept_of (state_of c.name later)) (naming_of c.name (state_of c.name later)) block (sym block.kept) (sym block.naming)
-        ih
+    ih
 
 pub past-on : Law → (c : Gateway) (h : List Act) (es : List GatewayEvent) → IsGatewayPast c h → All InstallsTunnel h → AreTunnelEvents es →
     IsGatewayPast c (after h (gw_history c h es)) × All InstallsTunnel (after h (gw_history c h es))
@@ -157,7 +157,7 @@ naming-restarted g h = ap (naming_of g) (state-after g h)
 pub run-restarted : Law → (c : Gateway) (h : List Act) (es : List GatewayEvent) → IsGatewayPast c h → All InstallsTunnel h
     → AreTunnelEvents es →
     IsHistory c (acts.Boot c.name ∷ h) es (run_of c (restarted (naming_of c.name (state_of c.name h))) (clock_read (clock h) booted).kept
-        es)
+    es)
 run-restarted law c h es l t p =
     let past : List Act = acts.Boot c.name ∷ h in
     subst (λ n. IsHistory c past es (run_of c n (clock_read (clock h) booted).kept es)) (naming-restarted c.name h)
@@ -173,14 +173,14 @@ LivesAfter c h lives = lives_of c (naming_of c.name (state_of c.name h)) (kept_o
 life-step : (c : Gateway) (h : List Act) (es : List GatewayEvent) (more : List (List GatewayEvent)) (run : Step) → IsHistory c h es run →
     LivesAfter c (acts.Boot c.name ∷ after h (gw_history c h es)) more →
     run.acts ++ acts.Boot c.name ∷ lives_of c (restarted run.naming) (clock_read run.kept.clock booted).kept more ≡ lives_after c h (es
-        ∷ more)
+    ∷ more)
 life-step c h es more run is ih =
     let mid : List Act = after h (gw_history c h es) in
     let past : List Act = acts.Boot c.name ∷ mid in
     let naming : restarted run.naming ≡ naming_of c.name (state_of c.name past) = ap restarted is.naming ∙ sym (naming-restarted c.name mid)
-        in
+    in
     let kept : (clock_read run.kept.clock booted).kept ≡ kept_of (state_of c.name past) =
-        ap (λ (k : Kept). (clock_read k.clock booted).kept) is.kept ∙ sym (kept-restarted c.name mid) in
+    ap (λ (k : Kept). (clock_read k.clock booted).kept) is.kept ∙ sym (kept-restarted c.name mid) in
     ap (λ xs. xs ++ acts.Boot c.name ∷ lives_of c (restarted run.naming) (clock_read run.kept.clock booted).kept more) is.acts
     ∙ ap (λ xs. gw_history c h es ++ acts.Boot c.name ∷ xs)
     (ap (λ n. lives_of c n (clock_read run.kept.clock booted).kept more) naming

@@ -37,7 +37,7 @@ force-sound : (g : List ℕ) (h : List Act) → All HasNoFault h → spd_fault (
 force-sound g [] l = none-of-none
 force-sound g (acts.Policy f list ∷ h) l =
     list-if (bytes_eq f g) list (force g h) (All-head HasNoFault (acts.Policy f list) h l)
-        (force-sound g h (All-tail HasNoFault (acts.Policy f list) h l))
+    (force-sound g h (All-tail HasNoFault (acts.Policy f list) h l))
 force-sound g (acts.Boot f ∷ h) l = list-if (bytes_eq f g) [] (force g h) none-of-none
     (force-sound g h (All-tail HasNoFault (acts.Boot f) h l))
 force-sound g (a ∷ h) l = force-sound g h (All-tail HasNoFault a h l)
@@ -67,7 +67,7 @@ sent-few c g x [] l = omega arith
 sent-few c g x (acts.Put f e ∷ h) l = few-put (is_half f e.name g x) (sent g x h) c.seq_last (sent-few c g x h l.1)
 sent-few c g x (acts.Sent f y n o ∷ h) l =
     few-sent (is_half f y g x) (sent g x h) c.seq_last (sent-few c g x h l.1)
-        (same-sent h f y g x c.seq_last (below (sent f y h) c.seq_last l.0.in_limit))
+    (same-sent h f y g x c.seq_last (below (sent f y h) c.seq_last l.0.in_limit))
 sent-few c g x (a ∷ h) l = sent-few c g x h l.1
 
 -- ---- halves

@@ -130,7 +130,7 @@ changed-names f keeps (y ∷ ys) (suc i) = ap (λ ns. y.entry.name ∷ ns) (chan
 
 ends-by : (name : List ℕ) (zs : List Half) (hard soft : Bool) →
     without_all (if hard then name ∷ [] else []) zs ≡ left_by name (if hard then events.Hard else if soft then events.Soft
-        else events.Nothing) zs
+    else events.Nothing) zs
 ends-by name zs true soft = refl
 ends-by name zs false true = refl
 ends-by name zs false false = refl
@@ -144,7 +144,7 @@ look-by g name ns false false = append-nil ns
 
 pub look-told : (g : List ℕ) (session now : ℕ) (y : Half) →
     look_of g session now (y ∷ []) ≡ ends_told g (gone_by y.entry.name (event_at now y.life))
-        ++ given_by g session (expiry y.entry.name (counts_of now y.life) (event_at now y.life))
+    ++ given_by g session (expiry y.entry.name (counts_of now y.life) (event_at now y.life))
 look-told g session now y =
     look-by g y.entry.name (given_by g session (expiry y.entry.name (counts_of now y.life) (event_at now y.life)))
     (is_reached y.life.hard (counts_of now y.life)) (is_reached y.life.soft (counts_of now y.life) && not y.life.is_told)
@@ -161,7 +161,7 @@ told-use g s t a i f x o at keeps did-it =
     let apart : are_names_apart (names_of used-halves) ≡ true = ap are_names_apart (changed-names f keeps s.halves i) ∙ o.apart in
     let looked = look-at-one g s.session i y s1 apart o.few_spis (changed-there f s.halves i x at) in
     let ends = ends-by y.entry.name (changed (look_at now) i used-halves) (is_reached y.life.hard (counts_of now y.life))
-        (is_reached y.life.soft (counts_of now y.life) && not y.life.is_told) in
+    (is_reached y.life.soft (counts_of now y.life) && not y.life.is_told) in
     let twice = changed-twice (look_at now) f s.halves i in
     record {
       acts = ap (λ zs. answer_told g a ∷ zs) (look-told g s.session now y);

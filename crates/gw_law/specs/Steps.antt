@@ -61,7 +61,7 @@ abbrev pub lives_of : Gateway → Naming → Kept → List (List GatewayEvent) �
 lives_of c n k [] = []
 lives_of c n k (es ∷ more) =
     (run_of c n k es).acts ++ acts.Boot n.name
-        ∷ lives_of c (restarted (run_of c n k es).naming) (clock_read (run_of c n k es).kept.clock booted).kept more
+    ∷ lives_of c (restarted (run_of c n k es).naming) (clock_read (run_of c n k es).kept.clock booted).kept more
 
 -- the same by the law of the gateway, over its past
 abbrev pub lives_after : Gateway → List Act → List (List GatewayEvent) → List Act

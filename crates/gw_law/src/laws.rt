@@ -30,7 +30,8 @@ use reply_table::changes_fit;
 /// So it is after every list of events.
 pub fn pasts_are_orderly()
     ensures lawful { (c : Gateway) (g : List ℕ) (h : List Act) → IsGatewayPast c h → All InstallsTunnel h → IsOrderly (state_of g h) }
-    ensures history { (c : Gateway) (events : List GatewayEvent) → AreTunnelEvents events → IsOrderly (state_of c.name (after [] (gw_history c [] events))) }
+    ensures history { (c : Gateway) (events : List GatewayEvent) → AreTunnelEvents events
+        → IsOrderly (state_of c.name (after [] (gw_history c [] events))) }
 {
     steps();
     blocks_follow();
@@ -42,7 +43,8 @@ pub fn pasts_are_orderly()
 /// What is kept of a past has no fault, where each act may follow those before it, and none puts a list or a half with a fault: no
 /// policy and no half has one, no half sent a number that doesn't fit its field, and nothing is more than there may be.
 pub fn pasts_have_no_fault()
-    ensures { (c : Gateway) (g : List ℕ) (h : List Act) → IsGatewayPast c h → c.seq_last < 4294967296 → All HasNoFault h → IsSound (kept_of (state_of g h)) }
+    ensures { (c : Gateway) (g : List ℕ) (h : List Act) → IsGatewayPast c h → c.seq_last < 4294967296 → All HasNoFault h
+        → IsSound (kept_of (state_of g h)) }
 {}
 
 /// A packet from inside, a datagram from outside and a reading of the clock: behind the event's own act the acts told are those of the
@@ -103,12 +105,15 @@ pub fn events_follow()
 
 /// Whatever events come to a gateway, one after another, its acts are its history: from its start, and from any lawful past.
 pub fn runs_follow()
-    ensures begun { (c : Gateway) (events : List GatewayEvent) → AreTunnelEvents events → (run_of c (begun c.name) booted events).acts ≡ gw_history c [] events }
+    ensures begun { (c : Gateway) (events : List GatewayEvent) → AreTunnelEvents events
+        → (run_of c (begun c.name) booted events).acts ≡ gw_history c [] events }
     ensures begun_kept { (c : Gateway) (events : List GatewayEvent) → AreTunnelEvents events →
         (run_of c (begun c.name) booted events).kept ≡ kept_of (state_of c.name (after [] (gw_history c [] events))) }
-    ensures past { (c : Gateway) (h : List Act) (events : List GatewayEvent) → IsGatewayPast c h → All InstallsTunnel h → AreTunnelEvents events →
+    ensures past { (c : Gateway) (h : List Act) (events : List GatewayEvent) → IsGatewayPast c h → All InstallsTunnel h
+        → AreTunnelEvents events →
         (run_of c (naming_of c.name (state_of c.name h)) (kept_of (state_of c.name h)) events).acts ≡ gw_history c h events }
-    ensures past_kept { (c : Gateway) (h : List Act) (events : List GatewayEvent) → IsGatewayPast c h → All InstallsTunnel h → AreTunnelEvents events →
+    ensures past_kept { (c : Gateway) (h : List Act) (events : List GatewayEvent) → IsGatewayPast c h → All InstallsTunnel h
+        → AreTunnelEvents events →
         (run_of c (naming_of c.name (state_of c.name h)) (kept_of (state_of c.name h)) events).kept ≡ kept_of (state_of c.name (after h (gw_history c h events))) }
 {
     steps();
@@ -124,9 +129,11 @@ pub fn restarts_follow()
     ensures told { (n : Naming) (t : ℕ) → acts_told n (clock_read t booted).done ≡ [] }
     ensures kept { (g : List ℕ) (h : List Act) → (clock_read (clock h) booted).kept ≡ kept_of (state_of g (acts.Boot g ∷ h)) }
     ensures naming { (g : List ℕ) (h : List Act) → restarted (naming_of g (state_of g h)) ≡ naming_of g (state_of g (acts.Boot g ∷ h)) }
-    ensures run { (c : Gateway) (h : List Act) (events : List GatewayEvent) → IsGatewayPast c h → All InstallsTunnel h → AreTunnelEvents events →
+    ensures run { (c : Gateway) (h : List Act) (events : List GatewayEvent) → IsGatewayPast c h → All InstallsTunnel h
+        → AreTunnelEvents events →
         (run_of c (restarted (naming_of c.name (state_of c.name h))) (clock_read (clock h) booted).kept events).acts ≡ gw_history c (acts.Boot c.name ∷ h) events }
-    ensures lives { (c : Gateway) (lives : List (List GatewayEvent)) → AreTunnelLives lives → lives_of c (begun c.name) booted lives ≡ lives_after c [] lives }
+    ensures lives { (c : Gateway) (lives : List (List GatewayEvent)) → AreTunnelLives lives
+        → lives_of c (begun c.name) booted lives ≡ lives_after c [] lives }
 {
     steps();
     blocks_follow();
@@ -138,8 +145,10 @@ pub fn restarts_follow()
 /// Whatever events come to a gateway and however often it restarts, it lets out and in in clear only what a bypass entry in force lets,
 /// sends no number twice under one installation, and gives none that it took before.
 pub fn is_every_run_safe()
-    ensures lives { (c : Gateway) (lives : List (List GatewayEvent)) → AreTunnelLives lives → IsGatewaySafe (after [] (lives_of c (begun c.name) booted lives)) }
-    ensures past { (c : Gateway) (h : List Act) (events : List GatewayEvent) → IsGatewayPast c h → All InstallsTunnel h → AreTunnelEvents events →
+    ensures lives { (c : Gateway) (lives : List (List GatewayEvent)) → AreTunnelLives lives
+        → IsGatewaySafe (after [] (lives_of c (begun c.name) booted lives)) }
+    ensures past { (c : Gateway) (h : List Act) (events : List GatewayEvent) → IsGatewayPast c h → All InstallsTunnel h
+        → AreTunnelEvents events →
         IsGatewaySafe (after h (run_of c (naming_of c.name (state_of c.name h)) (kept_of (state_of c.name h)) events).acts) }
 {
     steps();

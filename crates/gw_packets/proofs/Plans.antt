@@ -31,12 +31,12 @@ told-next now [] (suc i) x e = cc
 told-next now (y ∷ ys) zero x e =
     let same : y ≡ x = cc in
     ap (λ z. expiry z.entry.name (counts_of now z.life) (event_at now z.life)) (sym same)
-        ∙ sym (append-nil (expiry y.entry.name (counts_of now y.life) (event_at now y.life)))
+    ∙ sym (append-nil (expiry y.entry.name (counts_of now y.life) (event_at now y.life)))
 told-next now (y ∷ ys) (suc i) x e =
     let next : suc i + 1 ≡ suc (i + 1) = omega arith in
     let own : List Notice = expiry y.entry.name (counts_of now y.life) (event_at now y.life) in
     rw next (append_assoc own (expiries now (take i ys)) (expiry x.entry.name (counts_of now x.life) (event_at now x.life))
-        ∙ ap (λ ns. own ++ ns) (told-next now ys i x e))
+    ∙ ap (λ ns. own ++ ns) (told-next now ys i x e))
 
 -- one half more is gone, if it reaches a hard limit
 gone-is : (b c : Bool) (name : List ℕ) → gone_by name (if b then events.Hard else if c then events.Soft else events.Nothing) ≡
@@ -49,7 +49,7 @@ gone-first : (now : ℕ) (x : Half) (rest : List (List ℕ)) → gone_by x.entry
     ++ rest ≡ (if is_reached x.life.hard (counts_of now x.life) then x.entry.name ∷ rest else rest)
 gone-first now x rest =
     ap (λ ns. ns ++ rest) (gone-is (is_reached x.life.hard (counts_of now x.life)) (is_reached x.life.soft (counts_of now x.life)
-        && not x.life.is_told) x.entry.name)
+    && not x.life.is_told) x.entry.name)
     ∙ by (is_reached x.life.hard (counts_of now x.life)) x.entry.name rest
   where
     by : (b : Bool) (name : List ℕ) (rest : List (List ℕ)) → (if b then name ∷ [] else []) ++ rest ≡ (if b then name ∷ rest else rest)
@@ -63,7 +63,7 @@ reached-next now [] (suc i) x e = cc
 reached-next now (y ∷ ys) zero x e =
     let same : y ≡ x = cc in
     ap (λ z. gone_by z.entry.name (event_at now z.life)) (sym same) ∙ (sym (append-nil (gone_by y.entry.name (event_at now y.life)))
-        ∙ gone-first now y [])
+    ∙ gone-first now y [])
 reached-next now (y ∷ ys) (suc i) x e =
     let next : suc i + 1 ≡ suc (i + 1) = omega arith in
     let own : List (List ℕ) = gone_by y.entry.name (event_at now y.life) in
@@ -76,7 +76,7 @@ reached-next now (y ∷ ys) (suc i) x e =
 
 taken-packet : (b : List ℕ) (i : ℕ) (x : Half) (n : ℕ) (p : Option InnerPacket) (k : Kept) →
     used (answer_by_packet x.entry n p) i (take_number k.clock (length b) n) (take_number k.clock (length b) n x) k ≡ taken_by b i x n
-        (answer_by x.entry n (unsealed_by_packet p)) k
+    (answer_by x.entry n (unsealed_by_packet p)) k
 taken-packet b i x n None k = refl
 taken-packet b i x n (Some p) k = refl
 

@@ -36,7 +36,7 @@ spent i x k =
 abbrev pub sent_under : List ℕ → Packet → ℕ → Half → Kept → Outcome
 sent_under o v i x k =
     used (answers.Sent x.entry.name (x.sent + 1) (datagram x.entry (x.sent + 1) v o)) i (send k.clock (esp_len (length o)))
-        (send k.clock (esp_len (length o)) x) k
+    (send k.clock (esp_len (length o)) x) k
 
 -- the half x at place i seals the packet unless it has sent its last number
 abbrev pub sealed_under : ℕ → List ℕ → Packet → ℕ → Half → Kept → Outcome

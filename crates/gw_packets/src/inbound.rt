@@ -101,7 +101,8 @@ fn take(
     answer: PacketAnswer,
 ) -> Result<Plan, NoMemory>
     requires { judged x.now.window number ≡ Fresh }
-    ensures plan { IfOk result (λ q. (k : Kept) → clock ≡ k.clock → planned q k ≡ used answer i (take_number k.clock size number) (take_number k.clock size number x.now) k) }
+    ensures plan { IfOk result (λ q. (k : Kept) → clock ≡ k.clock → planned q k ≡ used answer i (take_number k.clock size number)
+        (take_number k.clock size number x.now) k) }
     ensures fits { IfOk result (λ q. (k : Kept) → i < length k.halves → slice_get k.halves i ≡ Some x.now → Fits q.change k) }
 {
     let octets = size as u64;
@@ -130,7 +131,8 @@ fn open_fresh(
     requires sound { sad_fault x.now.entry ≡ None }
     requires least { 34 ≤ length octets.now }
     requires most { length octets.now ≤ 65535 }
-    ensures plan { IfOk result (λ q. (k : Kept) → clock ≡ k.clock → planned q k ≡ opened_by_text octets.now i x.now number (opened (keying x.now.entry.spi x.now.entry.key) octets.now) k) }
+    ensures plan { IfOk result (λ q. (k : Kept) → clock ≡ k.clock → planned q k ≡ opened_by_text octets.now i x.now number
+        (opened (keying x.now.entry.spi x.now.entry.key) octets.now) k) }
     ensures fits { IfOk result (λ q. (k : Kept) → i < length k.halves → slice_get k.halves i ≡ Some x.now → Fits q.change k) }
 {
     let u = open_copy(alloc, &key_of(&x.entry), octets, number)?;
@@ -152,7 +154,8 @@ fn judge(
     requires sound { sad_fault x.now.entry ≡ None }
     requires least { 34 ≤ length octets.now }
     requires most { length octets.now ≤ 65535 }
-    ensures plan { IfOk result (λ q. (k : Kept) → clock ≡ k.clock → planned q k ≡ opened_by_verdict octets.now i x.now number (judged x.now.window number) k) }
+    ensures plan { IfOk result (λ q. (k : Kept) → clock ≡ k.clock → planned q k ≡ opened_by_verdict octets.now i x.now number
+        (judged x.now.window number) k) }
     ensures fits { IfOk result (λ q. (k : Kept) → i < length k.halves → slice_get k.halves i ≡ Some x.now → Fits q.change k) }
 {
     match x.window.judge(number) {
@@ -210,7 +213,8 @@ fn open_for(
     requires seq { seq ≡ seq_of octets.now }
     requires least { 34 ≤ length octets.now }
     requires most { length octets.now ≤ 65535 }
-    ensures plan { IfOk result (λ q. planned q tables.now ≡ opened_by_place octets.now (position (is_half_of_spi spi) tables.now.halves) tables.now) }
+    ensures plan { IfOk result (λ q. planned q tables.now ≡ opened_by_place octets.now (position (is_half_of_spi spi) tables.now.halves)
+        tables.now) }
     ensures fits { IfOk result (λ q. Fits q.change tables.now) }
 {
     match tables.by_spi(spi) {

@@ -31,7 +31,11 @@ pub(crate) fn tell(
     n: Notice,
     change: TableChange,
 ) -> Result<Plan, NoMemory>
-    ensures { IfOk result (λ p. p ≡ record { done = record { answer = Some (answers.Drop why); gone = []; notices = n ∷ [] }; change = change }) }
+    ensures { IfOk result (λ p. p ≡ record {
+      done = record { answer = Some (answers.Drop why); gone = []; notices = n ∷ [] };
+      change =
+          change;
+    }) }
 {
     Ok(Plan {
         done: Done {
@@ -102,7 +106,12 @@ pub(crate) fn tell_use(
     counts: Limits,
     event: LifeEvent,
 ) -> Result<Done, NoMemory>
-    ensures { IfOk result (λ d. d ≡ record { answer = Some answer; gone = gone_by name.now event; notices = expiry name.now counts event }) }
+    ensures { IfOk result (λ d. d ≡ record {
+      answer = Some answer;
+      gone = gone_by name.now event;
+      notices =
+          expiry name.now counts event;
+    }) }
 {
     let mut gone = Names::new(alloc);
     add_gone(&mut gone, name, event)?;

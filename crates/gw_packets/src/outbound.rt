@@ -103,7 +103,8 @@ fn seal_at(
     requires most { seq_last ≤ 4294967295 }
     requires packet { length octets.now ≤ 65000 }
     requires within { i < length tables.now.halves }
-    ensures plan { IfOk result (λ q. (p : SpdEntry) → planned q tables.now ≡ sealed_at seq_last octets.now (seen v.now) p i (slice_get tables.now.halves i) tables.now) }
+    ensures plan { IfOk result (λ q. (p : SpdEntry) → planned q tables.now ≡ sealed_at seq_last octets.now (seen v.now) p i
+        (slice_get tables.now.halves i) tables.now) }
     ensures fits { IfOk result (λ q. Fits q.change tables.now) }
 {
     let x = tables.half(i);
@@ -125,7 +126,8 @@ fn protect(
 ) -> Result<Plan, NoMemory>
     requires most { seq_last ≤ 4294967295 }
     requires packet { length octets.now ≤ 65000 }
-    ensures plan { IfOk result (λ q. planned q tables.now ≡ protected_by seq_last octets.now (seen v.now) p.now (newest_place p.now.reqid (seen v.now) tables.now.halves) tables.now) }
+    ensures plan { IfOk result (λ q. planned q tables.now ≡ protected_by seq_last octets.now (seen v.now) p.now
+        (newest_place p.now.reqid (seen v.now) tables.now.halves) tables.now) }
     ensures fits { IfOk result (λ q. Fits q.change tables.now) }
 {
     match tables.pick_out(p.reqid, v) {

@@ -92,6 +92,6 @@ by-change k r (changes.Gone name) fits makes sound = tt
 pub may-change : ((t : Tree) (a : Ask) → table.Fits t (table.reply t a).change)
     → ((t : Tree) (a : Ask) → table.Makes t (table.reply t a) (table.reply t a).change) →
     (k : Kept) (a : Ask) → IsTree (table.reply (tree_of k) a).tree
-        → MayChange (table.reply (tree_of k) a).tree.spd (table.reply (tree_of k) a).change k
+    → MayChange (table.reply (tree_of k) a).tree.spd (table.reply (tree_of k) a).change k
 may-change fit make k a sound = by-change k (table.reply (tree_of k) a) (table.reply (tree_of k) a).change (fit (tree_of k) a)
     (make (tree_of k) a) sound

@@ -123,8 +123,11 @@ pub sound-told : {k : Kept} → (i : ℕ) (ys : List Half) → ys ≡ changed (w
     → IsSound (with_halves ys k)
 sound-told {k} i ys is sound =
     sound-by ys (ap entries_of is ∙ changed-entries (with_overflow true) (λ x. refl) i k.halves)
-    (subst AreHalves (sym is) (halves-changed (with_overflow true) i k.halves (λ x at one. record { entry = one.entry; window = one.window;
-        sent = one.sent }) sound.halves)) sound
+    (subst AreHalves (sym is) (halves-changed (with_overflow true) i k.halves (λ x at one. record {
+      entry = one.entry;
+      window = one.window;
+      sent = one.sent;
+    }) sound.halves)) sound
 
 pub sound-sent : {k : Kept} → (now size i : ℕ) (ys : List Half) → ys ≡ changed (λ y. look_at now (send now size y)) i k.halves →
     option_map (λ x. nat_lt x.sent 4294967295) (slice_get k.halves i) ≡ Some true → IsSound k → IsSound (with_halves ys k)
@@ -132,8 +135,12 @@ sound-sent {k} now size i ys is last sound =
     let f : Half → Half = λ y. look_at now (send now size y) in
     sound-by ys (ap entries_of is ∙ changed-entries f (λ x. refl) i k.halves)
     (subst AreHalves (sym is)
-        (halves-changed f i k.halves (λ x at one. record { entry = one.entry; window = one.window; sent =
-        below x (ap (option_map (λ x. nat_lt x.sent 4294967295)) (sym at) ∙ last) }) sound.halves)) sound
+    (halves-changed f i k.halves (λ x at one. record {
+      entry = one.entry;
+      window = one.window;
+      sent =
+          below x (ap (option_map (λ x. nat_lt x.sent 4294967295)) (sym at) ∙ last);
+    }) sound.halves)) sound
   where
     below : (x : Half) → Some (nat_lt x.sent 4294967295) ≡ Some true → x.sent + 1 < 4294967296
     below x e = let f : nat_lt x.sent 4294967295 ≡ true = cc in grind (arith, nat_tests)
@@ -144,19 +151,19 @@ sound-taken {k} now size n i ys is sound =
     let f : Half → Half = λ y. look_at now (take_number now size n y) in
     sound-by ys (ap entries_of is ∙ changed-entries f (λ x. refl) i k.halves)
     (subst AreHalves (sym is) (halves-changed f i k.halves (λ x at one. record { entry = one.entry; window = one.window; sent = one.sent })
-        sound.halves)) sound
+    sound.halves)) sound
 
 pub sound-looked : {k : Kept} → (now : ℕ) (ys : List Half) → ys ≡ map (look_at now) k.halves → IsSound k → IsSound (with_halves ys k)
 sound-looked {k} now ys is sound =
     sound-by ys (ap entries_of is ∙ mapped-entries (look_at now) (λ x. refl) k.halves)
     (subst AreHalves (sym is) (halves-mapped (look_at now) (λ x one. record { entry = one.entry; window = one.window; sent = one.sent })
-        k.halves sound.halves)) sound
+    k.halves sound.halves)) sound
 
 pub sound-hushed : {k : Kept} → (ys : List Half) → ys ≡ map hushed k.halves → IsSound k → IsSound (with_halves ys k)
 sound-hushed {k} ys is sound =
     sound-by ys (ap entries_of is ∙ mapped-entries hushed (λ x. refl) k.halves)
     (subst AreHalves (sym is) (halves-mapped hushed (λ x one. record { entry = one.entry; window = one.window; sent = one.sent }) k.halves
-        sound.halves)) sound
+    sound.halves)) sound
 
 pub sound-removed : {k : Kept} → (name : List ℕ) (ys : List Half) → ys ≡ halves_without name k.halves → IsSound k
     → IsSound (with_halves ys k)
@@ -195,12 +202,23 @@ sound-installed {k} now e ys is sane free sound =
 
 -- what no fact is about may change
 pub sound-else : {k : Kept} → (acquires : List (List ℕ)) (clock : ℕ) → IsSound k → IsSound (record k { acquires = acquires; clock = clock })
-sound-else acquires clock sound = record { policies = sound.policies; halves = sound.halves; apart = sound.apart; few = sound.few;
-    bad_spis = sound.bad_spis }
+sound-else acquires clock sound = record {
+  policies = sound.policies;
+  halves = sound.halves;
+  apart = sound.apart;
+  few = sound.few;
+  bad_spis = sound.bad_spis;
+}
 
 pub sound-spis : {k : Kept} → (spis : List ℕ) → spis ≡ [] → IsSound k → IsSound (record k { bad_spis = spis })
-sound-spis spis none sound = record { policies = sound.policies; halves = sound.halves; apart = sound.apart; few = sound.few; bad_spis =
-    subst (λ (xs : List ℕ). length xs ≤ 64) (sym none) (omega arith) }
+sound-spis spis none sound = record {
+  policies = sound.policies;
+  halves = sound.halves;
+  apart = sound.apart;
+  few = sound.few;
+  bad_spis =
+      subst (λ (xs : List ℕ). length xs ≤ 64) (sym none) (omega arith);
+}
 
 no-policies : spd_fault [] ≡ None
 unfolding spd_fault

@@ -45,7 +45,7 @@ blocks-take shows header p (suc n) (e ∷ es) =
     let q : Past = past_after shows header p e in
     ap (λ (z : List (List Act)). block shows header p e ∷ z)
     (take-unless (is_forged_event header p e) n (blocks shows header q (take n es)) (blocks shows header q es)
-        (blocks-take shows header q n es))
+    (blocks-take shows header q n es))
 
 -- ---- no forged arrival
 
@@ -133,11 +133,11 @@ events-alone shows header p e f = absurd (no f)
 alone-block : (shows : Shows) (header : Header) (p : Past) (e : Event) (more : List Act) → is_forged_event header p e ≡ true
     → (g : List ℕ) × (o : List ℕ) × (block shows header p e ≡ acts.Took (events_taken p.world + 1) ∷ acts.Arrived g o ∷ [])
     × (block shows header p e ++ unless_forged (is_forged_event header p e) more ≡ acts.Took (events_taken p.world + 1) ∷ acts.Arrived g o
-        ∷ [])
+    ∷ [])
 alone-block shows header p e more f =
     let r = events-alone shows header p e f in
     let b : block shows header p e ≡ acts.Took (events_taken p.world + 1) ∷ acts.Arrived r.0 r.1 ∷ [] =
-        ap (λ (z : List Act). acts.Took (events_taken p.world + 1) ∷ z) r.2 in
+    ap (λ (z : List Act). acts.Took (events_taken p.world + 1) ∷ z) r.2 in
     (r.0, r.1, b, ap (λ c. block shows header p e ++ unless_forged c more) f ∙ append-nil (block shows header p e) ∙ b)
 
 later-number : (b : Bool) (o : Option ℕ) (k : ℕ) → b ≡ false → number_by b o ≡ Some k → (n : ℕ) × (o ≡ Some n) × (k ≡ n + 1)
@@ -193,12 +193,12 @@ first-ends shows header p x k es f one =
 
 ends-by : (shows : Shows) (header : Header) (p : Past) (x : Event) (k : ℕ) (es : List Event) (b : Bool) → is_forged_event header p x ≡ b
     → ((n : ℕ) → first_forged shows header (past_after shows header p x) es ≡ Some n → EndsForged shows header (past_after shows header p x)
-        n es)
+    n es)
     → number_by (is_forged_event header p x) (first_forged shows header (past_after shows header p x) es) ≡ Some k
-        → EndsForged shows header p k (x ∷ es)
+    → EndsForged shows header p k (x ∷ es)
 ends-by shows header p x k es true f ih e =
     first-ends shows header p x k es f
-        (first-number (is_forged_event header p x) (first_forged shows header (past_after shows header p x) es) k f e)
+    (first-number (is_forged_event header p x) (first_forged shows header (past_after shows header p x) es) k f e)
 ends-by shows header p x k es false f ih e =
     let n = later-number (is_forged_event header p x) (first_forged shows header (past_after shows header p x) es) k f e in
     later-ends shows header p x k n.0 es f n.2 (ih n.0 n.1)
@@ -213,7 +213,7 @@ ends-forged shows header p k (x ∷ es) e =
 over-by : (shows : Shows) (header : Header) (p : Past) (x : Event) (k : ℕ) (es more : List Event) (b : Bool)
     → is_forged_event header p x ≡ b
     → ((n : ℕ) → first_forged shows header (past_after shows header p x) es ≡ Some n → history shows header (past_after shows header p x)
-        (es ++ more) ≡ history shows header (past_after shows header p x) es)
+    (es ++ more) ≡ history shows header (past_after shows header p x) es)
     → number_by (is_forged_event header p x) (first_forged shows header (past_after shows header p x) es) ≡ Some k
     → history shows header p (x ∷ es ++ more) ≡ history shows header p (x ∷ es)
 over-by shows header p x k es more true f ih e =
@@ -229,4 +229,4 @@ pub history-over : (shows : Shows) (header : Header) (p : Past) (k : ℕ) (es mo
 history-over shows header p k [] more e = absurd (let bad : ⊥ = cc in bad)
 history-over shows header p k (x ∷ es) more e =
     over-by shows header p x k es more (is_forged_event header p x) refl (λ n. history-over shows header (past_after shows header p x) n es
-        more) e
+    more) e

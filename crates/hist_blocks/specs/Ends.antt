@@ -28,4 +28,4 @@ pub record EndsForged (shows : Shows) (header : Header) (p : Past) (k : ℕ) (es
       ≡ acts.Took (events_taken (past_at shows header p before).world + 1) ∷ acts.Arrived gateway octets ∷ []
   pub history : history shows header p es
       ≡ history shows header p before ++ acts.Took (events_taken (past_at shows header p before).world + 1) ∷ acts.Arrived gateway octets
-          ∷ []
+      ∷ []

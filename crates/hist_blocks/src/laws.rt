@@ -9,15 +9,18 @@ ghost use Rattle.hist_blocks.specs.Ends.{EndsForged};
 
 /// A history is the blocks of its events, one after the other. Fewer events have the first of these blocks.
 pub fn is_made_of_blocks()
-    ensures blocks { (shows : Shows) (header : Header) (p : Past) (es : List Event) → history shows header p es ≡ joined (blocks shows header p es) }
+    ensures blocks { (shows : Shows) (header : Header) (p : Past) (es : List Event)
+        → history shows header p es ≡ joined (blocks shows header p es) }
     ensures front { (shows : Shows) (header : Header) (p : Past) (n : ℕ) (es : List Event)
         → blocks shows header p (take n es) ≡ take n (blocks shows header p es) }
 {}
 
 /// Where no event is forged each has one block, and the history of more events goes on with their blocks.
 pub fn goes_on_event_by_event()
-    ensures genuine { (shows : Shows) (header : Header) (p : Past) (es : List Event) → first_forged shows header p es ≡ None → AreGenuine shows header p es }
-    ensures none { (shows : Shows) (header : Header) (p : Past) (es : List Event) → AreGenuine shows header p es → first_forged shows header p es ≡ None }
+    ensures genuine { (shows : Shows) (header : Header) (p : Past) (es : List Event) → first_forged shows header p es ≡ None
+        → AreGenuine shows header p es }
+    ensures none { (shows : Shows) (header : Header) (p : Past) (es : List Event) → AreGenuine shows header p es
+        → first_forged shows header p es ≡ None }
     ensures count { (shows : Shows) (header : Header) (p : Past) (es : List Event) → AreGenuine shows header p es
         → length (blocks shows header p es) ≡ length es }
     ensures one { (shows : Shows) (header : Header) (p : Past) (e : Event) → history shows header p (e ∷ []) ≡ block shows header p e }

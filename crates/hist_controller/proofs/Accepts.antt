@@ -153,11 +153,11 @@ placed-new : (p n : ℕ) (h : List ControllerAct) (c : PlacedCommand) (d : Way) 
 placed-new p n h (SetPolicy g l) d e i = absurd i
 placed-new p n h (Tunnel t) d e (inl i) =
     let q = tunnel-passes (nat_lt t.first p) (nat_lt t.second p) (t.first == t.second) (has_tunnel t.spec.reqid h)
-        (nat_le 1024 (tunnels h (directions h))) e in
+    (nat_le 1024 (tunnels h (directions h))) e in
     rw i (record { sender = ltb-true t.first p q.0; receiver = ltb-true t.second p q.1; apart = q.2 })
 placed-new p n h (Tunnel t) d e (inr (inl i)) =
     let q = tunnel-passes (nat_lt t.first p) (nat_lt t.second p) (t.first == t.second) (has_tunnel t.spec.reqid h)
-        (nat_le 1024 (tunnels h (directions h))) e in
+    (nat_le 1024 (tunnels h (directions h))) e in
     rw i (record { sender = ltb-true t.second p q.1; receiver = ltb-true t.first p q.0; apart = turned t.first t.second q.2 })
 placed-new p n h (Tunnel t) d e (inr (inr i)) = absurd i
 placed-new p n h (End r) d e i = absurd i

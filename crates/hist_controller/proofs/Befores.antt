@@ -52,7 +52,7 @@ gone-remove p h l k g q m d x i true e w =
     let s : x.serial ≡ q = grind arith in
     let t = one p h l d m.way x m.association i m.left (s ∙ m.name) in
     rw t (first-of-4 (is_ended m.association h) (not (is_out_ordered m.association.serial h)
-        || has_answer RemovingOut m.association.serial h) (is_read m.way.receiver h) m.may)
+    || has_answer RemovingOut m.association.serial h) (is_read m.way.receiver h) m.may)
 gone-remove p h l k g q m d x i false e w = k.gone d x i w
 
 gone-put : (p : ℕ) (h : List ControllerAct) → IsControllerPast p h → Marked h → (z : Association) → z.serial ≡ serials h + 1
@@ -97,9 +97,12 @@ marked p (Opened g s ∷ h) l = let k = marked p h l.1 in record { new = k.new; 
 marked p (Cut g s ∷ h) l = let k = marked p h l.1 in record { new = k.new; gone = λ d x i w. or-right _ _ (k.gone d x i w) }
 marked p (Answered g s n a ∷ h) l =
     let k = marked p h l.1 in
-    record { new = k.new; gone =
-        λ d x i w. or-right _ _ (k.gone d x (has-filter (λ y. not (is_answer_to RemovingIn y.serial (oldest (queue g h)))) x (left d h) i)
-        w) }
+    record {
+      new = k.new;
+      gone =
+          λ d x i w. or-right _ _ (k.gone d x (has-filter (λ y. not (is_answer_to RemovingIn y.serial (oldest (queue g h)))) x (left d h) i)
+          w);
+    }
 marked p (Heard g s t ∷ h) l = let k = marked p h l.1 in record { new = k.new; gone = k.gone }
 marked p (Ordered g s n o ∷ h) l = marked-order p h g s n o l.1 l.0.3 (marked p h l.1)
 marked p (Accepted c ∷ h) l = let k = marked p h l.1 in
@@ -192,16 +195,30 @@ homes p (Cut f s ∷ h) l g y i = let k = homes p h l.1 g y (has-none (g == f) (
     record { way = k.way; of = k.of; own = k.own; at = k.at; low = k.low; alone = k.alone }
 homes p (Answered f s n a ∷ h) l g y i =
     let k = homes p h l.1 g y (has-rest (g == f) (queue g h) (PutOut y) i) in
-    record { way = k.way; of = k.of; own = k.own; at = k.at; low = k.low; alone =
-        λ d x j e. k.alone d x (has-filter (λ z. not (is_answer_to RemovingIn z.serial (oldest (queue f h)))) x (left d h) j) e }
+    record {
+      way = k.way;
+      of = k.of;
+      own = k.own;
+      at = k.at;
+      low = k.low;
+      alone =
+          λ d x j e. k.alone d x (has-filter (λ z. not (is_answer_to RemovingIn z.serial (oldest (queue f h)))) x (left d h) j) e;
+    }
 homes p (Heard f s t ∷ h) l g y i = let k = homes p h l.1 g y i in
     record { way = k.way; of = k.of; own = k.own; at = k.at; low = k.low; alone = k.alone }
 homes p (Ordered f s n o ∷ h) l g y i = homes-order p h f s n o l.1 l.0.3 (homes p h l.1) g y
     (has-queue (g == f) (queue g h) o (PutOut y) i)
 homes p (Accepted c ∷ h) l g y i =
     let k = homes p h l.1 g y i in
-    record { way = k.way; of = has-left k.way (directions h) _ k.of; own = k.own; at = k.at; low = k.low; alone =
-        λ d x j e. k.alone d x (has-if x _ (left d h) j).1 e }
+    record {
+      way = k.way;
+      of = has-left k.way (directions h) _ k.of;
+      own = k.own;
+      at = k.at;
+      low = k.low;
+      alone =
+          λ d x j e. k.alone d x (has-if x _ (left d h) j).1 e;
+    }
 homes p (Refused w ∷ h) l g y i = let k = homes p h l.1 g y i in
     record { way = k.way; of = k.of; own = k.own; at = k.at; low = k.low; alone = k.alone }
 
@@ -242,7 +259,7 @@ no-put p h f n l m g = no-put-in (queue g h) n (λ y j. is-not (n == y.serial) (
     let c : k.way ≡ m.way = one-way h k.way m.way k.of m.of (grind arith) in
     let v : g ≡ m.way.sender = k.at ∙ ap (λ (z : Way). z.sender) c in
     let w = neither (list_any (is_own m.way (left m.way h)) (queue m.way.sender h))
-        (list_any (is_own m.way (left m.way h)) (queue m.way.receiver h)) m.free in
+    (list_any (is_own m.way (left m.way h)) (queue m.way.receiver h)) m.free in
     any-yes (is_own m.way (left m.way h)) (queue m.way.sender h) (PutOut y) (subst (λ z. Has (PutOut y) (queue z h)) v j) a' w.0))
 
 -- ## each order
@@ -297,7 +314,7 @@ before p h g (PutOut x) l m =
     let k = once p x.serial h l in
     let w = marked p h l in
     let e = not-ended (is_ended x h) (not (has_answer PuttingOut x.serial h)) (not (is_out_ordered x.serial h))
-        (has_answer PuttingIn x.serial h) (is_read m.way.sender h) (is_read m.way.receiver h) m.may in (
+    (has_answer PuttingIn x.serial h) (is_read m.way.sender h) (is_read m.way.receiver h) m.may in (
       third-of-5 (is_in_progress h x) (not (is_out_ordered x.serial h)) (has_answer PuttingIn x.serial h) (is_read m.way.sender h)
           (is_read m.way.receiver h) m.may,
       none-given PuttingOut x.serial h
@@ -316,9 +333,9 @@ before p h g (RemoveOut n) l m = (
 before p h g (RemoveIn n) l m =
     let k = once p m.association.serial h l in
     elim (split-or (is_out_ordered m.association.serial h) (has_answer RemovingOut m.association.serial h)
-        (second-of-3 (is_ended m.association h) (not (is_out_ordered m.association.serial h)
-        || has_answer RemovingOut m.association.serial h) (is_read m.way.receiver h) m.may)) as (λ q. (was_ordered PuttingOut n h ≡ false)
-        ⊎ (has_answer RemovingOut n h ≡ true)) [
+    (second-of-3 (is_ended m.association h) (not (is_out_ordered m.association.serial h)
+    || has_answer RemovingOut m.association.serial h) (is_read m.way.receiver h) m.may)) as (λ q. (was_ordered PuttingOut n h ≡ false)
+    ⊎ (has_answer RemovingOut n h ≡ true)) [
       | inl e ↦ inl (rw m.name (none-given PuttingOut m.association.serial h (k.sent_out e)))
       | inr e ↦ inr (rw m.name e)
     ]

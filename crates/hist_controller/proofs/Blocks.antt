@@ -79,10 +79,10 @@ same-out-remove h d None =
 pub same-give : (h : List ControllerAct) (d : Way) → give_of (state_of h) (way_of h d) ≡ give h d
 same-give h d =
     ap (λ b. if b then [] else out_remove_of (state_of h) (way_of h d) (first_of (may_out_remove_of (state_of h) (way_of h d))
-        (map (association_of h) (left d h)))) (same-busy h d)
+    (map (association_of h) (left d h)))) (same-busy h d)
     ∙ ap (λ t. if is_busy d h then [] else t)
     (ap (out_remove_of (state_of h) (way_of h d)) (first-via (association_of h) (may_out_remove_of (state_of h) (way_of h d)) (left d h))
-        ∙ same-out-remove h d (first (may_out_remove h d) (left d h)))
+    ∙ same-out-remove h d (first (may_out_remove h d) (left d h)))
 
 -- ## the pass
 
@@ -125,7 +125,7 @@ same-asked-then : (h os : List ControllerAct) → asked_then_of (state_of h) os 
 same-asked-then h os =
     ap (λ s. os ++ pass_of s 0 s.ways) (keeps_all h os)
     ∙ ap (λ t. os ++ t) (same-pass (way_of (after h os)) (after h os) 0 (directions (after h os))
-        (at-rest [] 0 (directions (after h os)) refl))
+    (at-rest [] 0 (directions (after h os)) refl))
 
 -- ## the orders that belong to no direction
 

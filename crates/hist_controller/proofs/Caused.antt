@@ -89,7 +89,7 @@ few-order d h g s i (Policy l) u m e = e
 few-order d h g s i (PutIn x) u m e =
     few-put (d.id == x.way.id) (is_wanted d h) (is_over d h) (in_puts d h) (cause_count d h)
     (λ q. ap (λ z. is_owed z h) (sym (u x.way m.of q)) ∙ is-owed (is_owed x.way h) (is_read x.way.sender h) (is_read x.way.receiver h)
-        m.may)
+    m.may)
     e
 few-order d h g s i (PutOut x) u m e = e
 few-order d h g s i (RemoveIn n) u m e = e
@@ -175,7 +175,7 @@ here-in p d h z x l m k (inl i) e =
     let b = low p h l d x i in
     let q : (x.serial == z.serial) ≡ false = grind arith in
     member-if (d.id == z.way.id) x.serial z.serial (single d h)
-        (k.here x i (unsent-put (x.serial == z.serial) (is_out_ordered x.serial h) q e))
+    (k.here x i (unsent-put (x.serial == z.serial) (is_out_ordered x.serial h) q e))
 here-in p d h z x l m k (inr i) e =
     let q = put-one d x (PutIn z) i in
     let s : z ≡ x = cc in
@@ -211,7 +211,7 @@ paired-order p d h g s i (PutOut z) l u m k =
           let t : (d.id == m.way.id) ≡ true = grind arith in
           let r = u m.way m.of t in
           k.here z (subst (λ c. Has z (left c h)) r m.left) (not-sent (is_in_progress h z) (is_out_ordered z.serial h)
-              (has_answer PuttingIn z.serial h) (is_read m.way.sender h) (is_read m.way.receiver h) m.may)) k.count;
+          (has_answer PuttingIn z.serial h) (is_read m.way.sender h) (is_read m.way.receiver h) m.may)) k.count;
       here = λ x j e. here-out d h z x k j e;
     }
 paired-order p d h g s i (RemoveIn n) l u m k = record { count = k.count; here = λ x. here-same d h x k }
@@ -222,8 +222,11 @@ paired p d [] l u = record { count = refl; here = λ x i. absurd i }
 paired p d (Opened g s ∷ h) l u = let k = paired p d h l.1 u in record { count = k.count; here = k.here }
 paired p d (Cut g s ∷ h) l u = let k = paired p d h l.1 u in record { count = k.count; here = k.here }
 paired p d (Answered g s n a ∷ h) l u = let k = paired p d h l.1 u in
-    record { count = k.count; here =
-    λ x i. k.here x (has-filter (λ y. not (is_answer_to RemovingIn y.serial (oldest (queue g h)))) x (left d h) i) }
+    record {
+      count = k.count;
+      here =
+          λ x i. k.here x (has-filter (λ y. not (is_answer_to RemovingIn y.serial (oldest (queue g h)))) x (left d h) i);
+    }
 paired p d (Heard g s t ∷ h) l u = let k = paired p d h l.1 u in record { count = k.count; here = k.here }
 paired p d (Ordered g s i o ∷ h) l u = paired-order p d h g s i o l.1 u l.0.3 (paired p d h l.1 u)
 paired p d (Accepted c ∷ h) l u =

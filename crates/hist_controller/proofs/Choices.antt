@@ -34,7 +34,7 @@ gives-out-remove h g n m = let a = m.free in let b = m.oldest in let c = m.at in
 gives-in-remove : (h : List ControllerAct) (g n : ℕ) → (m : MayOrderInRemove h g n) → give h m.way ≡ order h g (RemoveIn n) ∷ []
 gives-in-remove h g n m =
     let a = m.free in let b = first-no (may_out_remove h m.way) (left m.way h) m.no_out_remove in let e = m.oldest in let c = m.at in
-        let d = m.name in
+    let d = m.name in
     rw (a, b, e, c, d) refl
 
 gives-out-put : (h : List ControllerAct) (g : ℕ) (x : Association) → (m : MayOrderOutPut h g x) → give h m.way ≡ order h g (PutOut x) ∷ []
@@ -98,22 +98,22 @@ sorted p h g s n (Policy l) m c = subst (Sorted h) (sym (as-ordered h g s n (Pol
 sorted p h g s n (PutIn x) m c =
     let r : MayOrderInPut h g x = m.3 in
     subst (Sorted h) (sym (as-ordered h g s n (PutIn x) m.0 m.1)) (in_turn (order h g (PutIn x)) x.way r.of (gives-in-put h g x r)
-        (c x.way r.of (eq-own x.way.id)))
+    (c x.way r.of (eq-own x.way.id)))
 sorted p h g s n (PutOut x) m c =
     let r : MayOrderOutPut h g x = m.3 in
     subst (Sorted h) (sym (as-ordered h g s n (PutOut x) m.0 m.1)) (in_turn (order h g (PutOut x)) r.way r.of (gives-out-put h g x r)
-        (c r.way r.of (of-way h r.way x r.left)))
+    (c r.way r.of (of-way h r.way x r.left)))
 sorted p h g s n (RemoveIn i) m c =
     let r : MayOrderInRemove h g i = m.3 in
     let e : (r.association.serial == i) ≡ true = let w = r.name in grind arith in
     subst (Sorted h) (sym (as-ordered h g s n (RemoveIn i) m.0 m.1)) (in_turn (order h g (RemoveIn i)) r.way r.of (gives-in-remove h g i r)
-        (c r.way r.of (any-has (λ (y : Association). y.serial == i) r.association (left r.way h) r.left e)))
+    (c r.way r.of (any-has (λ (y : Association). y.serial == i) r.association (left r.way h) r.left e)))
 sorted p h g s n (RemoveOut i) m c =
     let r : MayOrderOutRemove h g i = m.3 in
     let e : (r.association.serial == i) ≡ true = let w = r.name in grind arith in
     subst (Sorted h) (sym (as-ordered h g s n (RemoveOut i) m.0 m.1))
-        (in_turn (order h g (RemoveOut i)) r.way r.of (gives-out-remove h g i r)
-        (c r.way r.of (any-has (λ (y : Association). y.serial == i) r.association (left r.way h) r.left e)))
+    (in_turn (order h g (RemoveOut i)) r.way r.of (gives-out-remove h g i r)
+    (c r.way r.of (any-has (λ (y : Association). y.serial == i) r.association (left r.way h) r.left e)))
 
 no-order : (a : ControllerAct) (xs : List ControllerAct) → xs ≡ a ∷ [] → xs ≡ [] → ⊥
 no-order a xs e f = cc
@@ -220,7 +220,7 @@ one-list p h [] (Ordered g s n o ∷ ys) a b = absurd (none-next h (Ordered g s 
 one-list p h (Ordered g s n o ∷ xs) [] a b = absurd (none-next h (Ordered g s n o) b.0 b.1 (sorted p h g s n o a.0 a.1))
 one-list p h (Ordered f r m z ∷ xs) (Ordered g s n o ∷ ys) a b =
     let e : Ordered f r m z ≡ Ordered g s n o = one-next h (Ordered f r m z) (Ordered g s n o) (sorted p h f r m z a.0 a.1)
-        (sorted p h g s n o b.0 b.1) in
+    (sorted p h g s n o b.0 b.1) in
     let q : xs ≡ ys = one-list p (Ordered f r m z ∷ h) xs ys a.2 (subst (λ c. AreOrdersNext p (c ∷ h) ys) (sym e) b.2) in
     rw (e, q) refl
 one-list p h [] (Opened g s ∷ ys) a b = absurd b
@@ -347,9 +347,12 @@ list-next : (p : ℕ) (h : List ControllerAct) (g : ℕ) (l : List SpdEntry) (b 
     (asked_then (Accepted (SetPolicy g l) ∷ h) (if b then order (Accepted (SetPolicy g l) ∷ h) g (Policy l) ∷ [] else []))
 list-next p h g l true o k =
     let m : ControllerMayAct p (Accepted (SetPolicy g l) ∷ h) (order (Accepted (SetPolicy g l) ∷ h) g (Policy l)) =
-        (refl, refl, o, (rw (eq-own g) refl, eq-own g)) in
-    (m, (λ d i w. cc), rest-next p (order (Accepted (SetPolicy g l) ∷ h) g (Policy l) ∷ Accepted (SetPolicy g l) ∷ h) (m, k)
-        (no-due (Accepted (SetPolicy g l) ∷ h) (Policy l) g (λ f. and-false _)))
+    (refl, refl, o, (rw (eq-own g) refl, eq-own g)) in (
+      m,
+      (λ d i w. cc),
+      rest-next p (order (Accepted (SetPolicy g l) ∷ h) g (Policy l) ∷ Accepted (SetPolicy g l) ∷ h) (m, k)
+          (no-due (Accepted (SetPolicy g l) ∷ h) (Policy l) g (λ f. and-false _)),
+    )
 list-next p h g l false o k =
     rest-next p (Accepted (SetPolicy g l) ∷ h) k (none-commanded h (SetPolicy g l) (λ f w. shut f (f == g) refl w))
   where
@@ -387,9 +390,12 @@ newest-next p h g s None e k = rest-next p (read_at h g s) k (no-list (read_at h
     no-list w t f (RemoveOut n) i = i
 newest-next p h g s (Some l) e k =
     let q = eq-own g in
-    let m : ControllerMayAct p (read_at h g s) (order (read_at h g s) g (Policy l)) = (refl, refl, rw q refl, (e, rw q refl)) in
-    (m, (λ d i w. cc), rest-next p (order (read_at h g s) g (Policy l) ∷ read_at h g s) (m, k)
-        (no-due (read_at h g s) (Policy l) g (λ f. and-false _)))
+    let m : ControllerMayAct p (read_at h g s) (order (read_at h g s) g (Policy l)) = (refl, refl, rw q refl, (e, rw q refl)) in (
+      m,
+      (λ d i w. cc),
+      rest-next p (order (read_at h g s) g (Policy l) ∷ read_at h g s) (m, k)
+          (no-due (read_at h g s) (Policy l) g (λ f. and-false _)),
+    )
 
 opening-next : (p : ℕ) (h : List ControllerAct) (g s : ℕ) → IsControllerPast p (Opened g s ∷ h)
     → AreOrdersNext p (Opened g s ∷ h) (asked_then (Opened g s ∷ h) (read_put (Opened g s ∷ h) g))
@@ -412,9 +418,12 @@ spi-next p h g s n true e o k =
 spi-next p h g s n false e o k =
     let q = eq-own g in
     let m : ControllerMayAct p (Heard g s (notices.BadSpi n) ∷ h) (order (Heard g s (notices.BadSpi n) ∷ h) g Read) =
-        (refl, refl, o, rw (q, e) refl) in
-    (m, (λ d i w. cc), rest-next p (order (Heard g s (notices.BadSpi n) ∷ h) g Read ∷ Heard g s (notices.BadSpi n) ∷ h) (m, k)
-        (no-due (Heard g s (notices.BadSpi n) ∷ h) Read g (λ f. and-false _)))
+    (refl, refl, o, rw (q, e) refl) in (
+      m,
+      (λ d i w. cc),
+      rest-next p (order (Heard g s (notices.BadSpi n) ∷ h) g Read ∷ Heard g s (notices.BadSpi n) ∷ h) (m, k)
+          (no-due (Heard g s (notices.BadSpi n) ∷ h) Read g (λ f. and-false _)),
+    )
 
 no-reading : (a c : Bool) → (a && false && c) ≡ false
 no-reading true c = refl
@@ -493,9 +502,12 @@ answer-block : (ps : List Peer) (h : List ControllerAct) (g : ℕ) (a : Answer) 
     → IsControllerPast (length ps) h → IsBlock ps h (Answers g a) (by_answer h g a os)
 answer-block ps h g a [] e l = none-answers ps h g a e
 answer-block ps h g a (o ∷ os) e l =
-    let m : ControllerMayAct (length ps) h (Answered g (openings g h) (answered g h + 1) a) = (o, ap oldest e, refl, refl) in
-    ((refl, refl), m, rest-next (length ps) (Answered g (openings g h) (answered g h + 1) a ∷ h) (m, l)
-        (none-asked (Answered g (openings g h) (answered g h + 1) a ∷ h) (λ f. refl) (λ f o. refl)))
+    let m : ControllerMayAct (length ps) h (Answered g (openings g h) (answered g h + 1) a) = (o, ap oldest e, refl, refl) in (
+      (refl, refl),
+      m,
+      rest-next (length ps) (Answered g (openings g h) (answered g h + 1) a ∷ h) (m, l)
+          (none-asked (Answered g (openings g h) (answered g h + 1) a ∷ h) (λ f. refl) (λ f o. refl)),
+    )
 
 -- the block of an event meets the clauses
 pub block-meets : (ps : List Peer) (h : List ControllerAct) (e : ControllerEvent) → IsControllerPast (length ps) h → NotIdle h
@@ -507,8 +519,12 @@ block-meets ps h (Opens g) l q =
     (λ o. (refl, (o, refl), opening-next (length ps) h g (openings g h + 1) ((o, refl), l)))
 block-meets ps h (Cuts g) l q =
     block-if ps h (Cuts g) (is_open g h) (going h (Cut g (openings g h))) []
-    (λ o. (refl, (o, refl), rest-next (length ps) (Cut g (openings g h) ∷ h) ((o, refl), l)
-        (none-asked (Cut g (openings g h) ∷ h) (λ f. refl) (λ f o. refl))))
+    (λ o. (
+      refl,
+      (o, refl),
+      rest-next (length ps) (Cut g (openings g h) ∷ h) ((o, refl), l)
+          (none-asked (Cut g (openings g h) ∷ h) (λ f. refl) (λ f o. refl)),
+    ))
     (λ o. none-cuts ps h g o)
 block-meets ps h (Answers g a) l q = answer-block ps h g a (queue g h) refl l
 block-meets ps h (Notices g t) l q =

@@ -77,8 +77,18 @@ may-given p h d _ i (in_was_put k ks f s m n1 n2 n3) = (
     refl,
     refl,
     open-r (is_owed d h) (is_read d.sender h) (is_open d.receiver h) (is_first_answered d.receiver h) m,
-    record { of = i; at = refl; free = f; may = m; serial = refl; key = ap next_key s; no_out_remove = n1; no_in_remove = n2; no_out_put =
-        n3 },
+    record {
+      of = i;
+      at = refl;
+      free = f;
+      may = m;
+      serial = refl;
+      key = ap next_key s;
+      no_out_remove = n1;
+      no_in_remove = n2;
+      no_out_put =
+          n3;
+    },
   ),
   tt,
 )
@@ -144,8 +154,11 @@ may-block ps h (Told c) = may-refusal (length ps) h (placed_command ps c) (refus
 may-block ps h (Opens g) =
     may-if (length ps) h (is_open g h) [] (going h (Opened g (openings g h + 1)))
     (λ o. tt)
-    (λ o. ((o, refl), may-asked-then (length ps) (Opened g (openings g h + 1) ∷ h) (read_put (Opened g (openings g h + 1) ∷ h) g)
-        (may-read-put (length ps) h g (openings g h + 1))))
+    (λ o. (
+      (o, refl),
+      may-asked-then (length ps) (Opened g (openings g h + 1) ∷ h) (read_put (Opened g (openings g h + 1) ∷ h) g)
+          (may-read-put (length ps) h g (openings g h + 1)),
+    ))
 may-block ps h (Cuts g) =
     may-if (length ps) h (is_open g h) (going h (Cut g (openings g h))) []
     (λ o. ((o, refl), may-asked-then (length ps) (Cut g (openings g h) ∷ h) [] tt))
@@ -153,8 +166,11 @@ may-block ps h (Cuts g) =
 may-block ps h (Answers g a) = may-answer (length ps) h g a (queue g h) refl
 may-block ps h (Notices g t) =
     may-if (length ps) h (is_open g h) (going h (Heard g (openings g h) t)) []
-    (λ o. ((o, refl), may-asked-then (length ps) (Heard g (openings g h) t ∷ h) (by_notice (Heard g (openings g h) t ∷ h) g t)
-        (may-notice (length ps) h g (openings g h) t refl o)))
+    (λ o. (
+      (o, refl),
+      may-asked-then (length ps) (Heard g (openings g h) t ∷ h) (by_notice (Heard g (openings g h) t ∷ h) g t)
+          (may-notice (length ps) h g (openings g h) t refl o),
+    ))
     (λ o. tt)
 
 pub past-after : (p : ℕ) (h xs : List ControllerAct) → IsControllerPast p h → ControllerMayActAll p h xs → IsControllerPast p (after h xs)

@@ -12,8 +12,15 @@ use Rattle.hist_controller.proofs.OwnCauses.{wanted-stands, stands-wanted, over-
 -- ## what ended an association
 
 one-later : (x : Association) (a : ControllerAct) (h : List ControllerAct) → is_begun_by x a ≡ false → WasEndedBy x h → WasEndedBy x (a ∷ h)
-one-later x a h e r = record { recent = a ∷ r.recent; act = r.act; old = r.old; all = ap (λ z. a ∷ z) r.all; is = r.is; since =
-    rw e r.since }
+one-later x a h e r = record {
+  recent = a ∷ r.recent;
+  act = r.act;
+  old = r.old;
+  all = ap (λ z. a ∷ z) r.all;
+  is = r.is;
+  since =
+      rw e r.since;
+}
 
 or-ended : (x : Association) (a : ControllerAct) (h : List ControllerAct) (b w : Bool) → is_ended_by x a h ≡ b → is_begun_by x a ≡ false
     → (w ≡ true → WasEndedBy x h) → (b || w) ≡ true → WasEndedBy x (a ∷ h)
@@ -54,7 +61,7 @@ stays-ended x (Heard g s t ∷ recent) old n e = stays-ended x recent old n e
 stays-ended x (Ordered g s i o ∷ recent) old n e =
     let r = or_parts (is_kind PuttingIn x.serial o) (list_any (is_begun_by x) recent) n in
     and_from (not (is_kind PuttingIn x.serial o)) (is_ended x (recent ++ old)) (not_from_false (is_kind PuttingIn x.serial o) r.0)
-        (stays-ended x recent old r.1 e)
+    (stays-ended x recent old r.1 e)
 stays-ended x (Accepted c ∷ recent) old n e = or_right _ _ (stays-ended x recent old n e)
 stays-ended x (Refused w ∷ recent) old n e = stays-ended x recent old n e
 
@@ -86,8 +93,21 @@ last-later d a h n e (x, r, s) = (
 
 last-put : (d : Way) (g s n : ℕ) (x : Association) (h : List ControllerAct) (b : Bool) → (d.id == x.way.id) ≡ b
     → (0 < newest_serial d h → Last d h) → 0 < (if b then x.serial else newest_serial d h) → Last d (Ordered g s n (PutIn x) ∷ h)
-last-put d g s n x h true e f l = (x, record { recent = []; gateway = g; session = s; number = n; old = h; all = refl; own = e; since =
-    tt }, rw e refl)
+last-put d g s n x h true e f l = (
+  x,
+  record {
+    recent = [];
+    gateway = g;
+    session = s;
+    number = n;
+    old = h;
+    all = refl;
+    own = e;
+    since =
+        tt;
+  },
+  rw e refl,
+)
 last-put d g s n x h false e f l = last-later d (Ordered g s n (PutIn x)) h e (rw e refl) (f l)
 
 last-told : (d : Way) (c : PlacedCommand) (h : List ControllerAct) (b : Bool) → is_made_by c (length (directions h)) d ≡ b

@@ -57,7 +57,7 @@ no-out h g (PutOut z) x d k i m e = is-not (x.serial == z.serial) (λ t.
     let q : x.serial ≡ z.serial = grind arith in
     let s : x ≡ z = k.one d m.way x z i (k.sub m.way z m.left) q in
     let n = not-ended (is_ended z h) (not (has_answer PuttingOut z.serial h)) (not (is_out_ordered z.serial h))
-        (has_answer PuttingIn z.serial h) (is_read m.way.sender h) (is_read m.way.receiver h) m.may in
+    (has_answer PuttingIn z.serial h) (is_read m.way.sender h) (is_read m.way.receiver h) m.may in
     let f : is_ended x h ≡ false = rw s n in
     let u : true ≡ false = sym e ∙ f in
     cc)
@@ -100,7 +100,7 @@ spent-now : (h : List ControllerAct) (g n : ℕ) → MayOrderInRemove h g n → 
 spent-now h g n m k d x i e =
     let s : x ≡ m.association = k.one d m.way x m.association i (k.sub m.way m.association m.left) (e ∙ m.name) in
     let t = first-of (is_ended m.association h) (not (is_out_ordered m.association.serial h)
-        || has_answer RemovingOut m.association.serial h) (is_read m.way.receiver h) m.may in
+    || has_answer RemovingOut m.association.serial h) (is_read m.way.receiver h) m.may in
     rw s (t.0, split-or (is_out_ordered m.association.serial h) (has_answer RemovingOut m.association.serial h) t.1)
 
 whole-waits : (h : List ControllerAct) (f s i : ℕ) (o : ControllerOrder) → MayOrder h f o → Whole h → (g n : ℕ)
@@ -119,9 +119,9 @@ whole-gone : (h : List ControllerAct) (g s n : ℕ) (o : ControllerOrder) → Ma
 whole-gone h g s n o m k d x (inr j) = inl (right-in x (left d h) (inbound_put d o) j)
 whole-gone h g s n o m k d x (inl j) = elim (k.gone d x j) as (λ z. Has x (left d h ++ inbound_put d o)
     ⊎ (((not (is_kind PuttingIn x.serial o) && has_answer RemovingIn x.serial h) ≡ true) × Spent x (Ordered g s n o ∷ h))) [
-  | inl a ↦ inl (has-left x (left d h) (inbound_put d o) a)
-  | inr b ↦ inr (rw (no-in h g o x m (k.low d x j), b.0) refl, spent-on h g s n o d x k m j b.1)
-]
+      | inl a ↦ inl (has-left x (left d h) (inbound_put d o) a)
+      | inr b ↦ inr (rw (no-in h g o x m (k.low d x j), b.0) refl, spent-on h g s n o d x k m j b.1)
+    ]
 
 whole-early : (h : List ControllerAct) (f s i : ℕ) (o : ControllerOrder) → MayOrder h f o → Whole h → (g n : ℕ)
     → Has (RemoveIn n) (queue g h) ⊎ ((RemoveIn n ≡ o) × ((g == f) ≡ true)) → n ≤ serials (Ordered f s i o ∷ h)
@@ -242,8 +242,15 @@ whole-opened h g s k =
     }
 
 pub whole : (p : ℕ) (h : List ControllerAct) → IsControllerPast p h → Whole h
-whole p [] l = record { low = λ d x i. absurd i; one = λ d e x y i. absurd i; sub = λ d x i. i; early = λ g n i. absurd i; waits =
-    λ g n i. absurd i; gone = λ d x i. inl i }
+whole p [] l = record {
+  low = λ d x i. absurd i;
+  one = λ d e x y i. absurd i;
+  sub = λ d x i. i;
+  early = λ g n i. absurd i;
+  waits =
+      λ g n i. absurd i;
+  gone = λ d x i. inl i;
+}
 whole p (Opened g s ∷ h) l = whole-opened h g s (whole p h l.1)
 whole p (Cut g s ∷ h) l = whole-cut h g s (whole p h l.1)
 whole p (Answered g s n a ∷ h) l = whole-answered h g s n a (whole p h l.1)

@@ -103,7 +103,7 @@ pub settled : (p : ℕ) (h : List ControllerAct) → IsControllerPast p h → (g
 settled p h l g z m x i =
     let r = ready-both (is_owed z.way h) (is_read z.way.sender h) (is_read z.way.receiver h) m.may in
     let e = not-over (is_ended x h) (is_out_ordered x.serial h) (has_answer RemovingOut x.serial h) (is_read z.way.sender h)
-        (is_read z.way.receiver h) r.0 r.1 (m.no_out_remove x i) (m.no_in_remove x i) in
+    (is_read z.way.receiver h) r.0 r.1 (m.no_out_remove x i) (m.no_in_remove x i) in
     (e, answered (has_answer PuttingOut x.serial h) refl r e)
   where
     k : Awaited h
@@ -126,9 +126,9 @@ settled p h l g z m x i =
     answered false v r e =
         absurd (elim (goes-on (is_ended x h) (has_answer PuttingOut x.serial h) (is_out_ordered x.serial h)
         (has_answer PuttingIn x.serial h) (is_read z.way.sender h) (is_read z.way.receiver h) e r.0 r.1 v (m.no_out_put x i)) as (λ q. ⊥) [
-      | inl t ↦ waits-out e t v
-      | inr t ↦ waits-in e t
-    ])
+          | inl t ↦ waits-out e t v
+          | inr t ↦ waits-in e t
+        ])
 
 single : (xs : List Association) → Ascend xs → ((x y : Association) → Has x xs → Has y xs → x.serial < y.serial → ⊥) → length xs ≤ 1
 single [] c f = omega arith
@@ -299,7 +299,7 @@ counts-put : (h : List ControllerAct) (g : ℕ) (x : Association) (d : Way) → 
 counts-put h g x d i m true t e =
     let w : d ≡ x.way = one-way h d x.way i m.of (grind arith) in
     let q = not-wanted (is_wanted x.way h) (is_over x.way h) (first-and (is_owed x.way h) (is_read x.way.sender h)
-        (is_read x.way.receiver h) m.may) in
+    (is_read x.way.receiver h) m.may) in
     let r : not (is_over d h) ≡ true = ap (λ z. not (is_over z h)) w ∙ q in
     rw r refl
 counts-put h g x d i m false t e = rw (append-nil (left d h)) at e
@@ -344,7 +344,7 @@ few-tunnels p (Cut g s ∷ h) l = let e = few-tunnels p h l.1 in let q = tunnels
 few-tunnels p (Answered g s n a ∷ h) l =
     let e = few-tunnels p h l.1 in
     let q = tunnels-less (Answered g s n a ∷ h) h (directions h) (λ d i v. or-step (not (is_over d h)) _ (not (is_none (left d h)))
-        (none-filter (λ x. not (is_answer_to RemovingIn x.serial (oldest (queue g h)))) (left d h)) v) in
+    (none-filter (λ x. not (is_answer_to RemovingIn x.serial (oldest (queue g h)))) (left d h)) v) in
     omega arith
 few-tunnels p (Heard g s t ∷ h) l = let e = few-tunnels p h l.1 in let q = tunnels-less (Heard g s t ∷ h) h (directions h) (λ d i v. v) in
     omega arith
@@ -353,11 +353,11 @@ few-tunnels p (Ordered g s n o ∷ h) l = let e = few-tunnels p h l.1 in
 few-tunnels p (Accepted (SetPolicy g w) ∷ h) l = none-new h (SetPolicy g w) (directions h) (λ d i. i) (few-tunnels p h l.1)
 few-tunnels p (Accepted (Tunnel t) ∷ h) l =
     let n = tunnel-passes (nat_lt t.first p) (nat_lt t.second p) (t.first == t.second) (has_tunnel t.spec.reqid h)
-        (nat_le 1024 (tunnels h (directions h))) l.0 in
+    (nat_le 1024 (tunnels h (directions h))) l.0 in
     let q = tunnels-less (Accepted (Tunnel t) ∷ h) h (directions h) (λ d i. counts-accepted h (Tunnel t) d i) in
     let b = tunnels-both (Accepted (Tunnel t) ∷ h) (directions h) (both_ways (length (directions h)) t) (pairs h) in
     rw b (limit-passes (tunnels h (directions h)) (tunnels (Accepted (Tunnel t) ∷ h) (directions h))
-        (tunnels (Accepted (Tunnel t) ∷ h) (both_ways (length (directions h)) t)) n.4 q (one-more _))
+    (tunnels (Accepted (Tunnel t) ∷ h) (both_ways (length (directions h)) t)) n.4 q (one-more _))
 few-tunnels p (Accepted (End r) ∷ h) l = none-new h (End r) (directions h) (λ d i. i) (few-tunnels p h l.1)
 few-tunnels p (Accepted (Rekey r) ∷ h) l = none-new h (Rekey r) (directions h) (λ d i. i) (few-tunnels p h l.1)
 few-tunnels p (Accepted (Keys k) ∷ h) l = none-new h (Keys k) (directions h) (λ d i. i) (few-tunnels p h l.1)

@@ -129,9 +129,11 @@ opens-asked p h (Accepted c) = opens-command p h c
 opens-asked p h (Refused w) = tt
 
 opens-going : (p : ℕ) (h : List ControllerAct) (a : ControllerAct) → OpenFits p a → OpensFit p (going h a)
-opens-going p h a o =
-    (o, opens-more p (asked (a ∷ h) a) _ (opens-asked p (a ∷ h) a)
-    (opens-pass p (after (a ∷ h) (asked (a ∷ h) a)) (directions (after (a ∷ h) (asked (a ∷ h) a)))))
+opens-going p h a o = (
+  o,
+  opens-more p (asked (a ∷ h) a) _ (opens-asked p (a ∷ h) a)
+      (opens-pass p (after (a ∷ h) (asked (a ∷ h) a)) (directions (after (a ∷ h) (asked (a ∷ h) a)))),
+)
 
 opens-refusal : (p : ℕ) (h : List ControllerAct) (c : PlacedCommand) (o : Option Refusal) → OpensFit p (by_refusal h c o)
 opens-refusal p h c None = opens-going p h (Accepted c) tt

@@ -142,7 +142,7 @@ removed-in p h g n l m =
 removed-out : (p : ℕ) (h : List ControllerAct) (g n : ℕ) → IsControllerPast p h → MayOrderOutRemove h g n → PutOf PutOut n g h
 removed-out p h g n l m =
     let s = second-of-4 (is_ended m.association h) (is_out_ordered m.association.serial h)
-        (not (has_answer RemovingOut m.association.serial h)) (is_read m.way.sender h) m.may in
+    (not (has_answer RemovingOut m.association.serial h)) (is_read m.way.sender h) m.may in
     let k = sent-put m.association.serial h s in
     let o = out-home p h l k.0 k.1.0 k.1.2 in
     let i = (lefts p h l m.way m.association m.left).put in

@@ -40,9 +40,17 @@ eq-own n = grind arith
 
 -- ## gateways
 
-gate-opened : (b : Bool) (x : KeptGateway) → record { up = b || x.up; session = if b then x.session + 1 else x.session; orders =
-    if b then 0 else x.orders; answers = if b then 0 else x.answers; queue = if b then [] else x.queue; read = not b && x.read; list =
-    x.list } ≡ (if b then gateway_opened x else x)
+gate-opened : (b : Bool) (x : KeptGateway) → record {
+  up = b || x.up;
+  session = if b then x.session + 1 else x.session;
+  orders =
+      if b then 0 else x.orders;
+  answers = if b then 0 else x.answers;
+  queue = if b then [] else x.queue;
+  read = not b && x.read;
+  list =
+      x.list;
+} ≡ (if b then gateway_opened x else x)
 gate-opened true x = refl
 gate-opened false x = refl
 
@@ -51,13 +59,20 @@ gate-cut : (b : Bool) (x : KeptGateway) → record x { up = not b && x.up; queue
 gate-cut true x = refl
 gate-cut false x = refl
 
-gate-answered : (b : Bool) (n : ℕ) (x : KeptGateway) → record x { answers = if b then x.answers + 1 else x.answers; queue =
-    if b then rest x.queue else x.queue; read = (b && (n == 1)) || x.read } ≡ (if b then gateway_answered n x else x)
+gate-answered : (b : Bool) (n : ℕ) (x : KeptGateway) → record x {
+  answers = if b then x.answers + 1 else x.answers;
+  queue =
+      if b then rest x.queue else x.queue;
+  read = (b && (n == 1)) || x.read;
+} ≡ (if b then gateway_answered n x else x)
 gate-answered true n x = refl
 gate-answered false n x = refl
 
-gate-ordered : (b : Bool) (o : ControllerOrder) (x : KeptGateway) → record x { orders = if b then x.orders + 1 else x.orders; queue =
-    if b then x.queue ++ o ∷ [] else x.queue } ≡ (if b then gateway_ordered o x else x)
+gate-ordered : (b : Bool) (o : ControllerOrder) (x : KeptGateway) → record x {
+  orders = if b then x.orders + 1 else x.orders;
+  queue =
+      if b then x.queue ++ o ∷ [] else x.queue;
+} ≡ (if b then gateway_ordered o x else x)
 gate-ordered true o x = refl
 gate-ordered false o x = refl
 
@@ -153,10 +168,10 @@ way-answered h g s n a d =
     rw (same-misses h d g (oldest (queue g h)) a)
     (same-way d _ _ _ _ _
     (filter-via (association_of (Answered g s n a ∷ h)) (λ k. not (is_answer_to RemovingIn k.association.serial (oldest (queue g h))))
-        (left d h)
+    (left d h)
     ∙ ap (filter (λ k. not (is_answer_to RemovingIn k.association.serial (oldest (queue g h)))))
-        (map-via (association_of (Answered g s n a ∷ h)) (association_of h) (kept_answered g (oldest (queue g h)) a) (λ x. refl)
-        (left d h))))
+    (map-via (association_of (Answered g s n a ∷ h)) (association_of h) (kept_answered g (oldest (queue g h)) a) (λ x. refl)
+    (left d h))))
 
 same-newest : (h : List ControllerAct) (d : Way) (g : ℕ) (name : List ℕ) → is_of_newest h d g name ≡ is_newest_of (way_of h d) g name
 same-newest h d g name = ap (λ b. is_half_at d g name (newest_serial d h) && b)
@@ -195,7 +210,7 @@ way-ordered h g s n o d =
     let v = map-via (association_of (Ordered g s n o ∷ h)) (association_of h) (kept_ordered o) (λ x. refl) (left d h) in
     let f = fresh-put h g s n d o in
     same-way d _ _ _ _ _ (m ∙ (ap (λ t. t ++ map (association_of (Ordered g s n o ∷ h)) (inbound_put d o)) v
-        ∙ ap (λ t. map (kept_ordered o) (map (association_of h) (left d h)) ++ t) f))
+    ∙ ap (λ t. map (kept_ordered o) (map (association_of h) (left d h)) ++ t) f))
 
 -- ## the whole
 
@@ -213,7 +228,7 @@ ways-told h c =
     rw (length-map (way_of h) (directions h))
     (map-more (way_of (Accepted c ∷ h)) (directions h) (new_ways (length (directions h)) c)
     ∙ (ap (λ t. t ++ map (way_of (Accepted c ∷ h)) (new_ways (length (directions h)) c))
-        (told-ways h c 0 (directions h) (rising h) (grind arith))
+    (told-ways h c 0 (directions h) (rising h) (grind arith))
     ∙ ap (λ t. map (way_told c) (map (way_of h) (directions h)) ++ t) (fresh-ways h c)))
 
 pub keeps : (h : List ControllerAct) (a : ControllerAct) → state_of (a ∷ h) ≡ did (state_of h) a

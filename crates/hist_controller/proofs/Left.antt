@@ -110,7 +110,7 @@ newest-ordered p h g s n o l m d k =
         → x.serial ≡ last_if d o (newest_serial d h)
     last x (inl i) t =
         let t' = still (is_kind PuttingIn x.serial o) (is_ended x h) (has_answer PuttingOut x.serial h) (no-in h g o x m (low p h l d x i))
-            t in
+        t in
         newest-last p h l g o m d x i t' (k.last x i t')
     last x (inr i) t = sym (newest-of d o x (newest_serial d h) i)
 

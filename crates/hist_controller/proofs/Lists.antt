@@ -47,6 +47,6 @@ place-old j (y ∷ q) z o e = step (j == 0) refl e (place-old (j - 1) q z o)
     step true t e f = inl ((grind arith), rw t e)
     step false t e f = elim (f e) as (λ w. ((j < length (y ∷ q)) × ((if j == 0 then Some y else place (j - 1) q) ≡ Some o))
         ⊎ ((j ≡ length (y ∷ q)) × (z ≡ o))) [
-      | inl p ↦ inl (let a : j - 1 < length q = p.0 in (grind arith), rw t p.1)
-      | inr p ↦ inr (let a : j - 1 ≡ length q = p.0 in (grind arith), p.1)
-    ]
+          | inl p ↦ inl (let a : j - 1 < length q = p.0 in (grind arith), rw t p.1)
+          | inr p ↦ inr (let a : j - 1 ≡ length q = p.0 in (grind arith), p.1)
+        ]

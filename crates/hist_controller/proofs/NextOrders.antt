@@ -108,19 +108,19 @@ same-chosen b b' o o' i i' u u' m m' p q r s t = ap (λ z. chosen z o i u m) p
 pub same-next : (h k : List ControllerAct) (d : Way) → SamePart h k d → next_order k d ≡ next_order h d
 same-next h k d s =
     let a : first (may_out_remove k d) (left d k) ≡ first (may_out_remove h d) (left d h) = ap (first (may_out_remove k d)) s.left
-        ∙ first-same (may_out_remove k d) (may_out_remove h d) (left d h) (λ x i. ap (λ z. out-remove-of z (is_read d.sender k))
-        (s.each x i) ∙ ap (out-remove-of (association_of h x)) s.sender) in
+    ∙ first-same (may_out_remove k d) (may_out_remove h d) (left d h) (λ x i. ap (λ z. out-remove-of z (is_read d.sender k))
+    (s.each x i) ∙ ap (out-remove-of (association_of h x)) s.sender) in
     let b : first (may_in_remove k d) (left d k) ≡ first (may_in_remove h d) (left d h) = ap (first (may_in_remove k d)) s.left
-        ∙ first-same (may_in_remove k d) (may_in_remove h d) (left d h) (λ x i. ap (λ z. in-remove-of z (is_read d.receiver k)) (s.each x i)
-        ∙ ap (in-remove-of (association_of h x)) s.receiver) in
+    ∙ first-same (may_in_remove k d) (may_in_remove h d) (left d h) (λ x i. ap (λ z. in-remove-of z (is_read d.receiver k)) (s.each x i)
+    ∙ ap (in-remove-of (association_of h x)) s.receiver) in
     let c : first (may_out_put k d) (left d k) ≡ first (may_out_put h d) (left d h) = ap (first (may_out_put k d)) s.left
-        ∙ first-same (may_out_put k d) (may_out_put h d) (left d h)
-        (λ x i. ap (λ z. out-put-of z (is_read d.sender k) (is_read d.receiver k)) (s.each x i)
-        ∙ (ap (λ r. out-put-of (association_of h x) r (is_read d.receiver k)) s.sender
-        ∙ ap (out-put-of (association_of h x) (is_read d.sender h)) s.receiver)) in
+    ∙ first-same (may_out_put k d) (may_out_put h d) (left d h)
+    (λ x i. ap (λ z. out-put-of z (is_read d.sender k) (is_read d.receiver k)) (s.each x i)
+    ∙ (ap (λ r. out-put-of (association_of h x) r (is_read d.receiver k)) s.sender
+    ∙ ap (out-put-of (association_of h x) (is_read d.sender h)) s.receiver)) in
     let e : may_in_put k d ≡ may_in_put h d = ap (λ w. (w && not (is_over d k)) && is_read d.sender k && is_read d.receiver k) s.wanted
-        ∙ (ap (λ o. (is_wanted d h && not o) && is_read d.sender k && is_read d.receiver k) s.over
-        ∙ (ap (λ r. (is_wanted d h && not (is_over d h)) && r && is_read d.receiver k) s.sender
-        ∙ ap (λ r. (is_wanted d h && not (is_over d h)) && is_read d.sender h && r) s.receiver)) in
+    ∙ (ap (λ o. (is_wanted d h && not o) && is_read d.sender k && is_read d.receiver k) s.over
+    ∙ (ap (λ r. (is_wanted d h && not (is_over d h)) && r && is_read d.receiver k) s.sender
+    ∙ ap (λ r. (is_wanted d h && not (is_over d h)) && is_read d.sender h && r) s.receiver)) in
     is-chosen k d ∙ (same-chosen (is_busy d k) (is_busy d h) _ _ _ _ _ _ (may_in_put k d) (may_in_put h d) s.busy a b c e
-        ∙ sym (is-chosen h d))
+    ∙ sym (is-chosen h d))

@@ -22,10 +22,21 @@ not-sent a b c d e q = grind arith
 
 once-order : (p : ℕ) (n : ℕ) (h : List ControllerAct) (g s i : ℕ) (o : ControllerOrder) → IsControllerPast p h → MayOrder h g o → Once n h
     → Once n (Ordered g s i o ∷ h)
-once-order p n h g s i Read l m k = record { few_in = k.few_in; new_in = k.new_in; few_out = k.few_out; new_out = k.new_out; sent_out =
-    k.sent_out }
-once-order p n h g s i (Policy q) l m k = record { few_in = k.few_in; new_in = k.new_in; few_out = k.few_out; new_out = k.new_out;
-    sent_out = k.sent_out }
+once-order p n h g s i Read l m k = record {
+  few_in = k.few_in;
+  new_in = k.new_in;
+  few_out = k.few_out;
+  new_out = k.new_out;
+  sent_out =
+      k.sent_out;
+}
+once-order p n h g s i (Policy q) l m k = record {
+  few_in = k.few_in;
+  new_in = k.new_in;
+  few_out = k.few_out;
+  new_out = k.new_out;
+  sent_out = k.sent_out;
+}
 once-order p n h g s i (PutIn x) l m k =
     let e = m.serial in
     record {
@@ -37,7 +48,7 @@ once-order p n h g s i (PutIn x) l m k =
     }
 once-order p n h g s i (PutOut x) l m k =
     let e = not-sent (is_in_progress h x) (is_out_ordered x.serial h) (has_answer PuttingIn x.serial h) (is_read m.way.sender h)
-        (is_read m.way.receiver h) m.may in
+    (is_read m.way.receiver h) m.may in
     let b = low p h l m.way x m.left in
     record {
       few_in = k.few_in;
@@ -46,10 +57,20 @@ once-order p n h g s i (PutOut x) l m k =
       new_out = λ w. grind arith;
       sent_out = λ w. grind arith;
     }
-once-order p n h g s i (RemoveIn q) l m k = record { few_in = k.few_in; new_in = k.new_in; few_out = k.few_out; new_out = k.new_out;
-    sent_out = k.sent_out }
-once-order p n h g s i (RemoveOut q) l m k = record { few_in = k.few_in; new_in = k.new_in; few_out = k.few_out; new_out = k.new_out;
-    sent_out = k.sent_out }
+once-order p n h g s i (RemoveIn q) l m k = record {
+  few_in = k.few_in;
+  new_in = k.new_in;
+  few_out = k.few_out;
+  new_out = k.new_out;
+  sent_out = k.sent_out;
+}
+once-order p n h g s i (RemoveOut q) l m k = record {
+  few_in = k.few_in;
+  new_in = k.new_in;
+  few_out = k.few_out;
+  new_out = k.new_out;
+  sent_out = k.sent_out;
+}
 
 pub once : (p : ℕ) (n : ℕ) (h : List ControllerAct) → IsControllerPast p h → Once n h
 once p n [] l = record { few_in = omega arith; new_in = λ w. refl; few_out = omega arith; new_out = λ w. refl; sent_out = λ w. refl }
@@ -109,10 +130,21 @@ right-order h g s i o k m d x j = elim (has-more x (left d h) (inbound_put d o) 
 ]
 
 keyed-order : (h : List ControllerAct) (g s i : ℕ) (o : ControllerOrder) → MayOrder h g o → Keyed h → Keyed (Ordered g s i o ∷ h)
-keyed-order h g s i Read m k = record { gone = k.gone; split = k.split; many = k.many; right = right-order h g s i Read k m; all =
-    (tt, k.all) }
-keyed-order h g s i (Policy l) m k = record { gone = k.gone; split = k.split; many = k.many; right = right-order h g s i (Policy l) k m;
-    all = (tt, k.all) }
+keyed-order h g s i Read m k = record {
+  gone = k.gone;
+  split = k.split;
+  many = k.many;
+  right = right-order h g s i Read k m;
+  all =
+      (tt, k.all);
+}
+keyed-order h g s i (Policy l) m k = record {
+  gone = k.gone;
+  split = k.split;
+  many = k.many;
+  right = right-order h g s i (Policy l) k m;
+  all = (tt, k.all);
+}
 keyed-order h g s i (PutIn x) m k =
     record {
       gone = k.gone ++ x.key ∷ [];
@@ -122,20 +154,42 @@ keyed-order h g s i (PutIn x) m k =
       right = right-order h g s i (PutIn x) k m;
       all = (put-place h k x m.serial m.key, k.all);
     }
-keyed-order h g s i (PutOut x) m k = record { gone = k.gone; split = k.split; many = k.many; right = right-order h g s i (PutOut x) k m;
-    all = (k.right m.way x m.left, k.all) }
-keyed-order h g s i (RemoveIn n) m k = record { gone = k.gone; split = k.split; many = k.many; right = right-order h g s i (RemoveIn n) k m;
-    all = (tt, k.all) }
-keyed-order h g s i (RemoveOut n) m k = record { gone = k.gone; split = k.split; many = k.many; right =
-    right-order h g s i (RemoveOut n) k m; all = (tt, k.all) }
+keyed-order h g s i (PutOut x) m k = record {
+  gone = k.gone;
+  split = k.split;
+  many = k.many;
+  right = right-order h g s i (PutOut x) k m;
+  all = (k.right m.way x m.left, k.all);
+}
+keyed-order h g s i (RemoveIn n) m k = record {
+  gone = k.gone;
+  split = k.split;
+  many = k.many;
+  right = right-order h g s i (RemoveIn n) k m;
+  all = (tt, k.all);
+}
+keyed-order h g s i (RemoveOut n) m k = record {
+  gone = k.gone;
+  split = k.split;
+  many = k.many;
+  right =
+      right-order h g s i (RemoveOut n) k m;
+  all = (tt, k.all);
+}
 
 pub keyed : (p : ℕ) (h : List ControllerAct) → IsControllerPast p h → Keyed h
 keyed p [] l = record { gone = []; split = refl; many = refl; right = λ d x i. absurd i; all = tt }
 keyed p (Opened g s ∷ h) l = let k = keyed p h l.1 in record { gone = k.gone; split = k.split; many = k.many; right = k.right; all = k.all }
 keyed p (Cut g s ∷ h) l = let k = keyed p h l.1 in record { gone = k.gone; split = k.split; many = k.many; right = k.right; all = k.all }
 keyed p (Answered g s n a ∷ h) l = let k = keyed p h l.1 in
-    record { gone = k.gone; split = k.split; many = k.many; right =
-    λ d x i. k.right d x (has-filter (λ y. not (is_answer_to RemovingIn y.serial (oldest (queue g h)))) x (left d h) i); all = k.all }
+    record {
+      gone = k.gone;
+      split = k.split;
+      many = k.many;
+      right =
+          λ d x i. k.right d x (has-filter (λ y. not (is_answer_to RemovingIn y.serial (oldest (queue g h)))) x (left d h) i);
+      all = k.all;
+    }
 keyed p (Heard g s t ∷ h) l = let k = keyed p h l.1 in
     record { gone = k.gone; split = k.split; many = k.many; right = k.right; all = k.all }
 keyed p (Ordered g s n o ∷ h) l = keyed-order h g s n o l.0.3 (keyed p h l.1)

@@ -41,9 +41,13 @@ orderly-cut h g s c =
       each = λ f o i t.
           let k = c.each f o (has-none (f == g) (queue f h) o i) t in
           let x : Association = k.waits.association in
-          record { way = k.way; of = k.of; waits = move h (Cut g s ∷ h) k.way f o k.waits k.waits.left
-              (later-state o x (has_answer PuttingIn x.serial h) (is_out_ordered x.serial h) (has_answer PuttingOut x.serial h)
-              (has_answer RemovingOut x.serial h) (is_ended x h) _ k.waits.state) refl };
+          record {
+            way = k.way;
+            of = k.of;
+            waits = move h (Cut g s ∷ h) k.way f o k.waits k.waits.left
+                (later-state o x (has_answer PuttingIn x.serial h) (is_out_ordered x.serial h) (has_answer PuttingOut x.serial h)
+                (has_answer RemovingOut x.serial h) (is_ended x h) _ k.waits.state) refl;
+          };
       few = λ d i.
           let e = c.few d i in
           let a = none-less (is_own d (left d h)) (d.sender == g) (queue d.sender h) in
@@ -117,7 +121,7 @@ told-few h c k d (inr i) =
     let b = count-none (is_own d []) (queue d.receiver h) (λ o j. none-yet h k d n.1 d.receiver o j) in
     let e : count (is_own d []) (queue d.sender h) + count (is_own d []) (queue d.receiver h) ≤ 1 = omega arith in
     subst (λ b. count (is_own d (if b then [] else left d h)) (queue d.sender h) + count (is_own d (if b then [] else left d h))
-        (queue d.receiver h) ≤ 1) (sym n.0) e
+    (queue d.receiver h) ≤ 1) (sym n.0) e
 
 orderly-told : (h : List ControllerAct) (c : PlacedCommand) → Orderly h → Orderly (Accepted c ∷ h)
 orderly-told h c k =
@@ -226,8 +230,8 @@ busy-waiting d h =
     let a = some-filter (is_own d (left d h)) (queue d.receiver h) [] in
     let b = some-filter (is_own d (left d h)) (queue d.sender h) (filter (is_own d (left d h)) (queue d.receiver h)) in
     sym (b ∙ ap (λ t. list_any (is_own d (left d h)) (queue d.sender h) || t)
-        (ap (λ t. is_some (oldest t)) (sym (append-nil (filter (is_own d (left d h)) (queue d.receiver h))))
-        ∙ (a ∙ or-none (list_any (is_own d (left d h)) (queue d.receiver h)))))
+    (ap (λ t. is_some (oldest t)) (sym (append-nil (filter (is_own d (left d h)) (queue d.receiver h))))
+    ∙ (a ∙ or-none (list_any (is_own d (left d h)) (queue d.receiver h)))))
   where
     or-none : (b : Bool) → (b || false) ≡ b
     or-none true = refl

@@ -36,8 +36,16 @@ front p h l c g d x i k t = at (oldest (queue g h)) refl t
     at (Some z) e t =
         let w = c.each g z (oldest-has (queue g h) z e) (kind-half k x.serial z t) in
         let s = kind-serial k x.serial z w.waits.association t w.waits.of in
-        record { order = z; oldest = e; kind = t; way = w.way; of = w.of; waits = w.waits; same =
-            one p h l w.way d w.waits.association x w.waits.left i (sym s) }
+        record {
+          order = z;
+          oldest = e;
+          kind = t;
+          way = w.way;
+          of = w.of;
+          waits = w.waits;
+          same =
+              one p h l w.way d w.waits.association x w.waits.left i (sym s);
+        }
 
 -- it is no order of the association for which another one waits
 apart : (p : ℕ) (h : List ControllerAct) → IsControllerPast p h → Orderly h → (g f : ℕ) (d : Way) (o : ControllerOrder)
@@ -52,7 +60,7 @@ apart p h l c g f d o i w j k = is-not (is_answer_to k w.association.serial (old
     let at : g ≡ place_of d z.order = z.waits.at ∙ ap (λ y. place_of y z.order) e in
     let own : is_own d (left d h) z.order ≡ true = subst (λ y. is_own y (left y h) z.order ≡ true) e (own-of h z.way g z.order z.waits) in
     let m = front-and (is_own d (left d h)) h d.sender d.receiver g f z.order o (placings p h l d i).apart (at-one d z.order g at)
-        (at-one d o f w.at) z.oldest own (own-of h d f o w) (f == g) refl j in
+    (at-one d o f w.at) z.oldest own (own-of h d f o w) (f == g) refl j in
     let n = c.few d i in
     absurd (omega arith))
 
@@ -132,12 +140,12 @@ answered-each p h g s n a l c f o i t =
       of = k.of;
       waits = move h (Answered g s n a ∷ h) k.way f o k.waits
           (filter-in (λ y. not (is_answer_to RemovingIn y.serial (oldest (queue g h)))) x (left k.way h) k.waits.left
-              (rw (e RemovingIn) refl))
+          (rw (e RemovingIn) refl))
           (answered-state o x (has_answer PuttingIn x.serial h) (is_out_ordered x.serial h) (has_answer PuttingOut x.serial h)
-              (has_answer RemovingOut x.serial h) (is_ended x h) (is_spoiled x g (oldest (queue g h)) a (has_answer PuttingIn x.serial h)
-              (is_out_ordered x.serial h)) (is_answer_to PuttingIn x.serial (oldest (queue g h)))
-              (is_answer_to PuttingOut x.serial (oldest (queue g h))) (is_answer_to RemovingOut x.serial (oldest (queue g h))) (e PuttingIn)
-              (e PuttingOut) (e RemovingOut) k.waits.state)
+          (has_answer RemovingOut x.serial h) (is_ended x h) (is_spoiled x g (oldest (queue g h)) a (has_answer PuttingIn x.serial h)
+          (is_out_ordered x.serial h)) (is_answer_to PuttingIn x.serial (oldest (queue g h)))
+          (is_answer_to PuttingOut x.serial (oldest (queue g h))) (is_answer_to RemovingOut x.serial (oldest (queue g h))) (e PuttingIn)
+          (e PuttingOut) (e RemovingOut) k.waits.state)
           refl;
     }
 
@@ -145,13 +153,13 @@ answered-sound : (p : ℕ) (h : List ControllerAct) (g s n : ℕ) (a : Answer) �
     → Has x (left d h) → is_in_order (association_of (Answered g s n a ∷ h) x) ≡ true
 answered-sound p h g s n a l c d x i =
     answered-order x (has_answer PuttingIn x.serial h) (is_out_ordered x.serial h) (has_answer PuttingOut x.serial h)
-        (has_answer RemovingOut x.serial h) (is_ended x h) (is_spoiled x g (oldest (queue g h)) a (has_answer PuttingIn x.serial h)
-        (is_out_ordered x.serial h)) (is_answer_to PuttingIn x.serial (oldest (queue g h)))
-        (is_answer_to PuttingOut x.serial (oldest (queue g h))) (is_answer_to RemovingOut x.serial (oldest (queue g h)))
+    (has_answer RemovingOut x.serial h) (is_ended x h) (is_spoiled x g (oldest (queue g h)) a (has_answer PuttingIn x.serial h)
+    (is_out_ordered x.serial h)) (is_answer_to PuttingIn x.serial (oldest (queue g h)))
+    (is_answer_to PuttingOut x.serial (oldest (queue g h))) (is_answer_to RemovingOut x.serial (oldest (queue g h)))
     (λ t. let z = front p h l c g d x i PuttingOut t in
-        out-was-sent x.serial z.order (association_of h x) z.kind (state z.order z.waits.association z.same z.waits.state))
+    out-was-sent x.serial z.order (association_of h x) z.kind (state z.order z.waits.association z.same z.waits.state))
     (λ t. let z = front p h l c g d x i RemovingOut t in
-        out-was-removed x.serial z.order (association_of h x) z.kind (state z.order z.waits.association z.same z.waits.state))
+    out-was-removed x.serial z.order (association_of h x) z.kind (state z.order z.waits.association z.same z.waits.state))
     (c.sound d x i)
   where
     state : (o : ControllerOrder) (y : Association) → y ≡ x → is_awaited o (association_of h y) ≡ true
@@ -162,10 +170,10 @@ answered-few : (h : List ControllerAct) (g s n : ℕ) (a : Answer) (d : Way) →
 answered-few h g s n a d e =
     let q : Association → Bool = λ x. not (is_answer_to RemovingIn x.serial (oldest (queue g h))) in
     let b = rest-less (is_own d (left d (Answered g s n a ∷ h))) (is_own d (left d h))
-        (own-filter d (λ x. not (is_answer_to RemovingIn x.serial (oldest (queue g h)))) (left d h)) (d.sender == g) (queue d.sender h) in
+    (own-filter d (λ x. not (is_answer_to RemovingIn x.serial (oldest (queue g h)))) (left d h)) (d.sender == g) (queue d.sender h) in
     let c = rest-less (is_own d (left d (Answered g s n a ∷ h))) (is_own d (left d h))
-        (own-filter d (λ x. not (is_answer_to RemovingIn x.serial (oldest (queue g h)))) (left d h)) (d.receiver == g) (queue d.receiver h)
-        in
+    (own-filter d (λ x. not (is_answer_to RemovingIn x.serial (oldest (queue g h)))) (left d h)) (d.receiver == g) (queue d.receiver h)
+    in
     omega arith
 
 pub orderly-answered : (p : ℕ) (h : List ControllerAct) (g s n : ℕ) (a : Answer) → IsControllerPast p h → Orderly h

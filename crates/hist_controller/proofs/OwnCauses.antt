@@ -57,7 +57,7 @@ pub between-puts : (p : ℕ) (f r m g s n : ℕ) (x y : Association) (recent old
     → CauseAmong y.way recent (Ordered f r m (PutIn x) ∷ old)
 between-puts p f r m g s n x y recent old l e =
     wanted-among y.way recent (Ordered f r m (PutIn x) ∷ old) (put-not y.way x (is_wanted y.way old) e)
-        (put-wanted (recent ++ Ordered f r m (PutIn x) ∷ old) g y l.0.3).0
+    (put-wanted (recent ++ Ordered f r m (PutIn x) ∷ old) g y l.0.3).0
 
 -- between the command of a direction and its first inbound put too, or the command itself is one
 pub before-first-put : (p : ℕ) (g s n : ℕ) (y : Association) (c : PlacedCommand) (recent old : List ControllerAct)
@@ -224,4 +224,4 @@ ended-over d h k =
     let r = eq-own d.tunnel.reqid in
     let o : is_over d (Accepted (End d.tunnel.reqid) ∷ k.old) ≡ true = rw r refl in
     ap (is_over d) k.all ∙ (stays-over d k.recent (Accepted (End d.tunnel.reqid) ∷ k.old)
-        (still-made d (Accepted (End d.tunnel.reqid)) k.old k.made) o).1
+    (still-made d (Accepted (End d.tunnel.reqid)) k.old k.made) o).1

@@ -33,8 +33,15 @@ new-in-put h g s n x m = record {
   way = x.way;
   of = m.of;
   free = m.free;
-  waits = record { association = x; left = put-there x (left x.way h); of = refl; at = m.at; state = rw (eq-own x.serial) refl; newest =
-      λ t. rw (eq-own x.way.id) refl };
+  waits = record {
+    association = x;
+    left = put-there x (left x.way h);
+    of = refl;
+    at = m.at;
+    state = rw (eq-own x.serial) refl;
+    newest =
+        λ t. rw (eq-own x.way.id) refl;
+  };
 }
 
 not-gone : (i s d r e : Bool) → e ≡ false → ((not s || i) && (not d || s) && (not r || (e && s))) ≡ true → r ≡ false
@@ -181,8 +188,8 @@ ordered-each p h g s n z l m c f o (inl i) t =
       waits = move h (Ordered g s n z ∷ h) k.way f o k.waits
           (has-left x (left k.way h) (inbound_put k.way z) k.waits.left)
           (ordered-state o x (has_answer PuttingIn x.serial h) (is_out_ordered x.serial h) (has_answer PuttingOut x.serial h)
-              (has_answer RemovingOut x.serial h) (is_ended x h) (is_kind PuttingIn x.serial z) (is_kind PuttingOut x.serial z)
-              (no-in h g z x m (low p h l k.way x k.waits.left)) (no-out-put p h l g z m k.way k.of f o k.waits i) k.waits.state)
+          (has_answer RemovingOut x.serial h) (is_ended x h) (is_kind PuttingIn x.serial z) (is_kind PuttingOut x.serial z)
+          (no-in h g z x m (low p h l k.way x k.waits.left)) (no-out-put p h l g z m k.way k.of f o k.waits i) k.waits.state)
           (newest-same h g z m k.way k.of f o k.waits i);
     }
 ordered-each p h g s n z l m c f o (inr i) t =
@@ -249,9 +256,9 @@ ordered-few : (p : ℕ) (h : List ControllerAct) (g s n : ℕ) (z : ControllerOr
     → Orderly h → (d : Way) → Has d (directions h) → own-count d (Ordered g s n z ∷ h) ≤ 1
 ordered-few p h g s n z l c d i =
     let a = grown-count (is_own d (left d h ++ inbound_put d z)) (is_own d (left d h)) (queue d.sender h) z
-        (own-same p h l.1 c g z l.0.3 d d.sender) (d.sender == g) in
+    (own-same p h l.1 c g z l.0.3 d d.sender) (d.sender == g) in
     let b = grown-count (is_own d (left d h ++ inbound_put d z)) (is_own d (left d h)) (queue d.receiver h) z
-        (own-same p h l.1 c g z l.0.3 d d.receiver) (d.receiver == g) in
+    (own-same p h l.1 c g z l.0.3 d d.receiver) (d.receiver == g) in
     at (is_own d (left d h ++ inbound_put d z) z) refl a b
   where
     at : (t : Bool) → is_own d (left d h ++ inbound_put d z) z ≡ t
@@ -262,20 +269,20 @@ ordered-few p h g s n z l c d i =
         → own-count d (Ordered g s n z ∷ h) ≤ 1
     at false t a b =
         let a' : count (is_own d (left d h ++ inbound_put d z)) (if d.sender == g then queue d.sender h ++ z ∷ [] else queue d.sender h) ≡
-            count (is_own d (left d h)) (queue d.sender h) + (if (d.sender == g) && false then 1 else 0) = rw t at a in
+        count (is_own d (left d h)) (queue d.sender h) + (if (d.sender == g) && false then 1 else 0) = rw t at a in
         let b' : count (is_own d (left d h ++ inbound_put d z)) (if d.receiver == g then queue d.receiver h ++ z
-            ∷ [] else queue d.receiver h) ≡ count (is_own d (left d h)) (queue d.receiver h) + (if (d.receiver == g)
-            && false then 1 else 0) = rw t at b in
+        ∷ [] else queue d.receiver h) ≡ count (is_own d (left d h)) (queue d.receiver h) + (if (d.receiver == g)
+        && false then 1 else 0) = rw t at b in
         let x = none-added (d.sender == g) in
         let y = none-added (d.receiver == g) in
         let k = c.few d i in
         omega arith
     at true t a b =
         let a' : count (is_own d (left d h ++ inbound_put d z)) (if d.sender == g then queue d.sender h ++ z ∷ [] else queue d.sender h) ≡
-            count (is_own d (left d h)) (queue d.sender h) + (if (d.sender == g) && true then 1 else 0) = rw t at a in
+        count (is_own d (left d h)) (queue d.sender h) + (if (d.sender == g) && true then 1 else 0) = rw t at a in
         let b' : count (is_own d (left d h ++ inbound_put d z)) (if d.receiver == g then queue d.receiver h ++ z
-            ∷ [] else queue d.receiver h) ≡ count (is_own d (left d h)) (queue d.receiver h) + (if (d.receiver == g)
-            && true then 1 else 0) = rw t at b in
+        ∷ [] else queue d.receiver h) ≡ count (is_own d (left d h)) (queue d.receiver h) + (if (d.receiver == g)
+        && true then 1 else 0) = rw t at b in
         let w = new-owner p h l.1 c g s n z l.0.3 (own-half d (left d h ++ inbound_put d z) z t) in
         let e : d ≡ w.way = same-owner p (Ordered g s n z ∷ h) l d w.way g z i w.of t w.waits in
         let f : is_busy d h ≡ false = ap (λ y. is_busy y h) e ∙ w.free in
@@ -303,7 +310,7 @@ in-was-answered p h l g (PutIn y) m d x i t = cc
 in-was-answered p h l g (PutOut y) m d x i t =
     let e : x.serial ≡ y.serial = grind arith in
     ap (λ k. has_answer PuttingIn k h) e ∙ third-of-5 (is_in_progress h y) (not (is_out_ordered y.serial h))
-        (has_answer PuttingIn y.serial h) (is_read m.way.sender h) (is_read m.way.receiver h) m.may
+    (has_answer PuttingIn y.serial h) (is_read m.way.sender h) (is_read m.way.receiver h) m.may
 in-was-answered p h l g (RemoveIn n) m d x i t = cc
 in-was-answered p h l g (RemoveOut n) m d x i t = cc
 
@@ -320,7 +327,7 @@ ordered-sound p h g s n z l m c d x (inl i) = ordered-order x (has_answer Puttin
 ordered-sound p h g s n z l m c d x (inr i) =
     subst (λ y. is_in_order (association_of (Ordered g s n y ∷ h) x) ≡ true) (sym (put-one d x z i).0)
     (new-order x (has_answer PuttingIn x.serial h) (is_out_ordered x.serial h) (has_answer PuttingOut x.serial h)
-        (has_answer RemovingOut x.serial h) (is_ended x h) false (eq-own x.serial))
+    (has_answer RemovingOut x.serial h) (is_ended x h) false (eq-own x.serial))
 
 pub orderly-ordered : (p : ℕ) (h : List ControllerAct) (g s n : ℕ) (z : ControllerOrder) → IsControllerPast p (Ordered g s n z ∷ h)
     → Orderly h → Orderly (Ordered g s n z ∷ h)

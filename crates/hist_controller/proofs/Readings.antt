@@ -39,8 +39,11 @@ queued-opened g h f s false e k = record {
 }
 
 queued-cut : (g : ℕ) (h : List ControllerAct) (f s : ℕ) (b : Bool) → (g == f) ≡ b → Queued g h → Queued g (Cut f s ∷ h)
-queued-cut g h f s true e k = record { find = λ j o w. absurd (no o (rw e at w)); count = λ w. absurd (let w' : false ≡ true = rw e at w in
-    cc) }
+queued-cut g h f s true e k = record {
+  find = λ j o w. absurd (no o (rw e at w));
+  count = λ w. absurd (let w' : false ≡ true = rw e at w in
+      cc);
+}
 queued-cut g h f s false e k = record { find = λ j o w. k.find j o (rw e at w); count = λ w. rw e (k.count (rw e at w)) }
 
 queued-answered : (g : ℕ) (h : List ControllerAct) (f s i : ℕ) (a : Answer) (z : ControllerOrder) → oldest (queue f h) ≡ Some z → (b : Bool)
@@ -72,18 +75,18 @@ queued-ordered g h f s i z es ei v true e k =
     record {
       find = λ j o w. elim (place-old j (queue g h) z o (rw e at w)) as (λ t. numbered g (openings g h) (answered g h + 1 + j)
           (Ordered f s i z ∷ h) ≡ Some o) [
-        | inl p ↦
-            let a : j < length (queue g h) = p.0 in
-            let n : (answered g h + 1 + j == i) ≡ false = grind arith in
-            let r = k.find j o p.1 in
-            let u : (openings g h == s) ≡ true = grind arith in
-            rw (e, u, n) r
-        | inr p ↦
-            let a : j ≡ length (queue g h) = p.0 in
-            let n : (answered g h + 1 + j == i) ≡ true = grind arith in
-            let u : (openings g h == s) ≡ true = grind arith in
-            rw (e, u, n) (ap Some p.1)
-      ];
+            | inl p ↦
+                let a : j < length (queue g h) = p.0 in
+                let n : (answered g h + 1 + j == i) ≡ false = grind arith in
+                let r = k.find j o p.1 in
+                let u : (openings g h == s) ≡ true = grind arith in
+                rw (e, u, n) r
+            | inr p ↦
+                let a : j ≡ length (queue g h) = p.0 in
+                let n : (answered g h + 1 + j == i) ≡ true = grind arith in
+                let u : (openings g h == s) ≡ true = grind arith in
+                rw (e, u, n) (ap Some p.1)
+          ];
       count = λ w. let l = length-more (queue g h) z in rw e (omega arith);
     }
 queued-ordered g h f s i z es ei v false e k = record { find = λ j o w. rw e (k.find j o (rw e at w)); count = λ w. rw e (k.count w) }

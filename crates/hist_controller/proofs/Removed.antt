@@ -40,9 +40,9 @@ stays-left (Answered g s n a ∷ h) d x i =
 stays-left (Heard g s t ∷ h) d x i = stays-left h d x i
 stays-left (Ordered g s n o ∷ h) d x i = elim (has-more x (left d h) (inbound_put d o) i) as
     (λ z. (not (is_kind PuttingIn x.serial o) && has_answer RemovingIn x.serial h) ≡ false) [
-  | inl j ↦ and-no (not (is_kind PuttingIn x.serial o)) (has_answer RemovingIn x.serial h) (stays-left h d x j)
-  | inr j ↦ rw ((put-one d x o j).0, eq-own x.serial) refl
-]
+      | inl j ↦ and-no (not (is_kind PuttingIn x.serial o)) (has_answer RemovingIn x.serial h) (stays-left h d x j)
+      | inr j ↦ rw ((put-one d x o j).0, eq-own x.serial) refl
+    ]
 stays-left (Accepted c ∷ h) d x i = stays-left h d x (has-if x _ (left d h) i).1
 stays-left (Refused w ∷ h) d x i = stays-left h d x i
 
@@ -184,7 +184,7 @@ live-answered k n g f h m b e (inl z) = inl z
 live-answered k n g f h m true e (inr (inl x)) =
     let q : g ≡ f = grind arith in
     inr (subst (λ c. (list_any (is_kind k n) (rest (queue g h)) ≡ true)
-        ⊎ ((is_answer_to k n (oldest (queue c h)) || has_answer k n h) ≡ true)) q (any-rest k n (queue g h) (has_answer k n h) x))
+    ⊎ ((is_answer_to k n (oldest (queue c h)) || has_answer k n h) ≡ true)) q (any-rest k n (queue g h) (has_answer k n h) x))
 live-answered k n g f h m false e (inr (inl x)) = inr (inl x)
 live-answered k n g f h m b e (inr (inr y)) = inr (inr (or-right (is_answer_to k n (oldest (queue f h))) (has_answer k n h) y))
 
@@ -264,11 +264,11 @@ sparing-out p n g h f s i (RemoveOut q) l v m c = either (n == q) refl
         let w : n ≡ m.association.serial = nq ∙ m.name in
         let b = low p h l m.way m.association m.left in
         let d = not-gone (is_ended m.association h) (is_out_ordered m.association.serial h) (has_answer RemovingOut m.association.serial h)
-            (is_read m.way.sender h) m.may in
+        (is_read m.way.sender h) m.may in
         let t = neither (list_any (is_own m.way (left m.way h)) (queue m.way.sender h))
-            (list_any (is_own m.way (left m.way h)) (queue m.way.receiver h)) m.free in
+        (list_any (is_own m.way (left m.way h)) (queue m.way.receiver h)) m.free in
         let y = any-not (is_kind RemovingOut m.association.serial) (is_own m.way (left m.way h)) (queue m.way.sender h)
-            (own-out m.way m.association (left m.way h) m.left) t.0 in
+        (own-out m.way m.association (left m.way h) m.left) t.0 in
         sparing-such RemovingOut n g h f s i (RemoveOut q) e refl (omega arith) refl v (rw (w, m.at) y) (rw w d) (g == f) refl c
 
 sparing-in : (p n g : ℕ) (h : List ControllerAct) (f s i : ℕ) (o : ControllerOrder) → IsControllerPast p h → is_open f h ≡ true
@@ -288,9 +288,9 @@ sparing-in p n g h f s i (RemoveIn q) l v m c = either (n == q) refl
         let b = low p h l m.way m.association m.left in
         let d = stays-left h m.way m.association m.left in
         let t = neither (list_any (is_own m.way (left m.way h)) (queue m.way.sender h))
-            (list_any (is_own m.way (left m.way h)) (queue m.way.receiver h)) m.free in
+        (list_any (is_own m.way (left m.way h)) (queue m.way.receiver h)) m.free in
         let y = any-not (is_kind RemovingIn m.association.serial) (is_own m.way (left m.way h)) (queue m.way.receiver h)
-            (own-in m.way m.association (left m.way h) m.left) t.1 in
+        (own-in m.way m.association (left m.way h) m.left) t.1 in
         sparing-such RemovingIn n g h f s i (RemoveIn q) e refl (omega arith) refl v (rw (w, m.at) y) (rw w d) (g == f) refl c
 
 -- the order given, for each of the two
@@ -299,8 +299,14 @@ Step k p = (n g : ℕ) (h : List ControllerAct) (f s i : ℕ) (o : ControllerOrd
     → Sparing k n g h → Sparing k n g (Ordered f s i o ∷ h)
 
 sparing : (k : Kind) (p n g : ℕ) → Step k p → (h : List ControllerAct) → IsControllerPast p h → Sparing k n g h
-sparing k p n g t [] l = record { now = omega arith; within = omega arith; fresh = λ w. refl; live = λ w. inl refl; all = omega arith;
-    less = λ w v. cc }
+sparing k p n g t [] l = record {
+  now = omega arith;
+  within = omega arith;
+  fresh = λ w. refl;
+  live = λ w. inl refl;
+  all = omega arith;
+  less = λ w v. cc;
+}
 sparing k p n g t (Opened f s ∷ h) l = sparing-opened k n g h f s (g == f) refl (sparing k p n g t h l.1)
 sparing k p n g t (Cut f s ∷ h) l = sparing-cut k n g h f s (g == f) refl (sparing k p n g t h l.1)
 sparing k p n g t (Answered f s i a ∷ h) l = sparing-answered k n g h f s i a (sparing k p n g t h l.1)

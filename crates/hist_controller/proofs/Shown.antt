@@ -29,12 +29,20 @@ use Rattle.hist_controller.specs.Told.{between, all_told}
 
 -- 2001:db8:1::/48 behind a, 2001:db8:2::/48 behind b
 pub behind_a : Prefix
-behind_a = record { addr = V6 (32 ∷ 1 ∷ 13 ∷ 184 ∷ 0 ∷ 1 ∷ 0 ∷ 0 ∷ 0 ∷ 0 ∷ 0 ∷ 0 ∷ 0 ∷ 0 ∷ 0 ∷ 0 ∷ []); len = 48; in_range = lit≤ tt;
-    cleared = refl }
+behind_a = record {
+  addr = V6 (32 ∷ 1 ∷ 13 ∷ 184 ∷ 0 ∷ 1 ∷ 0 ∷ 0 ∷ 0 ∷ 0 ∷ 0 ∷ 0 ∷ 0 ∷ 0 ∷ 0 ∷ 0 ∷ []);
+  len = 48;
+  in_range = lit≤ tt;
+  cleared = refl;
+}
 
 pub behind_b : Prefix
-behind_b = record { addr = V6 (32 ∷ 1 ∷ 13 ∷ 184 ∷ 0 ∷ 2 ∷ 0 ∷ 0 ∷ 0 ∷ 0 ∷ 0 ∷ 0 ∷ 0 ∷ 0 ∷ 0 ∷ 0 ∷ []); len = 48; in_range = lit≤ tt;
-    cleared = refl }
+behind_b = record {
+  addr = V6 (32 ∷ 1 ∷ 13 ∷ 184 ∷ 0 ∷ 2 ∷ 0 ∷ 0 ∷ 0 ∷ 0 ∷ 0 ∷ 0 ∷ 0 ∷ 0 ∷ 0 ∷ 0 ∷ []);
+  len = 48;
+  in_range = lit≤ tt;
+  cleared = refl;
+}
 
 abbrev peers : List Peer
 peers = record { name = codes "a"; address = V4 (192 ∷ 0 ∷ 2 ∷ 1 ∷ []) }
@@ -57,8 +65,17 @@ spent = record { time = 3600; bytes = 88; packets = 1; idle = 3600 }
 
 -- a tunnel between two gateways, of a lifetime of 3600 seconds
 abbrev pub spec : Bool → List ℕ → List ℕ → TunnelSpec
-spec now first second = record { reqid = 10; now = now; first = first; second = second; first_prefix = behind_a; second_prefix = behind_b;
-    window = 64; hard = limits 0; soft = limits 3600 }
+spec now first second = record {
+  reqid = 10;
+  now = now;
+  first = first;
+  second = second;
+  first_prefix = behind_a;
+  second_prefix = behind_b;
+  window = 64;
+  hard = limits 0;
+  soft = limits 3600;
+}
 
 abbrev pub t : TunnelSpec
 t = spec true (codes "a") (codes "b")
@@ -219,16 +236,16 @@ unfolding asked_for
 acquired =
     policy_a ∷ Told (commands.Keys k1) ∷ Opens 0 ∷ Opens 1 ∷ Answers 0 (reading []) ∷ Answers 0 (plain 204) ∷ Answers 1 (reading [])
     ∷ Notices 0 (notices.Acquire (codes "o1") flow) ∷ Told (commands.Tunnel asked_for) ∷ Notices 1 (notices.Acquire (codes "o1") flow)
-        ∷ Notices 0 (notices.Acquire (codes "o2") flow) ∷ Notices 0 (notices.Acquire (codes "o1") flow)
-        ∷ Notices 0 (notices.Acquire (codes "o1") flow) ∷ Told (commands.Keys k2) ∷ Told (commands.End 10) ∷ Answers 1 (plain 201)
-        ∷ Answers 1 (plain 204) ∷ []
+    ∷ Notices 0 (notices.Acquire (codes "o2") flow) ∷ Notices 0 (notices.Acquire (codes "o1") flow)
+    ∷ Notices 0 (notices.Acquire (codes "o1") flow) ∷ Told (commands.Keys k2) ∷ Told (commands.End 10) ∷ Answers 1 (plain 201)
+    ∷ Answers 1 (plain 204) ∷ []
 
 shown-acquire : history peers [] acquired ≡
     Accepted (SetPolicy 0 list_a) ∷ Accepted (Keys k1)
     ∷ Opened 0 1 ∷ Ordered 0 1 1 Read ∷ Ordered 0 1 2 (Policy list_a) ∷ Opened 1 1 ∷ Ordered 1 1 1 Read
     ∷ Answered 0 1 1 (reading []) ∷ Answered 0 1 2 (plain 204) ∷ Answered 1 1 1 (reading [])
     ∷ Heard 0 1 (notices.Acquire (codes "o1") flow) ∷ Accepted (Tunnel (at asked_for)) ∷ Heard 1 1 (notices.Acquire (codes "o1") flow)
-        ∷ Heard 0 1 (notices.Acquire (codes "o2") flow)
+    ∷ Heard 0 1 (notices.Acquire (codes "o2") flow)
     ∷ Heard 0 1 (notices.Acquire (codes "o1") flow) ∷ Ordered 1 1 2 (PutIn (half 1 k1 asked_ab))
     ∷ Heard 0 1 (notices.Acquire (codes "o1") flow) ∷ Accepted (Keys k2)
     ∷ Accepted (End 10) ∷ Answered 1 1 2 (plain 201) ∷ Ordered 1 1 3 (RemoveIn 1)
@@ -240,16 +257,16 @@ shown-acquire = refl
 refused : List ControllerEvent
 refused =
     Told (commands.Keys k1) ∷ Told (commands.Keys k1) ∷ Told (commands.Keys (k1 ++ k1 ++ take 16 k1)) ∷ Told (commands.Rekey 9)
-        ∷ Told (commands.Tunnel (spec true (codes "a") (codes "a")))
+    ∷ Told (commands.Tunnel (spec true (codes "a") (codes "a")))
     ∷ Told (commands.Tunnel (spec true (codes "a") (codes "c"))) ∷ Told (commands.Tunnel t) ∷ Told (commands.Tunnel t)
-        ∷ Told (commands.Policy (codes "c") []) ∷ Told (commands.End 10) ∷ Told (commands.Rekey 10) ∷ Told (commands.Tunnel t)
+    ∷ Told (commands.Policy (codes "c") []) ∷ Told (commands.End 10) ∷ Told (commands.Rekey 10) ∷ Told (commands.Tunnel t)
     ∷ Told (commands.Keys (take 16 k1 ++ 0 ∷ 0 ∷ 0 ∷ 0 ∷ [])) ∷ []
 
 shown-refused : history peers [] refused ≡
     Accepted (Keys k1) ∷ Refused refusals.KeySeen ∷ Refused refusals.KeyLength ∷ Refused refusals.NoTunnel ∷ Refused refusals.SameGateway
-        ∷ Refused refusals.UnknownGateway
+    ∷ Refused refusals.UnknownGateway
     ∷ Accepted (Tunnel (at t)) ∷ Refused refusals.TunnelExists ∷ Refused refusals.UnknownGateway ∷ Accepted (End 10)
-        ∷ Refused refusals.NoTunnel ∷ Accepted (Tunnel (at t))
+    ∷ Refused refusals.NoTunnel ∷ Accepted (Tunnel (at t))
     ∷ Refused refusals.KeySeen ∷ []
 unfolding refused in_name out_name k1 k2 k3 k4 digits
 shown-refused = refl
@@ -259,9 +276,9 @@ renewed : List ControllerEvent
 unfolding asked_for
 renewed =
     policy_a ∷ Told (commands.Keys k1) ∷ Told (commands.Keys k2) ∷ Told (commands.Keys k3) ∷ Told (commands.Tunnel asked_for) ∷ Opens 0
-        ∷ Opens 1 ∷ Answers 0 (reading []) ∷ Answers 0 (plain 204) ∷ Answers 1 (reading [])
+    ∷ Opens 1 ∷ Answers 0 (reading []) ∷ Answers 0 (plain 204) ∷ Answers 1 (reading [])
     ∷ Notices 0 (notices.Acquire (codes "o1") flow) ∷ Notices 0 (notices.Acquire (codes "o1") flow) ∷ Answers 1 (plain 201)
-        ∷ Answers 0 (plain 201) ∷ Told (commands.Rekey 10) ∷ []
+    ∷ Answers 0 (plain 201) ∷ Told (commands.Rekey 10) ∷ []
 
 shown-renew : history peers [] renewed ≡
     Accepted (SetPolicy 0 list_a) ∷ Accepted (Keys k1) ∷ Accepted (Keys k2) ∷ Accepted (Keys k3) ∷ Accepted (Tunnel (at asked_for))
@@ -281,10 +298,10 @@ abandoned : List ControllerEvent
 unfolding asked_for
 abandoned =
     policy_a ∷ Told (commands.Keys k1) ∷ Told (commands.Keys k2) ∷ Told (commands.Tunnel asked_for) ∷ Opens 0 ∷ Opens 1
-        ∷ Answers 0 (reading []) ∷ Answers 0 (plain 204) ∷ Answers 1 (reading [])
+    ∷ Answers 0 (reading []) ∷ Answers 0 (plain 204) ∷ Answers 1 (reading [])
     ∷ Notices 0 (notices.Acquire (codes "o1") flow) ∷ Cuts 0 ∷ Notices 1 (notices.BadSpi 257) ∷ Answers 1 (plain 201)
-        ∷ Answers 1 (reading []) ∷ Answers 1 (plain 204) ∷ Opens 0 ∷ Answers 0 (reading []) ∷ Answers 1 (denied) ∷ Answers 1 (plain 204)
-        ∷ []
+    ∷ Answers 1 (reading []) ∷ Answers 1 (plain 204) ∷ Opens 0 ∷ Answers 0 (reading []) ∷ Answers 1 (denied) ∷ Answers 1 (plain 204)
+    ∷ []
 
 shown-abandon : history peers [] abandoned ≡
     Accepted (SetPolicy 0 list_a) ∷ Accepted (Keys k1) ∷ Accepted (Keys k2) ∷ Accepted (Tunnel (at asked_for))
@@ -308,9 +325,9 @@ shown-abandon = refl
 replaced : List ControllerEvent
 replaced =
     Told (commands.Keys k3) ∷ Told (commands.Keys k4) ∷ Notices 1 (notices.Expire (codes "in/1") true spent) ∷ Answers 1 (plain 201)
-        ∷ Answers 0 (plain 201)
+    ∷ Answers 0 (plain 201)
     ∷ Notices 1 (notices.BadSpi 257) ∷ Answers 1 (reading (codes "out/2" ∷ codes "in/3" ∷ [])) ∷ Answers 0 (plain 204)
-        ∷ Answers 1 (plain 204) ∷ []
+    ∷ Answers 1 (plain 204) ∷ []
 
 shown-replaced : history peers (after [] up) replaced ≡
     Accepted (Keys k3) ∷ Accepted (Keys k4)
@@ -365,9 +382,9 @@ shown-never-ordered = refl
 outrun : List ControllerEvent
 outrun =
     Told (commands.Keys k3) ∷ Told (commands.Keys k4) ∷ Notices 0 (notices.Expire (codes "in/1") true spent)
-        ∷ Notices 0 (notices.SeqOverflow (codes "out/1"))
+    ∷ Notices 0 (notices.SeqOverflow (codes "out/1"))
     ∷ Notices 1 (notices.Expire (codes "in/1") false spent) ∷ Answers 1 (plain 201) ∷ Answers 0 (plain 201) ∷ Answers 0 (plain 204)
-        ∷ Answers 1 (plain 204) ∷ []
+    ∷ Answers 1 (plain 204) ∷ []
 
 shown-outrun : history peers (after [] up) outrun ≡
     Accepted (Keys k3) ∷ Accepted (Keys k4) ∷ Heard 0 1 (notices.Expire (codes "in/1") true spent)
@@ -390,10 +407,10 @@ renewed_late : List ControllerEvent
 unfolding asked_for
 renewed_late =
     Told (commands.Policy (codes "a") other_list) ∷ Told (commands.Keys k1) ∷ Told (commands.Keys k2) ∷ Told (commands.Keys k3)
-        ∷ Told (commands.Tunnel asked_for) ∷ Opens 0 ∷ Opens 1 ∷ Answers 0 (reading []) ∷ Answers 0 (plain 204) ∷ Answers 1 (reading [])
+    ∷ Told (commands.Tunnel asked_for) ∷ Opens 0 ∷ Opens 1 ∷ Answers 0 (reading []) ∷ Answers 0 (plain 204) ∷ Answers 1 (reading [])
     ∷ Notices 0 (notices.Acquire (codes "o1") flow) ∷ policy_a ∷ Notices 0 (notices.Acquire (codes "o1") flow) ∷ Answers 1 denied
     ∷ Notices 1 (notices.Expire (codes "in/1") true spent) ∷ Answers 1 absent ∷ Notices 0 (notices.Acquire (codes "o1") flow)
-        ∷ Answers 1 denied
+    ∷ Answers 1 denied
     ∷ Notices 0 (notices.Acquire (codes "o1") flow) ∷ Answers 1 absent ∷ []
 
 shown-renew-late : history peers [] renewed_late ≡
@@ -419,9 +436,9 @@ waited : List ControllerEvent
 unfolding asked_for
 waited =
     policy_a ∷ Told (commands.Keys k1) ∷ Told (commands.Tunnel asked_for) ∷ Opens 0 ∷ Opens 1 ∷ Answers 0 (reading [])
-        ∷ Answers 0 (plain 204) ∷ Answers 1 (reading [])
+    ∷ Answers 0 (plain 204) ∷ Answers 1 (reading [])
     ∷ Notices 0 (notices.Acquire (codes "o1") flow) ∷ Cuts 0 ∷ Answers 1 (plain 201) ∷ Cuts 1 ∷ Opens 0 ∷ Answers 0 (reading []) ∷ Opens 1
-        ∷ Answers 1 (reading (codes "in/1" ∷ [])) ∷ []
+    ∷ Answers 1 (reading (codes "in/1" ∷ [])) ∷ []
 
 shown-wait : history peers [] waited ≡
     Accepted (SetPolicy 0 list_a) ∷ Accepted (Keys k1) ∷ Accepted (Tunnel (at asked_for))
@@ -463,7 +480,7 @@ ended_early =
 
 shown-ended-early : history peers [] ended_early ≡
     Accepted (Tunnel (at t)) ∷ Opened 0 1 ∷ Ordered 0 1 1 Read ∷ Opened 1 1 ∷ Ordered 1 1 1 Read ∷ Answered 0 1 1 (reading [])
-        ∷ Answered 1 1 1 (reading [])
+    ∷ Answered 1 1 1 (reading [])
     ∷ Accepted (End 10) ∷ Accepted (Keys k1)
     ∷ Accepted (Tunnel (at t)) ∷ Ordered 1 1 2 (PutIn (half 1 k1 again_ab))
     ∷ Accepted (Keys k2) ∷ Ordered 0 1 2 (PutIn (half 2 k2 again_ba)) ∷ Accepted (Keys k3)
@@ -477,8 +494,17 @@ unfolding k1 k2
 k5 = take 16 k1 ++ k2
 
 abbrev second : TunnelSpec
-second = record { reqid = 20; now = false; first = codes "a"; second = codes "b"; first_prefix = behind_a; second_prefix = behind_b;
-    window = 64; hard = limits 0; soft = limits 0 }
+second = record {
+  reqid = 20;
+  now = false;
+  first = codes "a";
+  second = codes "b";
+  first_prefix = behind_a;
+  second_prefix = behind_b;
+  window = 64;
+  hard = limits 0;
+  soft = limits 0;
+}
 
 abbrev second_ab : Way
 second_ab = record { id = 2; tunnel = second; sender = 0; receiver = 1; near = behind_a; far = behind_b }
@@ -592,12 +618,12 @@ shown-emptied = refl
 long_keys : List ControllerEvent
 long_keys =
     Told (commands.Keys k5) ∷ Told (commands.Keys (take 32 k5 ++ 9 ∷ 9 ∷ 9 ∷ 9 ∷ [])) ∷ Told (commands.Keys k1) ∷ Told (commands.Tunnel t)
-        ∷ Opens 0 ∷ Opens 1 ∷ Answers 0 (reading [])
+    ∷ Opens 0 ∷ Opens 1 ∷ Answers 0 (reading [])
     ∷ Answers 1 (reading []) ∷ Answers 1 (plain 201) ∷ []
 
 shown-long-keys : history peers [] long_keys ≡
     Accepted (Keys k5) ∷ Refused refusals.KeySeen ∷ Accepted (Keys k1) ∷ Accepted (Tunnel (at t)) ∷ Opened 0 1 ∷ Ordered 0 1 1 Read
-        ∷ Opened 1 1
+    ∷ Opened 1 1
     ∷ Ordered 1 1 1 Read ∷ Answered 0 1 1 (reading []) ∷ Answered 1 1 1 (reading []) ∷ Ordered 1 1 2 (PutIn (half 1 k5 ab))
     ∷ Ordered 0 1 2 (PutIn (half 2 k1 ba)) ∷ Answered 1 1 2 (plain 201) ∷ Ordered 0 1 3 (PutOut (half 1 k5 ab)) ∷ []
 unfolding long_keys in_name out_name k1 k2 k3 k4 k5 digits
@@ -623,7 +649,7 @@ shown-uncounted = refl
 refused_first : List ControllerEvent
 refused_first =
     Told (commands.Tunnel t) ∷ Told (commands.Tunnel (spec true (codes "c") (codes "c")))
-        ∷ Told (commands.Tunnel (spec true (codes "b") (codes "b")))
+    ∷ Told (commands.Tunnel (spec true (codes "b") (codes "b")))
     ∷ Told (commands.Tunnel (spec true (codes "b") (codes "a"))) ∷ []
 
 shown-refused-first : history peers [] refused_first ≡
@@ -663,8 +689,20 @@ shown-key-first h e n = let l : is_key_length (length k1) ≡ true = k1-long in 
 -- ## as a transcript has them
 
 entry_of : List ℕ → ℕ → Prefix → Prefix → List ℕ → List ℕ → List ℕ → SadEntry
-entry_of name spi own other key local remote = record { name = name; reqid = 10; spi = spi; window = 64; selector = between own other; key =
-    key; local = V4 local; remote = V4 remote; df = df.Copy; hard = limits 0; soft = limits 3600 }
+entry_of name spi own other key local remote = record {
+  name = name;
+  reqid = 10;
+  spi = spi;
+  window = 64;
+  selector = between own other;
+  key =
+      key;
+  local = V4 local;
+  remote = V4 remote;
+  df = df.Copy;
+  hard = limits 0;
+  soft = limits 3600;
+}
 
 at_a : List ℕ
 at_a = 192 ∷ 0 ∷ 2 ∷ 1 ∷ []
@@ -681,9 +719,9 @@ shown-told : all_told peers begun ≡
     ∷ acts.Order (codes "a") 1 3 (orders.Put (entry_of (codes "in/2") 258 behind_a behind_b k2 at_a at_b))
     ∷ acts.Answered (codes "b") 1 2 (plain 204)
     ∷ acts.Answered (codes "b") 1 3 (plain 201)
-        ∷ acts.Order (codes "a") 1 4 (orders.Put (entry_of (codes "out/1") 257 behind_a behind_b k1 at_a at_b))
+    ∷ acts.Order (codes "a") 1 4 (orders.Put (entry_of (codes "out/1") 257 behind_a behind_b k1 at_a at_b))
     ∷ acts.Answered (codes "a") 1 3 (plain 201)
-        ∷ acts.Order (codes "b") 1 4 (orders.Put (entry_of (codes "out/2") 258 behind_b behind_a k2 at_b at_a))
+    ∷ acts.Order (codes "b") 1 4 (orders.Put (entry_of (codes "out/2") 258 behind_b behind_a k2 at_b at_a))
     ∷ []
 unfolding begun entry_of at_a at_b in_name out_name k1 k2 k3 k4 digits
 shown-told = refl

@@ -55,7 +55,7 @@ none-put h g (PutIn x) m d i o = at (d.id == x.way.id) refl
     at true t =
         let e = one-way h d x.way i m.of (equal d.id x.way.id t) in
         absurd (owed-open (is_wanted x.way h) (is_over x.way h) (is_read x.way.sender h) (is_read x.way.receiver h) m.may
-            (ap (λ y. is_over y h) (sym e) ∙ o))
+        (ap (λ y. is_over y h) (sym e) ∙ o))
     at false t = refl
 none-put h g (PutOut x) m d i o = refl
 none-put h g (RemoveIn n) m d i o = refl
@@ -68,8 +68,11 @@ over-step p h (Cut g s) l d i k = record { over = k.over; left = k.left }
 over-step p h (Answered g s n a) l d i k =
     record { over = k.over; left = ap (filter (λ x. not (is_answer_to RemovingIn x.serial (oldest (queue g h))))) k.left }
 over-step p h (Heard g s t) l d i k = record { over = k.over; left = k.left }
-over-step p h (Ordered g s n z) l d i k = record { over = k.over; left = ap (λ t. t ++ inbound_put d z) k.left
-    ∙ none-put h g z l.0.3 d i k.over }
+over-step p h (Ordered g s n z) l d i k = record {
+  over = k.over;
+  left = ap (λ t. t ++ inbound_put d z) k.left
+      ∙ none-put h g z l.0.3 d i k.over;
+}
 over-step p h (Accepted c) l d i k =
     let e = old-made h c d i in
     record { over = rw e (or-right (is_end_of d.tunnel.reqid c) (is_over d h) k.over); left = rw e k.left }
@@ -255,7 +258,7 @@ forgets-pass p h l (d ∷ e ∷ ds) _ f (keeps _ _ _ ks k) =
     let f2 = known-give (after h (give h d)) e ds f1 in
     let k2 = forgets-give p (after h (give h d)) l1 e j ds ks f1 k1 in
     ap (λ os. give h d ++ (give (after h (give h d)) e ++ os)) (forgets-pass p (after (after h (give h d)) (give (after h (give h d)) e)) l2
-        ds ks f2 k2)
+    ds ks f2 k2)
 forgets-pass p h l (d ∷ e ∷ ds) _ f (drops _ _ _ ks u v k) = pass-none h d (e ∷ ds) (spent-gives h d u)
     ∙ (pass-none h e ds (spent-gives h e v) ∙ forgets-pass p h l ds ks (λ c q. f c (inr (inr q))) k)
 
@@ -350,7 +353,7 @@ short-answer p h l g a [] e = omega arith
 short-answer p h l g a (o ∷ os) e =
     let b : ControllerAct = Answered g (openings g h) (answered g h + 1) a in
     few-more (Answered g (openings g h) (answered g h + 1) a) (asked_then (Answered g (openings g h) (answered g h + 1) a ∷ h) [])
-        (few-asked p (Answered g (openings g h) (answered g h + 1) a ∷ h) [] ((o, ap oldest e, refl, refl), l) tt (omega arith))
+    (few-asked p (Answered g (openings g h) (answered g h + 1) a ∷ h) [] ((o, ap oldest e, refl, refl), l) tt (omega arith))
 
 pub short-block : (ps : List Peer) (h : List ControllerAct) (e : ControllerEvent) → IsControllerPast (length ps) h
     → length (block ps h e) ≤ 2051
@@ -359,18 +362,18 @@ short-block ps h (Opens g) l =
     short-if (is_open g h) [] (going h (Opened g (openings g h + 1))) 2051
     (λ o. omega arith)
     (λ o. few-more (Opened g (openings g h + 1))
-        (asked_then (Opened g (openings g h + 1) ∷ h) (read_put (Opened g (openings g h + 1) ∷ h) g))
-        (few-asked (length ps) (Opened g (openings g h + 1) ∷ h) (read_put (Opened g (openings g h + 1) ∷ h) g) ((o, refl), l)
-        (may-read-put (length ps) h g (openings g h + 1)) (short-read (Opened g (openings g h + 1) ∷ h) g)))
+    (asked_then (Opened g (openings g h + 1) ∷ h) (read_put (Opened g (openings g h + 1) ∷ h) g))
+    (few-asked (length ps) (Opened g (openings g h + 1) ∷ h) (read_put (Opened g (openings g h + 1) ∷ h) g) ((o, refl), l)
+    (may-read-put (length ps) h g (openings g h + 1)) (short-read (Opened g (openings g h + 1) ∷ h) g)))
 short-block ps h (Cuts g) l =
     short-if (is_open g h) (going h (Cut g (openings g h))) [] 2051
     (λ o. few-more (Cut g (openings g h)) (asked_then (Cut g (openings g h) ∷ h) []) (few-asked (length ps) (Cut g (openings g h) ∷ h) []
-        ((o, refl), l) tt (omega arith)))
+    ((o, refl), l) tt (omega arith)))
     (λ o. omega arith)
 short-block ps h (Answers g a) l = short-answer (length ps) h l g a (queue g h) refl
 short-block ps h (Notices g t) l =
     short-if (is_open g h) (going h (Heard g (openings g h) t)) [] 2051
     (λ o. few-more (Heard g (openings g h) t) (asked_then (Heard g (openings g h) t ∷ h) (by_notice (Heard g (openings g h) t ∷ h) g t))
-        (few-asked (length ps) (Heard g (openings g h) t ∷ h) (by_notice (Heard g (openings g h) t ∷ h) g t) ((o, refl), l)
-        (may-notice (length ps) h g (openings g h) t refl o) (short-notice (Heard g (openings g h) t ∷ h) g t)))
+    (few-asked (length ps) (Heard g (openings g h) t ∷ h) (by_notice (Heard g (openings g h) t ∷ h) g t) ((o, refl), l)
+    (may-notice (length ps) h g (openings g h) t refl o) (short-notice (Heard g (openings g h) t ∷ h) g t)))
     (λ o. omega arith)

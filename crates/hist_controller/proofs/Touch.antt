@@ -82,9 +82,9 @@ cut-part p h l d i g s e =
       busy = rw (w0, w1) refl;
       each = λ x j.
           let b = any-none (λ o. is_kind PuttingIn x.serial o || is_kind PuttingOut x.serial o) (queue g h)
-              (λ o q. rw (none-of p h l d i g e x j PuttingIn o q, none-of p h l d i g e x j PuttingOut o q) refl) in
+          (λ o q. rw (none-of p h l d i g e x j PuttingIn o q, none-of p h l d i g e x j PuttingOut o q) refl) in
           ap (λ t. kept x (has_answer PuttingIn x.serial h) (is_out_ordered x.serial h) (has_answer PuttingOut x.serial h)
-              (has_answer RemovingOut x.serial h) (t || is_ended x h)) b;
+          (has_answer RemovingOut x.serial h) (t || is_ended x h)) b;
       left = refl;
       sender = rw w0 refl;
       receiver = rw w1 refl;
@@ -137,7 +137,7 @@ not-spoiled p h l d i g e x j a done sent = at (oldest (queue g h)) refl
         let q = oldest-has (queue g h) (PutOut y) t in
         let n : (x.serial == y.serial) ≡ false = none-of p h l d i g e x j PuttingOut (PutOut y) q in
         both-no (x.serial == y.serial) (nat_le 400 a.status) (x.way.id == y.way.id) (nat_lt x.serial y.serial) (a.status == 201) n
-            (other-way y q)
+        (other-way y q)
     at (Some (RemoveIn n)) t = refl
     at (Some (RemoveOut n)) t = refl
 
@@ -175,8 +175,8 @@ answered-part p h l d i g s n a e =
     let w0 = w.0 in
     let w1 = w.1 in
     let f : filter (λ x. not (is_answer_to RemovingIn x.serial (oldest (queue g h)))) (left d h) ≡ left d h =
-        filter-all (λ x. not (is_answer_to RemovingIn x.serial (oldest (queue g h)))) (left d h)
-        (λ x j. ap not (no-answer p h l d i g e x j RemovingIn)) in
+    filter-all (λ x. not (is_answer_to RemovingIn x.serial (oldest (queue g h)))) (left d h)
+    (λ x j. ap not (no-answer p h l d i g e x j RemovingIn)) in
     record {
       busy = rw (w0, w1) (left-busy h d (filter (λ x. not (is_answer_to RemovingIn x.serial (oldest (queue g h)))) (left d h)) f);
       each = λ x j. same-answered x (has_answer PuttingIn x.serial h) (is_out_ordered x.serial h) (has_answer PuttingOut x.serial h)
@@ -201,8 +201,16 @@ no-notice h d g e (notices.SeqOverflow name) = let w = other-gateway d g e in le
 no-notice h d g e (notices.BadSpi s) = refl
 
 heard-part : (h : List ControllerAct) (d : Way) (g s : ℕ) (t : Notice) → is_of_way d g ≡ false → SamePart h (Heard g s t ∷ h) d
-heard-part h d g s t e = record { busy = refl; each = λ x j. refl; left = refl; sender = refl; receiver = refl; wanted =
-    ap (λ b. b || is_wanted d h) (no-notice h d g e t); over = refl }
+heard-part h d g s t e = record {
+  busy = refl;
+  each = λ x j. refl;
+  left = refl;
+  sender = refl;
+  receiver = refl;
+  wanted =
+      ap (λ b. b || is_wanted d h) (no-notice h d g e t);
+  over = refl;
+}
 
 opened-queue : (p : ℕ) (h : List ControllerAct) → IsControllerPast p h → (g f : ℕ) → is_open g h ≡ false → (b : Bool) → (f == g) ≡ b
     → (if b then [] else queue f h) ≡ queue f h
@@ -310,9 +318,9 @@ told-part p h l d i c e =
       busy = left-busy h d (if is_made_by c (length (directions h)) d then [] else left d h) f;
       each = λ x j.
           let b : is_end_of x.way.tunnel.reqid c ≡ false = ap (λ (y : Way). is_end_of y.tunnel.reqid c) (sym (own-way p h l d x i j))
-              ∙ z0 in
+          ∙ z0 in
           ap (λ t. kept x (has_answer PuttingIn x.serial h) (is_out_ordered x.serial h) (has_answer PuttingOut x.serial h)
-              (has_answer RemovingOut x.serial h) (t || is_ended x h)) b;
+          (has_answer RemovingOut x.serial h) (t || is_ended x h)) b;
       left = f;
       sender = refl;
       receiver = refl;
@@ -330,8 +338,16 @@ part p h (Answered g s n a) l d i e = answered-part p h l.1 d i g s n a e
 part p h (Heard g s t) l d i e = heard-part h d g s t e
 part p h (Ordered g s n o) l d i e = ordered-part p h g s n o l.1 l.0.3 d e
 part p h (Accepted c) l d i e = told-part p h l.1 d i c e
-part p h (Refused w) l d i e = record { busy = refl; each = λ x j. refl; left = refl; sender = refl; receiver = refl; wanted = refl; over =
-    refl }
+part p h (Refused w) l d i e = record {
+  busy = refl;
+  each = λ x j. refl;
+  left = refl;
+  sender = refl;
+  receiver = refl;
+  wanted = refl;
+  over =
+      refl;
+}
 
 pub next-untouched : (p : ℕ) (h : List ControllerAct) (a : ControllerAct) → IsControllerPast p (a ∷ h) → (d : Way) → Has d (directions h)
     → does_touch d a h ≡ false → next_order (a ∷ h) d ≡ next_order h d

@@ -128,7 +128,7 @@ other-turn p h l d e w _ (out_was_put x f i m n1 n2 n3) q = idle-stays h e.sende
     refl refl (λ y j. (refl, other-out p h l d e w x i y j)) q
 other-turn p h l d e w _ (in_was_put k ks f s m n1 n2 n3) q =
     idle-stays h e.receiver (openings e.receiver h) (orders e.receiver h + 1) (PutIn (record { serial = serials h + 1; key = k; way = e }))
-        d (rw w refl) w
+    d (rw w refl) w
     (λ y j. let a = low p h l d y j in ((grind arith), refl)) q
 
 -- ## the pass
@@ -202,7 +202,7 @@ idle-block p h (Opens g) l q =
     idle-if h (is_open g h) [] (going h (Opened g (openings g h + 1)))
     (λ o. q)
     (λ o. idle-asked (length p) (Opened g (openings g h + 1) ∷ h) (read_put (Opened g (openings g h + 1) ∷ h) g) ((o, refl), l)
-        (may-read-put (length p) h g (openings g h + 1)))
+    (may-read-put (length p) h g (openings g h + 1)))
 idle-block p h (Cuts g) l q =
     idle-if h (is_open g h) (going h (Cut g (openings g h))) []
     (λ o. idle-asked (length p) (Cut g (openings g h) ∷ h) [] ((o, refl), l) tt)
@@ -211,7 +211,7 @@ idle-block p h (Answers g a) l q = idle-answer (length p) h g a (queue g h) (may
 idle-block p h (Notices g t) l q =
     idle-if h (is_open g h) (going h (Heard g (openings g h) t)) []
     (λ o. idle-asked (length p) (Heard g (openings g h) t ∷ h) (by_notice (Heard g (openings g h) t ∷ h) g t) ((o, refl), l)
-        (may-notice (length p) h g (openings g h) t refl o))
+    (may-notice (length p) h g (openings g h) t refl o))
     (λ o. q)
 
 idle-from : (p : List Peer) (h : List ControllerAct) (es : List ControllerEvent) → IsControllerPast (length p) h → NotIdle h

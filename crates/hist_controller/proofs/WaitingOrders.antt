@@ -78,7 +78,7 @@ one-more ps true w n xs o q f e =
     let e' : drop n xs ≡ map (order_told ps) q = subst (λ z. (if z then [] else drop n xs) ≡ map (order_told ps) q) u.0 e in
     subst (λ z. (if z then [] else drop n (xs ++ order_told ps o ∷ [])) ≡ map (order_told ps) (q ++ o ∷ [])) (sym u.0)
     (drop-append-le n xs (order_told ps o ∷ []) u.1
-        ∙ (ap (λ z. z ++ order_told ps o ∷ []) e' ∙ sym (map-append (order_told ps) q (o ∷ []))))
+    ∙ (ap (λ z. z ++ order_told ps o ∷ []) e' ∙ sym (map-append (order_told ps) q (o ∷ []))))
 one-more ps false w n xs o q f e = e
 
 shut-if : (b : Bool) (w : Bool) (xs : List Order) (ps : List Peer) (q : List ControllerOrder)
@@ -145,8 +145,12 @@ waiting ps p (Cut k t ∷ h) l n f g i =
     let q = waiting ps p h l.1 n f.1 g i in
     let c = n k g f.0 i in
     let u = in-newest h g k t (g == k) refl l.0.1 in
-    record { same = rw (c, u) (shut-if (g == k) _ _ ps (queue g h) q.same); uncut =
-        λ e. rw (c, u) (uncut-if (g == k) (is_open g h) _ q.uncut e); count = q.count }
+    record {
+      same = rw (c, u) (shut-if (g == k) _ _ ps (queue g h) q.same);
+      uncut =
+          λ e. rw (c, u) (uncut-if (g == k) (is_open g h) _ q.uncut e);
+      count = q.count;
+    }
 waiting ps p (Answered k t m a ∷ h) l n f g i =
     let q = waiting ps p h l.1 n f.1 g i in
     let c = n k g f.0 i in
@@ -174,13 +178,13 @@ waiting-told ps p h l n f g i = (waiting ps p h l n f g i).same
 pub given-told : (ps : List Peer) (p : ℕ) (h : List ControllerAct) → IsControllerPast p h → Named ps → AllFit (length ps) h → (g : ℕ)
     → g < length ps → is_open g h ≡ true →
     sessions.orders_given (peer_name ps g) (openings g h) (past_told ps h) ≡ sessions.orders_answered (peer_name ps g) (openings g h)
-        (past_told ps h) ++ map (order_told ps) (queue g h)
+    (past_told ps h) ++ map (order_told ps) (queue g h)
 given-told ps p h l n f g i o =
     let q = waiting ps p h l n f g i in
     let given : List Order = sessions.orders_given (peer_name ps g) (openings g h) (past_told ps h) in
     let count : ℕ = sessions.answered (peer_name ps g) (openings g h) (past_told ps h) in
     let rest : drop count given ≡ map (order_told ps) (queue g h) =
-        subst (λ z. (if z then [] else drop count given) ≡ map (order_told ps) (queue g h)) (q.uncut o) q.same in
+    subst (λ z. (if z then [] else drop count given) ≡ map (order_told ps) (queue g h)) (q.uncut o) q.same in
     sym (take-append-drop count given) ∙ ap (λ z. take count given ++ z) rest
 
 -- what a cut loses is what waited
@@ -193,10 +197,10 @@ lost-told ps p h g s l n f i =
     let c = n g g i i in
     let r : (g == g) ≡ true = grind arith in
     let w : drop (sessions.answered (peer_name ps g) (openings g h) (past_told ps h)) (sessions.orders_given (peer_name ps g) (openings g h)
-        (past_told ps h)) ≡ map (order_told ps) (queue g h)
+    (past_told ps h)) ≡ map (order_told ps) (queue g h)
     = subst (λ z. (if z then [] else drop (sessions.answered (peer_name ps g) (openings g h) (past_told ps h))
-        (sessions.orders_given (peer_name ps g) (openings g h) (past_told ps h))) ≡ map (order_told ps) (queue g h)) (q.uncut l.0.0) q.same
-        in
+    (sessions.orders_given (peer_name ps g) (openings g h) (past_told ps h))) ≡ map (order_told ps) (queue g h)) (q.uncut l.0.0) q.same
+    in
     let t : (s == openings g h) ≡ true = grind arith in
     subst (λ z. sessions.orders_lost (peer_name ps g) z (past_told ps (Cut g z ∷ h)) ≡ map (order_told ps) (queue g h)) (sym e)
-        (let t' : (openings g h == openings g h) ≡ true = grind arith in rw (c, r, t') w)
+    (let t' : (openings g h == openings g h) ≡ true = grind arith in rw (c, r, t') w)

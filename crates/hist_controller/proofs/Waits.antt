@@ -129,11 +129,11 @@ awaited-cut h g s k =
       inbound = λ d x i e v.
           let n = neither (list_any (λ o. is_kind PuttingIn x.serial o || is_kind PuttingOut x.serial o) (queue g h)) (is_ended x h) e in
           cut-keeps h x.way.receiver g (PutIn x) (λ o. is_kind PuttingIn x.serial o || is_kind PuttingOut x.serial o) (x.way.receiver == g)
-              refl (rw (eq-own x.serial) refl) n.0 (k.inbound d x i n.1 v);
+          refl (rw (eq-own x.serial) refl) n.0 (k.inbound d x i n.1 v);
       outbound = λ d x i e t v.
           let n = neither (list_any (λ o. is_kind PuttingIn x.serial o || is_kind PuttingOut x.serial o) (queue g h)) (is_ended x h) e in
           cut-keeps h x.way.sender g (PutOut x) (λ o. is_kind PuttingIn x.serial o || is_kind PuttingOut x.serial o) (x.way.sender == g)
-              refl (eq-own x.serial) n.0 (k.outbound d x i n.1 t v);
+          refl (eq-own x.serial) n.0 (k.outbound d x i n.1 t v);
     }
 
 later-put : (a b c d e f : Bool) → a ≡ true → b ≡ true → c ≡ true → (d || (a && b && c)) ≡ true
@@ -160,21 +160,21 @@ replaced-now h g a d x y (Some (RemoveIn n)) i j f l m t e = cc
 replaced-now h g a d x y (Some (RemoveOut n)) i j f l m t e = cc
 replaced-now h g a d x y (Some (PutOut z)) i j f l m t e = elim (or_cases (a.status == 201) (nat_le 400 a.status) m) as
     (λ q. is_spoiled x g (Some (PutOut z)) a (has_answer PuttingIn x.serial h) (is_out_ordered x.serial h) ≡ true) [
-  | inl q ↦
-      let s : y.serial ≡ z.serial = grind arith in
-      let w : y ≡ z = f z refl s in
-      let u = of-way h d x i in
-      let v = of-way h d y j in
-      let c : (x.way.id == y.way.id) ≡ true = grind arith in
-      let c' : (x.way.id == z.way.id) ≡ true = ap (λ (t : Association). x.way.id == t.way.id) (sym w) ∙ c in
-      let b : nat_lt x.serial z.serial ≡ true = lt-ltb x.serial z.serial (omega arith) in
-      later-put (x.way.id == z.way.id) (nat_lt x.serial z.serial) (a.status == 201) ((x.serial == z.serial) && nat_le 400 a.status) true
+      | inl q ↦
+          let s : y.serial ≡ z.serial = grind arith in
+          let w : y ≡ z = f z refl s in
+          let u = of-way h d x i in
+          let v = of-way h d y j in
+          let c : (x.way.id == y.way.id) ≡ true = grind arith in
+          let c' : (x.way.id == z.way.id) ≡ true = ap (λ (t : Association). x.way.id == t.way.id) (sym w) ∙ c in
+          let b : nat_lt x.serial z.serial ≡ true = lt-ltb x.serial z.serial (omega arith) in
+          later-put (x.way.id == z.way.id) (nat_lt x.serial z.serial) (a.status == 201) ((x.serial == z.serial) && nat_le 400 a.status) true
           true c' b q
-  | inr q ↦
-      let s : y.serial ≡ z.serial = grind arith in
-      let r = refused-put y z a.status ((y.way.id == z.way.id) && nat_lt y.serial z.serial && (a.status == 201)) s q in
-      absurd (let u : true ≡ false = sym r ∙ e in cc)
-]
+      | inr q ↦
+          let s : y.serial ≡ z.serial = grind arith in
+          let r = refused-put y z a.status ((y.way.id == z.way.id) && nat_lt y.serial z.serial && (a.status == 201)) s q in
+          absurd (let u : true ≡ false = sym r ∙ e in cc)
+    ]
 
 awaited-answered : (h : List ControllerAct) (g s n : ℕ) (a : Answer) → Awaited h → Awaited (Answered g s n a ∷ h)
 awaited-answered h g s n a k =
@@ -182,17 +182,17 @@ awaited-answered h g s n a k =
       inbound = λ d x i e v.
           let j = old d x i in
           let u = neither (is_spoiled x g (oldest (queue g h)) a (has_answer PuttingIn x.serial h) (is_out_ordered x.serial h))
-              (is_ended x h) e in
+          (is_ended x h) e in
           let w = neither (is_answer_to PuttingIn x.serial (oldest (queue g h))) (has_answer PuttingIn x.serial h) v in
           answered-keeps h x.way.receiver g (PutIn x) PuttingIn x.serial (x.way.receiver == g) refl (eq-own x.serial) w.0
-              (k.inbound d x j u.1 w.1);
+          (k.inbound d x j u.1 w.1);
       outbound = λ d x i e t v.
           let j = old d x i in
           let u = neither (is_spoiled x g (oldest (queue g h)) a (has_answer PuttingIn x.serial h) (is_out_ordered x.serial h))
-              (is_ended x h) e in
+          (is_ended x h) e in
           let w = neither (is_answer_to PuttingOut x.serial (oldest (queue g h))) (has_answer PuttingOut x.serial h) v in
           answered-keeps h x.way.sender g (PutOut x) PuttingOut x.serial (x.way.sender == g) refl (eq-own x.serial) w.0
-              (k.outbound d x j u.1 t w.1);
+          (k.outbound d x j u.1 t w.1);
     }
   where
     old : (d : Way) (x : Association) → Has x (filter (λ z. not (is_answer_to RemovingIn z.serial (oldest (queue g h)))) (left d h))
@@ -257,7 +257,7 @@ awaited-ordered p h g s n o l m k =
     out-case d x (inr i) e t v =
         let q = (put-one d x o i).0 in
         absurd (no-new x (is_kind PuttingOut x.serial (PutIn x) || is_out_ordered x.serial h)
-            (subst (λ z. (not (is_kind PuttingIn x.serial z) && (is_kind PuttingOut x.serial z || is_out_ordered x.serial h)) ≡ true) q t))
+        (subst (λ z. (not (is_kind PuttingIn x.serial z) && (is_kind PuttingOut x.serial z || is_out_ordered x.serial h)) ≡ true) q t))
 
 pub awaited : (p : ℕ) (h : List ControllerAct) → IsControllerPast p h → Awaited h
 awaited p [] l = record { inbound = λ d x i e v. absurd i; outbound = λ d x i e t v. absurd i }
@@ -285,7 +285,7 @@ replaced-cut : (h : List ControllerAct) (g s : ℕ) → Replaced h → Replaced 
 replaced-cut h g s k d x y i j e v w =
     let n = neither (list_any (λ o. is_kind PuttingIn y.serial o || is_kind PuttingOut y.serial o) (queue g h)) (is_ended y h) w in
     or-right (list_any (λ o. is_kind PuttingIn x.serial o || is_kind PuttingOut x.serial o) (queue g h)) (is_ended x h)
-        (k d x y i j e v n.1)
+    (k d x y i j e v n.1)
 
 replaced-answered : (p : ℕ) (h : List ControllerAct) (g s n : ℕ) (a : Answer) → IsControllerPast p h
     → is_plain (oldest (queue g h)) a.status ≡ true → Replaced h → Replaced (Answered g s n a ∷ h)
@@ -335,7 +335,7 @@ replaced-ordered p h g s n o l m k d x y i j e v w = after-case d x y (has-more 
     after-case d x y i (inr j) e v w =
         let q = (put-one d y o j).0 in
         absurd (no-new y (has_answer PuttingOut y.serial h)
-            (subst (λ z. (not (is_kind PuttingIn y.serial z) && has_answer PuttingOut y.serial h) ≡ true) q v))
+        (subst (λ z. (not (is_kind PuttingIn y.serial z) && has_answer PuttingOut y.serial h) ≡ true) q v))
 
 pub waits : (p : ℕ) (h : List ControllerAct) → IsControllerPast p h → PlainAnswers h → Waits h
 waits p h l a = let k = awaited p h l in record { inbound = k.inbound; outbound = k.outbound; replaced = replaced p h l a }

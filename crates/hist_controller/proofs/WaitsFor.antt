@@ -32,9 +32,9 @@ both-wait : (h : List ControllerAct) (d : Way) → (is_read d.sender h && is_rea
     ⊎ WaitsForGateway d.receiver h
 both-wait h d e = elim (and_cases (is_read d.sender h) (is_read d.receiver h) e) as (λ z. WaitsForGateway d.sender h
     ⊎ WaitsForGateway d.receiver h) [
-  | inl a ↦ inl (gateway-waits d.sender h a)
-  | inr b ↦ inr (gateway-waits d.receiver h b)
-]
+      | inl a ↦ inl (gateway-waits d.sender h a)
+      | inr b ↦ inr (gateway-waits d.receiver h b)
+    ]
 
 -- ## an owed direction
 
@@ -87,7 +87,7 @@ progress-by p h l d i x j t q false false false e f g =
     inl (busy-or h d x x.way.receiver (PutIn x) (of-way h d x j) k (inr (ap (λ (z : Way). z.receiver) (sym w))) (is_busy d h) refl)
 progress-by p h l d i x j t q false true false e f g =
     inr (both-wait h d (free-put (is_ended x h) (has_answer PuttingOut x.serial h) (is_out_ordered x.serial h)
-        (has_answer PuttingIn x.serial h) (is_read d.sender h) (is_read d.receiver h) t e f ((q g).no_out_put x j)))
+    (has_answer PuttingIn x.serial h) (is_read d.sender h) (is_read d.receiver h) t e f ((q g).no_out_put x j)))
 
 pub progress-waits : (p : ℕ) (h : List ControllerAct) → IsControllerPast p h → NotIdle h → (d : Way) → Has d (directions h)
     → (x : Association) → Has x (left d h) → is_in_progress h x ≡ true → WaitsForGateways h d
@@ -111,11 +111,17 @@ ended-by : (h : List ControllerAct) (d : Way) (x : Association) → Has x (left 
     → (o b : Bool) → has_outbound_half h x ≡ o → is_busy d h ≡ b → WaitsForRemoval h d x
 ended-by h d x j t q o true e g = inl g
 ended-by h d x j t q true false e g =
-    inr (inl (e, gateway-waits d.sender h (free-out (is_ended x h) (is_out_ordered x.serial h) (has_answer RemovingOut x.serial h)
-    (is_read d.sender h) t e ((q g).no_out_remove x j))))
+    inr (inl (
+      e,
+      gateway-waits d.sender h (free-out (is_ended x h) (is_out_ordered x.serial h) (has_answer RemovingOut x.serial h)
+          (is_read d.sender h) t e ((q g).no_out_remove x j)),
+    ))
 ended-by h d x j t q false false e g =
-    inr (inr (e, gateway-waits d.receiver h (free-in (is_ended x h) (is_out_ordered x.serial h) (has_answer RemovingOut x.serial h)
-    (is_read d.receiver h) t e ((q g).no_in_remove x j))))
+    inr (inr (
+      e,
+      gateway-waits d.receiver h (free-in (is_ended x h) (is_out_ordered x.serial h) (has_answer RemovingOut x.serial h)
+          (is_read d.receiver h) t e ((q g).no_in_remove x j)),
+    ))
 
 pub ended-waits : (p : ℕ) (h : List ControllerAct) → IsControllerPast p h → NotIdle h → (d : Way) → Has d (directions h) → (x : Association)
     → Has x (left d h) → is_ended x h ≡ true → WaitsForRemoval h d x
@@ -140,9 +146,9 @@ made-put p (Answered g s n a ∷ h) l d x i = made-put p h l.1 d x i
 made-put p (Heard g s t ∷ h) l d x i = made-put p h l.1 d x i
 made-put p (Ordered g s n o ∷ h) l d x i = elim (has-more x (made d h) (inbound_put d o) i) as (λ z. ((d.id == x.way.id) ≡ true)
     × WasOrdered (PutIn x) x.way.receiver (Ordered g s n o ∷ h)) [
-  | inl j ↦ let k = made-put p h l.1 d x j in (k.0, inr k.1)
-  | inr j ↦ let q = put-one d x o j in let m : MayOrderInPut h g x = subst (MayOrder h g) q.0 l.0.3 in (q.1, inl (sym q.0, sym m.at))
-]
+      | inl j ↦ let k = made-put p h l.1 d x j in (k.0, inr k.1)
+      | inr j ↦ let q = put-one d x o j in let m : MayOrderInPut h g x = subst (MayOrder h g) q.0 l.0.3 in (q.1, inl (sym q.0, sym m.at))
+    ]
 made-put p (Accepted c ∷ h) l d x i = made-put p h l.1 d x (has-if x _ (made d h) i).1
 made-put p (Refused w ∷ h) l d x i = made-put p h l.1 d x i
 

@@ -124,7 +124,7 @@ abbrev pub both_ways : ℕ → PlacedTunnel → List Way
 both_ways n t =
     record { id = n; tunnel = t.spec; sender = t.first; receiver = t.second; near = t.spec.first_prefix; far = t.spec.second_prefix }
     ∷ record { id = n + 1; tunnel = t.spec; sender = t.second; receiver = t.first; near = t.spec.second_prefix; far = t.spec.first_prefix }
-        ∷ []
+    ∷ []
 
 -- the directions that a command makes: those of its tunnel
 abbrev pub new_ways : ℕ → PlacedCommand → List Way

@@ -46,18 +46,39 @@ pub record ControllerState : Type 0 where
 
 -- what is to be kept of a gateway
 abbrev pub gateway_of : List ControllerAct → ℕ → KeptGateway
-gateway_of h g = record { up = is_open g h; session = openings g h; orders = orders g h; answers = answered g h; queue = queue g h; read =
-    is_first_answered g h; list = newest_list g h }
+gateway_of h g = record {
+  up = is_open g h;
+  session = openings g h;
+  orders = orders g h;
+  answers = answered g h;
+  queue = queue g h;
+  read =
+      is_first_answered g h;
+  list = newest_list g h;
+}
 
 -- what is to be kept of an association
 abbrev pub association_of : List ControllerAct → Association → KeptAssociation
-association_of h x = record { association = x; in_done = has_answer PuttingIn x.serial h; out_sent = is_out_ordered x.serial h; out_done =
-    has_answer PuttingOut x.serial h; out_gone = has_answer RemovingOut x.serial h; ended = is_ended x h }
+association_of h x = record {
+  association = x;
+  in_done = has_answer PuttingIn x.serial h;
+  out_sent = is_out_ordered x.serial h;
+  out_done =
+      has_answer PuttingOut x.serial h;
+  out_gone = has_answer RemovingOut x.serial h;
+  ended = is_ended x h;
+}
 
 -- what is to be kept of a direction
 abbrev pub way_of : List ControllerAct → Way → KeptWay
-way_of h d = record { way = d; over = is_over d h; wanted = is_wanted d h; newest = newest_serial d h; associations =
-    map (association_of h) (left d h) }
+way_of h d = record {
+  way = d;
+  over = is_over d h;
+  wanted = is_wanted d h;
+  newest = newest_serial d h;
+  associations =
+      map (association_of h) (left d h);
+}
 
 -- what is to be kept of a past
 abbrev pub state_of : List ControllerAct → ControllerState
@@ -200,11 +221,23 @@ did s (Answered f n i a) = record s {
   ways = map (way_answered f (oldest (s.gateway f).queue) a) s.ways;
 }
 did s (Heard f n t) = record s { ways = map (way_heard (s.gateway f).list f t) s.ways }
-did s (Ordered f n i o) = record { gateway = λ g. if g == f then gateway_ordered o (s.gateway g) else s.gateway g; ways =
-    map (way_ordered o) s.ways; keys = s.keys; spare = keys_after o s.spare; serials = if is_inbound_put o then s.serials + 1
-    else s.serials }
-did s (Accepted c) = record { gateway = λ g. gateway_told c g (s.gateway g); ways = map (way_told c) s.ways
-    ++ map (fresh_way c) (new_ways (length s.ways) c); keys = s.keys ++ key_of c; spare = s.spare ++ key_of c; serials = s.serials }
+did s (Ordered f n i o) = record {
+  gateway = λ g. if g == f then gateway_ordered o (s.gateway g) else s.gateway g;
+  ways =
+      map (way_ordered o) s.ways;
+  keys = s.keys;
+  spare = keys_after o s.spare;
+  serials = if is_inbound_put o then s.serials + 1
+      else s.serials;
+}
+did s (Accepted c) = record {
+  gateway = λ g. gateway_told c g (s.gateway g);
+  ways = map (way_told c) s.ways
+      ++ map (fresh_way c) (new_ways (length s.ways) c);
+  keys = s.keys ++ key_of c;
+  spare = s.spare ++ key_of c;
+  serials = s.serials;
+}
 did s (Refused w) = s
 
 -- the state after several acts

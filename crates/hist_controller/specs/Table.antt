@@ -46,13 +46,28 @@ seen t = record { gateway = λ g. gateway_at g t.gateways; ways = t.ways; keys =
 abbrev pub did_table : Table → ControllerAct → Table
 did_table s (Opened f n) = record s { gateways = change f gateway_opened s.gateways }
 did_table s (Cut f n) = record s { gateways = change f gateway_cut s.gateways; ways = map (way_cut (gateway_at f s.gateways).queue) s.ways }
-did_table s (Answered f n i a) = record s { gateways = change f (gateway_answered i) s.gateways; ways =
-    map (way_answered f (oldest (gateway_at f s.gateways).queue) a) s.ways }
+did_table s (Answered f n i a) = record s {
+  gateways = change f (gateway_answered i) s.gateways;
+  ways =
+      map (way_answered f (oldest (gateway_at f s.gateways).queue) a) s.ways;
+}
 did_table s (Heard f n t) = record s { ways = map (way_heard (gateway_at f s.gateways).list f t) s.ways }
-did_table s (Ordered f n i o) = record { gateways = change f (gateway_ordered o) s.gateways; ways = map (way_ordered o) s.ways; keys =
-    s.keys; spare = keys_after o s.spare; serials = if is_inbound_put o then s.serials + 1 else s.serials }
-did_table s (Accepted c) = record { gateways = told_gates c s.gateways; ways = map (way_told c) s.ways
-    ++ map (fresh_way c) (new_ways (length s.ways) c); keys = s.keys ++ key_of c; spare = s.spare ++ key_of c; serials = s.serials }
+did_table s (Ordered f n i o) = record {
+  gateways = change f (gateway_ordered o) s.gateways;
+  ways = map (way_ordered o) s.ways;
+  keys =
+      s.keys;
+  spare = keys_after o s.spare;
+  serials = if is_inbound_put o then s.serials + 1 else s.serials;
+}
+did_table s (Accepted c) = record {
+  gateways = told_gates c s.gateways;
+  ways = map (way_told c) s.ways
+      ++ map (fresh_way c) (new_ways (length s.ways) c);
+  keys = s.keys ++ key_of c;
+  spare = s.spare ++ key_of c;
+  serials = s.serials;
+}
 did_table s (Refused w) = s
 
 -- the act speaks of one of so many gateways

@@ -40,13 +40,19 @@ same-top true n = refl
 same-top false n = refl
 
 abbrev row-made : SadEntry → ℕ → ℕ → SadRow
-row-made e time top = record { entry = e; state = record { current = record { time = time; bytes = 0; packets = 0; idle = time }; top =
-    top } }
+row-made e time top = record {
+  entry = e;
+  state = record {
+    current = record { time = time; bytes = 0; packets = 0; idle = time };
+    top =
+        top;
+  };
+}
 
 row-fresh : (now : ℕ) (e : SadEntry) → row_from now (fresh now e) ≡ table.new_row e
 row-fresh now e =
     ap (λ t. row-made e t (if is_inbound e.name then 0 else 0)) (no-time now)
-        ∙ ap (λ top. row-made e 0 top) (same-top (is_inbound e.name) 0)
+    ∙ ap (λ top. row-made e 0 top) (same-top (is_inbound e.name) 0)
 
 rows-put : (g : List ℕ) (x : SadEntry) (h : List Act) (es : List SadEntry) → has_half x.name es ≡ false →
     map (row_of g (acts.Put g x ∷ h)) (es ++ x ∷ []) ≡ map (row_of g h) es ++ table.new_row x ∷ []
@@ -58,7 +64,7 @@ rows-put g x h (e ∷ es) new =
     let parts = or_parts (bytes_eq e.name x.name) (has_half x.name es) new in
     let p = put-half g g x h e (no-half g g x e parts.0) in
     let same : row_of g (acts.Put g x ∷ h) e ≡ row_of g h e = sym (row-is g (acts.Put g x ∷ h) e)
-        ∙ (ap (λ z. row_from (clock h) z) p ∙ row-is g h e) in
+    ∙ (ap (λ z. row_from (clock h) z) p ∙ row-is g h e) in
     ap (λ z. z ∷ map (row_of g (acts.Put g x ∷ h)) (es ++ x ∷ [])) same ∙ ap (λ z. row_of g h e ∷ z) (rows-put g x h es parts.1)
 
 rows-step : (g x : List ℕ) (h : List Act) (e : SadEntry) (es : List SadEntry) (b : Bool) → bytes_eq e.name x ≡ b →

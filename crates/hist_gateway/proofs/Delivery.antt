@@ -35,7 +35,7 @@ told-next next p told = grind arith
 pub delivers-is : (c : Gateway) (h : List Act) (o : List ℕ) (outer inner : Packet) (e : SadEntry) (text p : List ℕ) (next : ℕ)
     → IsDelivery c h o outer inner e text next p →
     gw_block c h (Arrive o) ≡ acts.Arrived c.name o ∷ arrive.use_acts c.name (acts.Arrived c.name o ∷ h) e
-        (acts.Gave c.name e.name (number_of e (numbers_taken c.name e.name h) outer.payload) p)
+    (acts.Gave c.name e.name (number_of e (numbers_taken c.name e.name h) outer.payload) p)
 unfolding arrive.arrive_acts
 delivers-is c h o outer inner e text p next d =
     let now : List Act = acts.Arrived c.name o ∷ h in
@@ -43,18 +43,18 @@ delivers-is c h o outer inner e text p next d =
     let q : open_esp.InnerPacket = record { next = next; octets = p } in
     let by-selector : arrive.by_inner c.name e n next p (Ok inner) ≡ acts.Gave c.name e.name n p = rw (d.version, d.held) refl in
     let by-inner : arrive.by_packet c.name e n (Some q) ≡ acts.Gave c.name e.name n p =
-        rw (told-next next p d.version) (ap (λ r. arrive.by_inner c.name e n next p r) d.inner_view ∙ by-selector) in
+    rw (told-next next p d.version) (ap (λ r. arrive.by_inner c.name e n next p r) d.inner_view ∙ by-selector) in
     let by-packet : arrive.by_packet c.name e n (open_esp.inner_packet text) ≡ acts.Gave c.name e.name n p =
-        ap (λ r. arrive.by_packet c.name e n r) d.packet ∙ by-inner in
+    ap (λ r. arrive.by_packet c.name e n r) d.packet ∙ by-inner in
     let by-text : arrive.by_text c.name now e n (open_esp.opened (keying e.spi e.key) outer.payload) ≡ arrive.use_acts c.name now e
-        (acts.Gave c.name e.name n p) = ap (λ r. arrive.by_text c.name now e n r) d.opened
-        ∙ ap (λ a. arrive.use_acts c.name now e a) by-packet in
+    (acts.Gave c.name e.name n p) = ap (λ r. arrive.by_text c.name now e n r) d.opened
+    ∙ ap (λ a. arrive.use_acts c.name now e a) by-packet in
     let by-number : arrive.by_number c.name now outer.payload e n ≡ arrive.use_acts c.name now e (acts.Gave c.name e.name n p) =
-        ap (λ w. arrive.by_verdict c.name now outer.payload e n w) d.fresh ∙ by-text in
+    ap (λ w. arrive.by_verdict c.name now outer.payload e n w) d.fresh ∙ by-text in
     let by-half : arrive.arrive_by_half c.name now outer.payload (by_spi (spi_of outer.payload) (live c.name h)) ≡ arrive.use_acts c.name
-        now e (acts.Gave c.name e.name n p) = ap (λ f. arrive.arrive_by_half c.name now outer.payload f) d.spi ∙ by-number in
+    now e (acts.Gave c.name e.name n p) = ap (λ f. arrive.arrive_by_half c.name now outer.payload f) d.spi ∙ by-number in
     let by-esp : arrive.esp_acts c.name now outer.payload ≡ arrive.use_acts c.name now e (acts.Gave c.name e.name n p) =
-        rw d.whole by-half in
+    rw d.whole by-half in
     let by-view : arrive.arrive_by_view c.name c.address now o (Ok outer) ≡ arrive.use_acts c.name now e (acts.Gave c.name e.name n p) =
-        rw d.own by-esp in
+    rw d.own by-esp in
     ap (λ t. acts.Arrived c.name o ∷ t) (ap (λ r. arrive.arrive_by_view c.name c.address now o r) d.view ∙ by-view)

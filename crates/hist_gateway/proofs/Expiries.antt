@@ -74,7 +74,7 @@ expiries-end : (g x : List ℕ) (h : List Act) (es : List SadEntry) → list_any
 expiries-end g x h [] = refl
 expiries-end g x h (e ∷ es) =
     tells-end g x e.name (sessions.session_taken g h) (counts g e.name h) (expiries g h es) (is_reached e.hard (counts g e.name h))
-        (is_reached e.soft (counts g e.name h)) (was_soft_given g e.name h)
+    (is_reached e.soft (counts g e.name h)) (was_soft_given g e.name h)
     ∙ expiries-end g x h es
 
 expiries-hard : (g x : List ℕ) (h : List Act) (es : List SadEntry) → list_any (is_hard_expiry x) (expiries g h es) ≡ list_any
@@ -82,7 +82,7 @@ expiries-hard : (g x : List ℕ) (h : List Act) (es : List SadEntry) → list_an
 expiries-hard g x h [] = refl
 expiries-hard g x h (e ∷ es) =
     tells-hard g x e.name (sessions.session_taken g h) (counts g e.name h) (expiries g h es) (is_reached e.hard (counts g e.name h))
-        (is_reached e.soft (counts g e.name h)) (was_soft_given g e.name h)
+    (is_reached e.soft (counts g e.name h)) (was_soft_given g e.name h)
     ∙ ap (λ z. (bytes_eq e.name x && is_reached e.hard (counts g e.name h)) || z) (expiries-hard g x h es)
 
 expiries-soft : (g x : List ℕ) (h : List Act) (es : List SadEntry) → list_any (is_soft_expiry x) (expiries g h es) ≡ list_any
@@ -90,10 +90,10 @@ expiries-soft : (g x : List ℕ) (h : List Act) (es : List SadEntry) → list_an
 expiries-soft g x h [] = refl
 expiries-soft g x h (e ∷ es) =
     tells-soft g x e.name (sessions.session_taken g h) (counts g e.name h) (expiries g h es) (is_reached e.hard (counts g e.name h))
-        (is_reached e.soft (counts g e.name h)) (was_soft_given g e.name h)
+    (is_reached e.soft (counts g e.name h)) (was_soft_given g e.name h)
     ∙ ap (λ z. (bytes_eq e.name x
-        && (not (is_reached e.hard (counts g e.name h)) && (is_reached e.soft (counts g e.name h) && not (was_soft_given g e.name h))))
-        || z) (expiries-soft g x h es)
+    && (not (is_reached e.hard (counts g e.name h)) && (is_reached e.soft (counts g e.name h) && not (was_soft_given g e.name h))))
+    || z) (expiries-soft g x h es)
 
 -- ---- at a look, and at a reading of the clock
 

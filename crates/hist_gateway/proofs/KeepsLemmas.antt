@@ -97,31 +97,31 @@ half-with e n w l o = record { entry = e; sent = n; window = w; life = l; overfl
 -- the lifetime of a half after one more use
 used-life : (g : List ℕ) (h : List Act) (e : SadEntry) (size : ℕ) →
     life-with e.hard e.soft (installed_at g e.name h) (clock h) (octets_used g e.name h + size) (times_used g e.name h + 1)
-        (was_soft_given g e.name h)
+    (was_soft_given g e.name h)
     ≡ counted size (clock h) (life_of g h e)
 used-life g h e size =
     counted-life e.hard e.soft (installed_at g e.name h) (last_used g e.name h) (clock h) (octets_used g e.name h) (times_used g e.name h)
-        size (was_soft_given g e.name h)
+    size (was_soft_given g e.name h)
 
 -- a half after one more number was taken
 used-half : (g : List ℕ) (h : List Act) (e : SadEntry) (n size : ℕ) →
     half-with e (sent g e.name h) (window_of e.window (numbers_taken g e.name h ++ n ∷ []))
     (life-with e.hard e.soft (installed_at g e.name h) (clock h) (octets_used g e.name h + size) (times_used g e.name h + 1)
-        (was_soft_given g e.name h))
+    (was_soft_given g e.name h))
     (was_overflow_given g e.name h)
     ≡ take_number (clock h) size n (half_of g h e)
 used-half g h e n size =
     ap (λ w. half-with e (sent g e.name h) w (life-with e.hard e.soft (installed_at g e.name h) (clock h) (octets_used g e.name h + size)
-        (times_used g e.name h + 1) (was_soft_given g e.name h)) (was_overflow_given g e.name h))
+    (times_used g e.name h + 1) (was_soft_given g e.name h)) (was_overflow_given g e.name h))
     (window-end e.window n (numbers_taken g e.name h))
     ∙ ap (λ l. half-with e (sent g e.name h) (marked (window_of e.window (numbers_taken g e.name h)) n) l (was_overflow_given g e.name h))
-        (used-life g h e size)
+    (used-life g h e size)
 
 pub sent-split : (g f y o : List ℕ) (n : ℕ) (h : List Act) (e : SadEntry) (b : Bool) → bytes_eq f g ≡ true → bytes_eq y e.name ≡ b →
     half_of g (acts.Sent f y n o ∷ h) e ≡ sent_under y (clock h) (octets_in (Some o)) (half_of g h e)
 sent-split g f y o n h e true at own =
     rw (at, own) (ap (λ l. half-with e (sent g e.name h + 1) (window_of e.window (numbers_taken g e.name h)) l
-        (was_overflow_given g e.name h)) (used-life g h e (length (esp_of o))))
+    (was_overflow_given g e.name h)) (used-life g h e (length (esp_of o))))
 sent-split g f y o n h e false at own = rw (at, own) refl
 
 sent-away : (g f y o : List ℕ) (n : ℕ) (h : List Act) (e : SadEntry) → bytes_eq f g ≡ false
@@ -182,7 +182,7 @@ opened-split g f w h e at op = by-arrival (arrival g h) refl
 
     by-number : (o : List ℕ) → arrival g h ≡ Some o → NumberFor e.name taken (live g h) o →
         half_of g (acts.Drop f w ∷ h) e ≡ take_if (clock h) (octets_in (Some o)) (number_for e.name taken (live g h) (esp_of o))
-            (half_of g h e)
+        (half_of g h e)
     by-number o q (inl p) = rw (number-is g e.name (numbers_taken g e.name h) h, at, op, q, p.0, p.1) refl
     by-number o q (inr (n, p, r)) = rw (number-is g e.name (numbers_taken g e.name h) h, at, op, q, p, r)
         (used-half g h e n (octets_in (Some o)))
@@ -193,7 +193,7 @@ opened-split g f w h e at op = by-arrival (arrival g h) refl
     by-arrival (Some o) q =
         by-number o q (number-either e.name taken (live g h) o)
         ∙ ap (λ top. take_if (clock h) (octets_in (Some o)) (number_for e.name top (live g h) (esp_of o)) (half_of g h e))
-            (sym (window-top e.window (numbers_taken g e.name h)))
+        (sym (window-top e.window (numbers_taken g e.name h)))
 
 dropped-half : (g f : List ℕ) (w : DropWhy) (h : List Act) (e : SadEntry) → (bytes_eq f g && is_opened w) ≡ false →
     half_of g (acts.Drop f w ∷ h) e ≡ half_of g h e
@@ -280,7 +280,7 @@ keeps-put g f x h true at new =
     rw at (ap (λ hs. with_put hs (wanted_after x (state_of g h)) (state_of g h)) m)
 keeps-put g f x h false at new =
     let m = map-same (half_of g h) (half_of g (acts.Put f x ∷ h))
-        (λ e. put-half g f x h e (and_left (bytes_eq f g) (bytes_eq x.name e.name) at)) (live g h) in
+    (λ e. put-half g f x h e (and_left (bytes_eq f g) (bytes_eq x.name e.name) at)) (live g h) in
     rw at (ap (λ hs. with_halves hs (state_of g h)) m)
 
 keeps-gone : (g f x : List ℕ) (w : GoneWhy) (h : List Act) (b : Bool) → bytes_eq f g ≡ b →
@@ -292,7 +292,7 @@ keeps-sent : (g f y o : List ℕ) (n : ℕ) (h : List Act) (b : Bool) → bytes_
     state_of g (acts.Sent f y n o ∷ h) ≡ did g (state_of g h) (acts.Sent f y n o)
 keeps-sent g f y o n h true at =
     let m = map-step (half_of g h) (half_of g (acts.Sent f y n o ∷ h)) (sent_under y (clock h) (octets_in (Some o)))
-        (λ e. sent-split g f y o n h e (bytes_eq y e.name) at refl) (live g h) in
+    (λ e. sent-split g f y o n h e (bytes_eq y e.name) at refl) (live g h) in
     rw at (ap (λ hs. with_halves hs (state_of g h)) m)
 keeps-sent g f y o n h false at =
     let m = map-same (half_of g h) (half_of g (acts.Sent f y n o ∷ h)) (λ e. sent-away g f y o n h e at) (live g h) in
@@ -302,7 +302,7 @@ keeps-gave : (g f y o : List ℕ) (n : ℕ) (h : List Act) (b : Bool) → bytes_
     state_of g (acts.Gave f y n o ∷ h) ≡ did g (state_of g h) (acts.Gave f y n o)
 keeps-gave g f y o n h true at =
     let m = map-step (half_of g h) (half_of g (acts.Gave f y n o ∷ h)) (given_under y (clock h) (octets_in (arrival g h)) n)
-        (λ e. gave-split g f y o n h e (bytes_eq y e.name) at refl) (live g h) in
+    (λ e. gave-split g f y o n h e (bytes_eq y e.name) at refl) (live g h) in
     rw at (ap (λ hs. with_halves hs (state_of g h)) m)
 keeps-gave g f y o n h false at =
     let m = map-same (half_of g h) (half_of g (acts.Gave f y n o ∷ h)) (λ e. gave-away g f y o n h e at) (live g h) in
@@ -312,7 +312,7 @@ keeps-opened : (g f : List ℕ) (w : DropWhy) (h : List Act) → bytes_eq f g �
     state_of g (acts.Drop f w ∷ h) ≡ did g (state_of g h) (acts.Drop f w)
 keeps-opened g f w h at op =
     let m = map-step (half_of g h) (half_of g (acts.Drop f w ∷ h)) (opened_under (live g h) (arrival g h) (clock h))
-        (λ e. opened-split g f w h e at op) (live g h) in
+    (λ e. opened-split g f w h e at op) (live g h) in
     let k = entries-kept g h (live g h) in
     rw (at, op, k) (ap (λ hs. with_halves hs (state_of g h)) m)
 

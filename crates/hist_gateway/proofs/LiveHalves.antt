@@ -55,11 +55,11 @@ spi-without : (x : List ℕ) (spi : ℕ) (es : List SadEntry) → has_inbound_sp
 spi-without x spi [] p = refl
 spi-without x spi (e ∷ es) p =
     let q = or_parts (is_inbound e.name && (e.spi == spi)) (has_inbound_spi spi es) p in
-        spi-kept x spi e es (bytes_eq e.name x) refl q.0 (spi-without x spi es q.1)
+    spi-kept x spi e es (bytes_eq e.name x) refl q.0 (spi-without x spi es q.1)
 
 own-kept : (x : List ℕ) (e : SadEntry) (es : List SadEntry) (b i : Bool) → bytes_eq e.name x ≡ b → is_inbound e.name ≡ i →
     (is_inbound e.name && has_inbound_spi e.spi es) ≡ false → are_spis_apart (without x es) ≡ true
-        → are_spis_apart (without x (e ∷ es)) ≡ true
+    → are_spis_apart (without x (e ∷ es)) ≡ true
 own-kept x e es true i own inb new ih = rw own ih
 own-kept x e es false true own inb new ih =
     let free : has_inbound_spi e.spi es ≡ false = subst (λ b. (b && has_inbound_spi e.spi es) ≡ false) inb new in
@@ -71,7 +71,7 @@ own-without x [] p = refl
 own-without x (e ∷ es) p =
     let q = and_parts (not (is_inbound e.name && has_inbound_spi e.spi es)) (are_spis_apart es) p in
     own-kept x e es (bytes_eq e.name x) (is_inbound e.name) refl refl (not-true (is_inbound e.name && has_inbound_spi e.spi es) q.0)
-        (own-without x es q.1)
+    (own-without x es q.1)
 
 fewer-kept : (x : List ℕ) (n : ℕ) (e : SadEntry) (es : List SadEntry) (b : Bool) → bytes_eq e.name x ≡ b → length (e ∷ es) ≤ n →
     length (without x es) ≤ length es → length (without x (e ∷ es)) ≤ n
@@ -117,11 +117,11 @@ own-step : (x e : SadEntry) (es : List SadEntry) (i j : Bool) → is_inbound e.n
     has_inbound_spi e.spi (es ++ x ∷ []) ≡ ((is_inbound x.name && (x.spi == e.spi)) || has_inbound_spi e.spi es) →
     (is_inbound e.name && has_inbound_spi e.spi es) ≡ false → (is_inbound x.name && has_inbound_spi x.spi (e ∷ es)) ≡ false →
     ((is_inbound x.name && has_inbound_spi x.spi es) ≡ false → are_spis_apart (es ++ x ∷ []) ≡ true)
-        → are_spis_apart (e ∷ es ++ x ∷ []) ≡ true
+    → are_spis_apart (e ∷ es ++ x ∷ []) ≡ true
 own-step x e es true true inb inx m old new rest =
     let old' : has_inbound_spi e.spi es ≡ false = subst (λ b. (b && has_inbound_spi e.spi es) ≡ false) inb old in
     let new' : ((is_inbound e.name && (e.spi == x.spi)) || has_inbound_spi x.spi es) ≡ false =
-        subst (λ b. (b && has_inbound_spi x.spi (e ∷ es)) ≡ false) inx new in
+    subst (λ b. (b && has_inbound_spi x.spi (e ∷ es)) ≡ false) inx new in
     let q = or_parts (is_inbound e.name && (e.spi == x.spi)) (has_inbound_spi x.spi es) new' in
     let differ : (e.spi == x.spi) ≡ false = subst (λ b. (b && (e.spi == x.spi)) ≡ false) inb q.0 in
     let away : (x.spi == e.spi) ≡ false = flip-eq e.spi x.spi differ in
@@ -133,7 +133,7 @@ own-step x e es true false inb inx m old new rest =
     rw (inb, free) (rest (rw inx refl))
 own-step x e es false true inb inx m old new rest =
     let new' : ((is_inbound e.name && (e.spi == x.spi)) || has_inbound_spi x.spi es) ≡ false =
-        subst (λ b. (b && has_inbound_spi x.spi (e ∷ es)) ≡ false) inx new in
+    subst (λ b. (b && has_inbound_spi x.spi (e ∷ es)) ≡ false) inx new in
     let q = or_parts (is_inbound e.name && (e.spi == x.spi)) (has_inbound_spi x.spi es) new' in
     rw inb (rest (rw (inx, q.1) refl))
 own-step x e es false false inb inx m old new rest = rw inb (rest (rw inx refl))
@@ -145,7 +145,7 @@ own-more x (e ∷ es) new p =
     let r = and_parts (not (is_inbound e.name && has_inbound_spi e.spi es)) (are_spis_apart es) p in
     let m = any-end (λ (z : SadEntry). is_inbound z.name && (z.spi == e.spi)) es x in
     own-step x e es (is_inbound e.name) (is_inbound x.name) refl refl m (not-true (is_inbound e.name && has_inbound_spi e.spi es) r.0) new
-        (λ q. own-more x es q r.1)
+    (λ q. own-more x es q r.1)
 
 length-end : (xs : List SadEntry) (x : SadEntry) → length (xs ++ x ∷ []) ≡ length xs + 1
 length-end [] x = refl
@@ -255,9 +255,12 @@ newest-step g h r v x es e (Some y) new b own are f rest =
     (n.0, or_right (bytes_eq x.name e.name) (has_half e.name es) n.1, n.2)
 newest-step g h r v x es e None new true own are f rest =
     let is : Some x ≡ Some e = subst (λ b. (if b then Some x else None) ≡ Some e) own f in
-    let same : x ≡ e = cc in
-    (subst (λ z. may_seal r v z ≡ true) same own, ap (λ z. bytes_eq z.name e.name || has_half e.name es) same
-        ∙ rw (same-refl e.name) refl, subst (λ z. put_of g z.name h ≡ Some z) same are.0)
+    let same : x ≡ e = cc in (
+      subst (λ z. may_seal r v z ≡ true) same own,
+      ap (λ z. bytes_eq z.name e.name || has_half e.name es) same
+          ∙ rw (same-refl e.name) refl,
+      subst (λ z. put_of g z.name h ≡ Some z) same are.0,
+    )
 newest-step g h r v x es e None new false own are f rest =
     let is : None ≡ Some e = subst (λ b. (if b then Some x else None) ≡ Some e) own f in
     cc

@@ -30,14 +30,14 @@ done-more g s (x ∷ xs) ys = done-more g (did g s x) xs ys
 
 goings-step : (g : List ℕ) (now : ℕ) (y : Half) (ys : List Half) (s : GatewayState) (b : Bool) →
     did_all g (quiet (with_halves (halves_without y.entry.name s.halves) s)) (goings_of g now ys) ≡ with_halves
-        (without_all (names_reached now ys) (halves_without y.entry.name s.halves)) s →
+    (without_all (names_reached now ys) (halves_without y.entry.name s.halves)) s →
     did_all g (quiet s) (goings_of g now ys) ≡ with_halves (without_all (names_reached now ys) s.halves) s →
     did_all g (quiet s) (if b then acts.Gone g y.entry.name gone.Hard ∷ goings_of g now ys else goings_of g now ys)
     ≡ with_halves (without_all (if b then y.entry.name ∷ names_reached now ys else names_reached now ys) s.halves) s
 goings-step g now y ys s true p q =
     let k : GatewayState = with_halves (halves_without y.entry.name s.halves) s in
     subst (λ b. did_all g (if b then k else quiet s) (goings_of g now ys) ≡ with_halves
-        (without_all (names_reached now ys) (halves_without y.entry.name s.halves)) s) (sym (same-refl g)) p
+    (without_all (names_reached now ys) (halves_without y.entry.name s.halves)) s) (sym (same-refl g)) p
 goings-step g now y ys s false p q = q
 
 goings-done : (g : List ℕ) (now : ℕ) (ys : List Half) (s : GatewayState) →
@@ -69,7 +69,7 @@ noticed s b hs ks spis p q r = rw (p, q, r) refl
 
 expiries-step : (g : List ℕ) (t now : ℕ) (y : Half) (ys : List Half) (s : GatewayState) (e : LifeEvent) → take 64 s.bad_spis ≡ s.bad_spis →
     ((z : GatewayState) → take 64 z.bad_spis ≡ z.bad_spis → did_all g (quiet z) (expiries_of g t now ys) ≡ with_halves
-        (map (told_by now ys) z.halves) z) →
+    (map (told_by now ys) z.halves) z) →
     did_all g (quiet s) (given_by g t (expiry y.entry.name (counts_of now y.life) e) ++ expiries_of g t now ys)
     ≡ with_halves (map (λ z. told_by now ys (if is_soft e then under y.entry.name softly_told z else z)) s.halves) s
 expiries-step g t now y ys s events.Nothing p ih = ih s p
@@ -79,13 +79,13 @@ expiries-step g t now y ys s events.Soft p ih =
     let f : Half → Half = under y.entry.name softly_told in
     let k : GatewayState = with_halves (map f s.halves) s in
     ap (λ z. did_all g z (expiries_of g t now ys)) (noticed s (bytes_eq g g) (map (note n) s.halves) (map f s.halves) (take 64 s.bad_spis)
-        (same-refl g) m p)
+    (same-refl g) m p)
     ∙ (ih k p ∙ ap (λ zs. with_halves zs s) (map-twice (told_by now ys) f s.halves))
 expiries-step g t now y ys s events.Hard p ih =
     let n = notices.Expire y.entry.name false (counts_of now y.life) in
     let m = hard-at y.entry.name (counts_of now y.life) s.halves in
     ap (λ z. did_all g z (expiries_of g t now ys)) (noticed s (bytes_eq g g) (map (note n) s.halves) s.halves (take 64 s.bad_spis)
-        (same-refl g) m p)
+    (same-refl g) m p)
     ∙ ih s p
 
 expiries-done : (g : List ℕ) (t now : ℕ) (ys : List Half) (s : GatewayState) → take 64 s.bad_spis ≡ s.bad_spis →
@@ -166,7 +166,7 @@ without-all-map f keeps (name ∷ names) xs =
 
 look-at-these : (g : List ℕ) (t : ℕ) (ys : List Half) (s : GatewayState) → take 64 s.bad_spis ≡ s.bad_spis →
     did_all g (quiet s) (look_of g t s.clock ys) ≡ with_halves (without_all (names_reached s.clock ys) (map (told_by s.clock ys) s.halves))
-        s
+    s
 look-at-these g t ys s p =
     let now : ℕ = s.clock in
     let names : List (List ℕ) = names_reached now ys in
@@ -178,7 +178,7 @@ look-at-these g t ys s p =
 
 pub look-at-all : (g : List ℕ) (t : ℕ) (s : GatewayState) → are_names_apart (names_of s.halves) ≡ true → take 64 s.bad_spis ≡ s.bad_spis →
     did_all g (quiet s) (look_of g t s.clock s.halves) ≡ with_halves
-        (without_all (names_reached s.clock s.halves) (map (look_at s.clock) s.halves)) s
+    (without_all (names_reached s.clock s.halves) (map (look_at s.clock) s.halves)) s
 look-at-all g t s a p =
     look-at-these g t s.halves s p
     ∙ ap (λ zs. with_halves (without_all (names_reached s.clock s.halves) zs) s) (looked-all s.clock s.halves a)
@@ -198,10 +198,10 @@ one-if xs i x false a q = map-own (λ z. z) (λ z. refl) xs ∙ changed-own xs i
 pub look-at-one : (g : List ℕ) (t i : ℕ) (x : Half) (s : GatewayState) → are_names_apart (names_of s.halves) ≡ true
     → take 64 s.bad_spis ≡ s.bad_spis → slice_get s.halves i ≡ Some x →
     did_all g (quiet s) (look_of g t s.clock (x ∷ [])) ≡ with_halves
-        (without_all (names_reached s.clock (x ∷ [])) (changed (look_at s.clock) i s.halves)) s
+    (without_all (names_reached s.clock (x ∷ [])) (changed (look_at s.clock) i s.halves)) s
 look-at-one g t i x s a p q =
     let b : Bool = is_soft (event_at s.clock x.life) in
     look-at-these g t (x ∷ []) s p
     ∙ ap (λ zs. with_halves (without_all (names_reached s.clock (x ∷ [])) zs) s)
     (one-if s.halves i x b a q ∙ changed-as (λ z. if b then softly_told z else z) (look_at s.clock) s.halves i x q
-        (told-if x (event_at s.clock x.life)))
+    (told-if x (event_at s.clock x.life)))

@@ -86,7 +86,7 @@ sends-is g h e n d =
     let a : Act = acts.Sent g e.name n d in
     let own = sent-split g g e.name d n h e true (same-refl g) (same-refl e.name) in
     let under : sent_under e.name (clock h) (octets_in (Some d)) (half_of g h e) ≡ send (clock h) (octets_in (Some d)) (half_of g h e) =
-        rw (same-refl e.name) refl in
+    rw (same-refl e.name) refl in
     let l = look-is g (a ∷ h) (e ∷ []) in
     let p = ap (λ x. a ∷ look_of g (sessions.session_taken g h) (clock h) (x ∷ [])) (own ∙ under) in
     sym p ∙ ap (λ t. a ∷ t) l
@@ -97,7 +97,7 @@ out-half g o q h v p None =
     ap (λ b. acts.Drop g why.NoSa ∷ unless b (tells g h (notices.Acquire p.name (flow_of v)))) (acquires-is g p.name h)
 out-half g o q h v p (Some e) =
     ap (λ t. if nat_le q (sent g e.name h) then acts.Drop g why.SeqLimit
-        ∷ unless (was_overflow_given g e.name h) (tells g h (notices.SeqOverflow e.name)) else t)
+    ∷ unless (was_overflow_given g e.name h) (tells g h (notices.SeqOverflow e.name)) else t)
     (sends-is g h e (sent g e.name h + 1) (datagram e (sent g e.name h + 1) v o))
 
 out-action : (g o : List ℕ) (q : ℕ) (h : List Act) (v : Packet) (p : SpdEntry) (a : Action)
@@ -129,13 +129,13 @@ UseAct g e n a = ((p : List ℕ) × (a ≡ acts.Gave g e.name n p)) ⊎ ((w : Dr
 look-after : (g o : List ℕ) (h : List Act) (e : SadEntry) (n : ℕ) (a : Act) → sessions.session_taken g (a ∷ h) ≡ sessions.session_taken g h
     → clock (a ∷ h) ≡ clock h →
     look_of g (sessions.session_taken g h) (clock h) (half_of g (a ∷ h) e ∷ []) ≡ look_of g (sessions.session_taken g h) (clock h)
-        (take_number (clock h) (octets_in (Some o)) n (half_of g h e) ∷ []) →
+    (take_number (clock h) (octets_in (Some o)) n (half_of g h e) ∷ []) →
     uses_of g (state_of g h) o (half_of g h e) n a ≡ arrive.use_acts g h e a
 look-after g o h e n a session now same =
     let l = look-is g (a ∷ h) (e ∷ []) in
     let m : look_of g (sessions.session_taken g h) (clock h) (half_of g (a ∷ h) e ∷ []) ≡ look g (a ∷ h) (e ∷ []) =
-        ap (λ t. look_of g t (clock h) (half_of g (a ∷ h) e ∷ [])) (sym session)
-        ∙ (ap (λ t. look_of g (sessions.session_taken g (a ∷ h)) t (half_of g (a ∷ h) e ∷ [])) (sym now) ∙ l) in
+    ap (λ t. look_of g t (clock h) (half_of g (a ∷ h) e ∷ [])) (sym session)
+    ∙ (ap (λ t. look_of g (sessions.session_taken g (a ∷ h)) t (half_of g (a ∷ h) e ∷ [])) (sym now) ∙ l) in
     ap (λ t. a ∷ t) (sym same ∙ m)
 
 gave-look : (g o p : List ℕ) (h : List Act) (e : SadEntry) (n : ℕ) → arrival g h ≡ Some o →
@@ -143,9 +143,9 @@ gave-look : (g o p : List ℕ) (h : List Act) (e : SadEntry) (n : ℕ) → arriv
 gave-look g o p h e n came =
     let own = gave-split g g e.name p n h e true (same-refl g) (same-refl e.name) in
     let under : given_under e.name (clock h) (octets_in (arrival g h)) n (half_of g h e) ≡ take_number (clock h) (octets_in (Some o)) n
-        (half_of g h e) = rw (same-refl e.name, came) refl in
+    (half_of g h e) = rw (same-refl e.name, came) refl in
     look-after g o h e n (acts.Gave g e.name n p) refl refl (ap (λ x. look_of g (sessions.session_taken g h) (clock h) (x ∷ [])) (own
-        ∙ under))
+    ∙ under))
 
 drop-look : (g o : List ℕ) (h : List Act) (e : SadEntry) (n : ℕ) (w : DropWhy) → arrival g h ≡ Some o
     → is_for e.name (live g h) (Some o) ≡ true → is_opened w ≡ true →
@@ -158,7 +158,7 @@ drop-look g o h e n w came mine op = by-number (number-either e.name (half_of g 
     by-number (inr (m, p, r)) =
         let own = opened-split g g w h e (same-refl g) op in
         let under : opened_under (live g h) (arrival g h) (clock h) (half_of g h e) ≡ take_number (clock h) (octets_in (Some o)) m
-            (half_of g h e) = rw (came, r) refl in
+        (half_of g h e) = rw (came, r) refl in
         look-after g o h e n (acts.Drop g w) refl refl (ap (λ x. look_of g (sessions.session_taken g h) (clock h) (x ∷ [])) (own ∙ under))
 
 use-look : (g o : List ℕ) (h : List Act) (e : SadEntry) (n : ℕ) (a : Act) → arrival g h ≡ Some o → is_for e.name (live g h) (Some o) ≡ true
@@ -174,7 +174,7 @@ use-selector g p e n false = inr (why.Selector, refl, refl)
 
 use-version : (g p : List ℕ) (e : SadEntry) (n : ℕ) (v : Packet) (b : Bool) →
     UseAct g e n (if b then acts.Drop g why.Inner else if holds_packet e.selector In v then acts.Gave g e.name n p
-        else acts.Drop g why.Selector)
+    else acts.Drop g why.Selector)
 use-version g p e n v true = inr (why.Inner, refl, refl)
 use-version g p e n v false = use-selector g p e n (holds_packet e.selector In v)
 
@@ -240,14 +240,14 @@ in-esp : (g o b : List ℕ) (h : List Act) → Judges → arrival g h ≡ Some o
 in-esp g o b h judges came same =
     ap (λ t. if nat_lt (length b) 34 then arrive.drops g why.Short else t)
     (ap (λ x. in_by_half g (state_of g h) o b x) (spi-is g h (spi_of b) (live g h)) ∙ in-found g o b h (by_spi (spi_of b) (live g h)) judges
-        came same refl)
+    came same refl)
 
 in-view : (g o : List ℕ) (own : Addr) (h : List Act) (r : Result Packet NotPacket) → Judges → arrival g h ≡ Some o → view_of o ≡ r →
     in_by_view g own (state_of g h) o r ≡ arrive.arrive_by_view g own h o r
 in-view g o own h (Err fault) judges came seen = refl
 in-view g o own h (Ok v) judges came seen =
     ap (λ t. if arrive.is_sealed_for own v then t else arrive.arrive_by_entry g o (first_entry (force g h) In v) ∷ [])
-        (in-esp g o v.payload h judges came (ap payload_of seen))
+    (in-esp g o v.payload h judges came (ap payload_of seen))
 
 arrive-is : (g o : List ℕ) (own : Addr) (h : List Act) → Judges → in_by_view g own (state_of g h) o (view_of o) ≡ arrive.arrive_acts g own
     (acts.Arrived g o ∷ h) o
@@ -261,7 +261,7 @@ clock-now t now = omega arith
 
 clock-look : (g : List ℕ) (t : ℕ) (h : List Act) →
     look_of g (sessions.session_taken g h) (max t (clock h)) (map (half_of g h) (live g h)) ≡ look g (acts.Now (max t (clock h)) ∷ h)
-        (live g h)
+    (live g h)
 clock-look g t h =
     let l = look-is g (acts.Now (max t (clock h)) ∷ h) (live g h) in
     ap (λ now. look_of g (sessions.session_taken g h) now (map (half_of g h) (live g h))) (sym (clock-now t (clock h))) ∙ l
@@ -278,7 +278,7 @@ row-with e c top = record { entry = e; state = record { current = c; top = top }
 pub row-is : (g : List ℕ) (h : List Act) (e : SadEntry) → row_from (clock h) (half_of g h e) ≡ row_of g h e
 row-is g h e =
     ap (λ top. row-with e (counts g e.name h) (if is_inbound e.name then top else sent g e.name h))
-        (window-top e.window (numbers_taken g e.name h))
+    (window-top e.window (numbers_taken g e.name h))
 
 rows-are : (g : List ℕ) (h : List Act) (es : List SadEntry) → map (row_from (clock h)) (map (half_of g h) es) ≡ map (row_of g h) es
 rows-are g h [] = refl

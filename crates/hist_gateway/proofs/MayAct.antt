@@ -111,14 +111,14 @@ says-goings : (g : List ℕ) (h : List Act) (es : List SadEntry) → some-says (
 says-goings g h [] = refl
 says-goings g h (e ∷ es) =
     says-if (is_reached e.hard (counts g e.name h)) (acts.Gone g e.name gone.Hard ∷ goings g h es) (goings g h es) (says-goings g h es)
-        (says-goings g h es)
+    (says-goings g h es)
 
 says-expiries : (g : List ℕ) (h : List Act) (es : List SadEntry) → some-says (expiries g h es) ≡ false
 says-expiries g h [] = refl
 says-expiries g h (e ∷ es) =
     let ns : List Notice = expiry e.name (counts g e.name h) (event_of g h e) in
     says-append (given_by g (sessions.session_taken g h) ns) (expiries g h es) (says-given g (sessions.session_taken g h) ns)
-        (says-expiries g h es)
+    (says-expiries g h es)
 
 says-look : (g : List ℕ) (h : List Act) (es : List SadEntry) → some-says (look g h es) ≡ false
 says-look g h es = says-append (goings g h es) (expiries g h es) (says-goings g h es) (says-expiries g h es)
@@ -132,10 +132,10 @@ may-if q h false xs ys p r = r refl
 
 may-half : (q : Gateway) (g o : List ℕ) (h : List Act) (v : Packet) (p : SpdEntry) (found : Option SadEntry) →
     LetBefore h g o v p actions.Protect → newest p.reqid v (live g h) ≡ found
-        → GatewayMayActAll q h (let_by_half g q.seq_last h o v p found)
+    → GatewayMayActAll q h (let_by_half g q.seq_last h o v p found)
 may-half q g o h v p None let_before new =
     all-plain q h (let_by_half g q.seq_last h o v p None)
-        (says-unless (does_acquire_stand g p.name h) (tells g h (notices.Acquire p.name (flow_of v))) refl)
+    (says-unless (does_acquire_stand g p.name h) (tells g h (notices.Acquire p.name (flow_of v))) refl)
 may-half q g o h v p (Some e) let_before new =
     let limit : List Act = acts.Drop g why.SeqLimit ∷ unless (was_overflow_given g e.name h) (tells g h (notices.SeqOverflow e.name)) in
     let n : ℕ = sent g e.name h + 1 in
@@ -143,8 +143,19 @@ may-half q g o h v p (Some e) let_before new =
     may-if q h (nat_le q.seq_last (sent g e.name h)) limit (send_acts g h e n d)
     (λ _. all-plain q h limit (says-unless (was_overflow_given g e.name h) (tells g h (notices.SeqOverflow e.name)) refl))
     (λ below. (
-      record { octets = o; packet = v; entry = p; half = e; let_before = let_before; newest = new; name = refl; number = refl; in_limit =
-          below; datagram = refl },
+      record {
+        octets = o;
+        packet = v;
+        entry = p;
+        half = e;
+        let_before = let_before;
+        newest = new;
+        name = refl;
+        number = refl;
+        in_limit =
+            below;
+        datagram = refl;
+      },
       all-plain q (acts.Sent g e.name n d ∷ h) (look g (acts.Sent g e.name n d ∷ h) (e ∷ []))
           (says-look g (acts.Sent g e.name n d ∷ h) (e ∷ [])),
     ))
@@ -154,7 +165,7 @@ may-action : (q : Gateway) (g o : List ℕ) (h older : List Act) (v : Packet) (p
     first_entry (force g h) Out v ≡ Some p → p.action ≡ a → GatewayMayActAll q h (let_by_action g q.seq_last h o v p a)
 may-action q g o h older v p actions.Protect before seen first act =
     may-half q g o h v p (newest p.reqid v (live g h)) (record { older = older; before = before; view = seen; first = first; action = act })
-        refl
+    refl
 may-action q g o h older v p actions.Bypass before seen first act =
     (record { packet = v; entry = p; let_before = record { older = older; before = before; view = seen; first = first; action = act } }, tt)
 may-action q g o h older v p actions.Discard before seen first act = (tt, tt)
@@ -177,7 +188,7 @@ may-view : (q : Gateway) (g o : List ℕ) (h older : List Act) (r : Result Packe
 may-view q g o h older (Err fault) before seen = (may-fault q h g fault, tt)
 may-view q g o h older (Ok v) before seen =
     may-if q h (nat_lt 65000 (length o)) (acts.Drop g why.TooLong ∷ []) (let_by_entry g q.seq_last h o v (first_entry (force g h) Out v))
-        (λ _. (tt, tt))
+    (λ _. (tt, tt))
     (λ _. may-entry q g o h older v (first_entry (force g h) Out v) before seen refl)
 
 pub may-let : (q : Gateway) (g o : List ℕ) (h : List Act)
@@ -195,21 +206,31 @@ follow-if q h false x y p r = r refl
 may-inner : (q : Gateway) (h : List Act) (g : List ℕ) (came : OpensArrival q h g) (n : ℕ) (p : List ℕ) (next : ℕ)
     (r : Result Packet NotPacket) →
     n ≡ number_of came.half (numbers_taken g came.half.name h) came.outer.payload
-        → esp.inner_packet came.text ≡ Some (record { next = next; octets = p }) → view_of p ≡ r →
+    → esp.inner_packet came.text ≡ Some (record { next = next; octets = p }) → view_of p ≡ r →
     GatewayMayAct q h (arrive.by_inner g came.half n next p r)
 may-inner q h g came n p next (Err fault) number packet seen = came
 may-inner q h g came n p next (Ok w) number packet seen =
     let e : SadEntry = came.half in
     follow-if q h (not (arrive.is_told_version next p)) (acts.Drop g why.Inner) (if holds_packet e.selector In w then acts.Gave g e.name n p
-        else acts.Drop g why.Selector) (λ _. came)
+    else acts.Drop g why.Selector) (λ _. came)
     (λ told. follow-if q h (holds_packet e.selector In w) (acts.Gave g e.name n p) (acts.Drop g why.Selector)
-    (λ held. record { opens = came; inner = w; next = next; name = refl; number = number; packet = packet; inner_view = seen; version =
-        not-false (arrive.is_told_version next p) told; held = held })
+    (λ held. record {
+      opens = came;
+      inner = w;
+      next = next;
+      name = refl;
+      number = number;
+      packet = packet;
+      inner_view = seen;
+      version =
+          not-false (arrive.is_told_version next p) told;
+      held = held;
+    })
     (λ _. came))
 
 may-packet : (q : Gateway) (h : List Act) (g : List ℕ) (came : OpensArrival q h g) (n : ℕ) (p : Option esp.InnerPacket) →
     n ≡ number_of came.half (numbers_taken g came.half.name h) came.outer.payload → esp.inner_packet came.text ≡ p
-        → GatewayMayAct q h (arrive.by_packet g came.half n p)
+    → GatewayMayAct q h (arrive.by_packet g came.half n p)
 may-packet q h g came n None number packet = came
 may-packet q h g came n (Some p) number packet =
     follow-if q h (p.next == 59) (acts.Drop g why.Dummy) (arrive.by_inner g came.half n p.next p.octets (view_of p.octets)) (λ _. came)
@@ -219,14 +240,26 @@ may-text : (q : Gateway) (h older : List Act) (g o : List ℕ) (v : Packet) (e :
     ∷ older → view_of o ≡ Ok v →
     arrive.is_sealed_for q.address v ≡ true → by_spi (spi_of v.payload) (live g h) ≡ Some e →
     verdict_over e.window (numbers_taken g e.name h) (number_of e (numbers_taken g e.name h) v.payload) ≡ verdicts.Fresh
-        → esp.opened (keying e.spi e.key) v.payload ≡ x →
+    → esp.opened (keying e.spi e.key) v.payload ≡ x →
     GatewayMayActAll q h (arrive.by_text g h e (number_of e (numbers_taken g e.name h) v.payload) x)
 may-text q h older g o v e None before seen own spi fresh op = (tt, tt)
 may-text q h older g o v e (Some x) before seen own spi fresh op =
     let n : ℕ = number_of e (numbers_taken g e.name h) v.payload in
     let a : Act = arrive.by_packet g e n (esp.inner_packet x) in
-    let came : OpensArrival q h g = record { older = older; octets = o; outer = v; half = e; text = x; before = before; view = seen; own =
-        own; spi = spi; fresh = fresh; opened = op } in
+    let came : OpensArrival q h g = record {
+      older = older;
+      octets = o;
+      outer = v;
+      half = e;
+      text = x;
+      before = before;
+      view = seen;
+      own =
+          own;
+      spi = spi;
+      fresh = fresh;
+      opened = op;
+    } in
     (may-packet q h g came n (esp.inner_packet x) refl refl, all-plain q (a ∷ h) (look g (a ∷ h) (e ∷ [])) (says-look g (a ∷ h) (e ∷ [])))
 
 may-verdict : (q : Gateway) (h older : List Act) (g o : List ℕ) (v : Packet) (e : SadEntry) (w : Verdict) → h ≡ acts.Arrived g o ∷ older
@@ -243,13 +276,13 @@ may-verdict q h older g o v e verdicts.Fresh before seen own spi judged =
 may-found : (q : Gateway) (h older : List Act) (g o : List ℕ) (v : Packet) (found : Option SadEntry) → h ≡ acts.Arrived g o ∷ older
     → view_of o ≡ Ok v →
     arrive.is_sealed_for q.address v ≡ true → by_spi (spi_of v.payload) (live g h) ≡ found
-        → GatewayMayActAll q h (arrive.arrive_by_half g h v.payload found)
+    → GatewayMayActAll q h (arrive.arrive_by_half g h v.payload found)
 may-found q h older g o v None before seen own spi =
     all-plain q h (arrive.arrive_by_half g h v.payload None) (says-unless (does_bad_spi_stand g (spi_of v.payload) h)
-        (tells g h (notices.BadSpi (spi_of v.payload))) refl)
+    (tells g h (notices.BadSpi (spi_of v.payload))) refl)
 may-found q h older g o v (Some e) before seen own spi =
     may-verdict q h older g o v e (verdict_over e.window (numbers_taken g e.name h) (number_of e (numbers_taken g e.name h) v.payload))
-        before seen own spi refl
+    before seen own spi refl
 
 pass-action : (q : Gateway) (h older : List Act) (g o : List ℕ) (v : Packet) (p : SpdEntry) (a : Action) → h ≡ acts.Arrived g o ∷ older
     → view_of o ≡ Ok v →
@@ -271,9 +304,9 @@ may-arrived : (q : Gateway) (h older : List Act) (g o : List ℕ) (r : Result Pa
 may-arrived q h older g o (Err fault) before seen = (may-fault q h g fault, tt)
 may-arrived q h older g o (Ok v) before seen =
     may-if q h (arrive.is_sealed_for q.address v) (arrive.esp_acts g h v.payload) (arrive.arrive_by_entry g o (first_entry (force g h) In v)
-        ∷ [])
+    ∷ [])
     (λ own. may-if q h (nat_lt (length v.payload) 34) (arrive.drops g why.Short)
-        (arrive.arrive_by_half g h v.payload (by_spi (spi_of v.payload) (live g h))) (λ _. (tt, tt))
+    (arrive.arrive_by_half g h v.payload (by_spi (spi_of v.payload) (live g h))) (λ _. (tt, tt))
     (λ _. may-found q h older g o v (by_spi (spi_of v.payload) (live g h)) before seen own refl))
     (λ _. (pass-entry q h older g o v (first_entry (force g h) In v) before seen refl, tt))
 
@@ -317,7 +350,7 @@ may-append q h (x ∷ xs) a last m = (m.0, may-append q (x ∷ h) xs a last m.1)
 -- a change is none of sessions and requests
 same-session : (g : List ℕ) (h : List Act) (r : table.Outcome) (c : Change) →
     (sessions.session_taken g h ≡ sessions.session_taken g (after h (change_acts g r c)))
-        × (requests g h + 1 ≡ requests g (after h (change_acts g r c)) + 1)
+    × (requests g h + 1 ≡ requests g (after h (change_acts g r c)) + 1)
 same-session g h r changes.Nothing = (refl, refl)
 same-session g h r changes.Spd = (refl, refl)
 same-session g h r (changes.Put e) = (refl, refl)
@@ -332,7 +365,7 @@ may-handle : (q : Gateway) (g : List ℕ) (h : List Act) (request : Result Ask F
 may-handle q g h (Ok ask) fits =
     let r : table.Outcome = table.reply (tree_of g h) ask in
     may-append q h (change_acts g r r.change) (acts.Handled g (sessions.session_taken g h) (requests g h + 1) (answer_of r))
-        (same-session g h r r.change)
+    (same-session g h r r.change)
     (may-change q g h r r.change (fits (tree_of g h) ask))
 may-handle q g h (Err fault) fits = ((refl, refl), tt)
 

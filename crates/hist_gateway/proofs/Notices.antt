@@ -67,14 +67,14 @@ expiries-none : (q : Notice → Bool) → NoExpiry q → (g : List ℕ) (h : Lis
 expiries-none q free g h [] = refl
 expiries-none q free g h (e ∷ es) =
     given-none q free g e.name (sessions.session_taken g h) (counts g e.name h) (event_of g h e) (expiries g h es)
-        ∙ expiries-none q free g h es
+    ∙ expiries-none q free g h es
 
 look-none : (q : Notice → Bool) → NoExpiry q → (g : List ℕ) (h : List Act) (es : List SadEntry)
     → list_any (is_notice q) (look g h es) ≡ false
 look-none q free g h es =
     list_any-append (is_notice q) (goings g h es) (expiries g h es)
     ∙ (ap (λ z. z || list_any (is_notice q) (expiries g h es)) (goings-quiet (is_notice q) g h (λ e. refl) es)
-        ∙ expiries-none q free g h es)
+    ∙ expiries-none q free g h es)
 
 unless-none : (q : Notice → Bool) (b : Bool) (g : List ℕ) (h : List Act) (n : Notice) → q n ≡ false
     → list_any (is_notice q) (unless b (tells g h n)) ≡ false
@@ -87,12 +87,12 @@ unless-none q false g h n e = or-false (q n) ∙ e
 let-told : {A : Type 0} (q : Notice → Bool) (c : Gateway) (h : List Act) (o : List ℕ) → NoExpiry q →
     ((v : Packet) (p : SpdEntry) → AsksToSeal c.name h o v p → newest p.reqid v (live c.name h) ≡ None →
     list_any (is_notice q)
-        (unless (does_acquire_stand c.name p.name h) (tells c.name (acts.Let c.name o ∷ h) (notices.Acquire p.name (flow_of v)))) ≡ true
-        → A) →
+    (unless (does_acquire_stand c.name p.name h) (tells c.name (acts.Let c.name o ∷ h) (notices.Acquire p.name (flow_of v)))) ≡ true
+    → A) →
     ((v : Packet) (p : SpdEntry) (e : SadEntry) → AsksToSeal c.name h o v p → newest p.reqid v (live c.name h) ≡ Some e
-        → nat_le c.seq_last (sent c.name e.name h) ≡ true →
+    → nat_le c.seq_last (sent c.name e.name h) ≡ true →
     list_any (is_notice q) (unless (was_overflow_given c.name e.name h) (tells c.name (acts.Let c.name o ∷ h) (notices.SeqOverflow e.name)))
-        ≡ true → A) →
+    ≡ true → A) →
     list_any (is_notice q) (gw_block c h (Let o)) ≡ true → A
 unfolding let_acts
 let-told {A} q c h o free lacks spent t = by-view (view_of o) refl t
@@ -103,8 +103,8 @@ let-told {A} q c h o free lacks spent t = by-view (view_of o) refl t
     by-number : (v : Packet) (p : SpdEntry) (e : SadEntry) → AsksToSeal c.name h o v p → newest p.reqid v (live c.name h) ≡ Some e
         → (b : Bool) → nat_le c.seq_last (sent c.name e.name h) ≡ b →
         list_any (is_notice q) (if b then acts.Drop c.name why.SeqLimit
-            ∷ unless (was_overflow_given c.name e.name h) (tells c.name past (notices.SeqOverflow e.name)) else send_acts c.name past e
-            (sent c.name e.name h + 1) (datagram e (sent c.name e.name h + 1) v o)) ≡ true → A
+        ∷ unless (was_overflow_given c.name e.name h) (tells c.name past (notices.SeqOverflow e.name)) else send_acts c.name past e
+        (sent c.name e.name h + 1) (datagram e (sent c.name e.name h + 1) v o)) ≡ true → A
     by-number v p e a n true s t = spent v p e a n s t
     by-number v p e a n false s t =
         absurd (false≢true (sym
@@ -142,13 +142,13 @@ let-told {A} q c h o free lacks spent t = by-view (view_of o) refl t
 -- what answers a packet that asks to be sealed
 asks-acts : (c : Gateway) (h : List Act) (o : List ℕ) (v : Packet) (p : SpdEntry) → AsksToSeal c.name h o v p →
     let_acts c.name c.seq_last (acts.Let c.name o ∷ h) o ≡ let_by_half c.name c.seq_last (acts.Let c.name o ∷ h) o v p
-        (newest p.reqid v (live c.name h))
+    (newest p.reqid v (live c.name h))
 unfolding let_acts
 asks-acts c h o v p a =
     let past : List Act = acts.Let c.name o ∷ h in
     ap (let_by_view c.name c.seq_last past o) a.view
     ∙ (ap (λ b. if b then acts.Drop c.name why.TooLong
-        ∷ [] else let_by_entry c.name c.seq_last past o v (first_entry (force c.name h) Out v)) a.fits
+    ∷ [] else let_by_entry c.name c.seq_last past o v (first_entry (force c.name h) Out v)) a.fits
     ∙ (ap (let_by_entry c.name c.seq_last past o v) a.first
     ∙ ap (let_by_action c.name c.seq_last past o v p) a.action))
 
@@ -161,13 +161,13 @@ acquire-lacks c h o name t =
     let-told (is_acquire_of name) c h o (λ x soft n. refl)
     (λ v p a n t. lacks v p a n (does_acquire_stand c.name p.name h) refl t)
     (λ v p e a n s t. absurd
-        (false≢true (sym (unless-none (is_acquire_of name) (was_overflow_given c.name e.name h) c.name (acts.Let c.name o ∷ h)
-        (notices.SeqOverflow e.name) refl) ∙ t))) t
+    (false≢true (sym (unless-none (is_acquire_of name) (was_overflow_given c.name e.name h) c.name (acts.Let c.name o ∷ h)
+    (notices.SeqOverflow e.name) refl) ∙ t))) t
   where
     lacks : (v : Packet) (p : SpdEntry) → AsksToSeal c.name h o v p → newest p.reqid v (live c.name h) ≡ None → (b : Bool)
         → does_acquire_stand c.name p.name h ≡ b →
         list_any (is_notice (is_acquire_of name)) (unless b (tells c.name (acts.Let c.name o ∷ h) (notices.Acquire p.name (flow_of v)))) ≡
-            true →
+        true →
         LacksHalf c.name h o name × (does_acquire_stand c.name name h ≡ false)
     lacks v p a n true s t = absurd (false≢true t)
     lacks v p a n false s t =
@@ -181,9 +181,9 @@ lacks-acquire c h o name r s =
     let own : does_acquire_stand c.name r.entry.name h ≡ false = subst (λ z. does_acquire_stand c.name z h ≡ false) (sym r.named) s in
     let same : bytes_eq r.entry.name name ≡ true = subst (λ z. bytes_eq r.entry.name z ≡ true) r.named (same-refl r.entry.name) in
     ap (list_any (is_notice (is_acquire_of name))) (asks-acts c h o r.packet r.entry r.asks
-        ∙ ap (let_by_half c.name c.seq_last past o r.packet r.entry) r.none)
+    ∙ ap (let_by_half c.name c.seq_last past o r.packet r.entry) r.none)
     ∙ (ap (λ b. list_any (is_notice (is_acquire_of name)) (unless b (tells c.name past (notices.Acquire r.entry.name (flow_of r.packet)))))
-        own
+    own
     ∙ (or-false (bytes_eq r.entry.name name) ∙ same))
 
 -- ---- an overflow
@@ -214,8 +214,8 @@ pub overflow-lacks : (c : Gateway) (h : List Act) (o x : List ℕ) → list_any 
 overflow-lacks c h o x t =
     let-told (is_overflow_of x) c h o (λ y soft n. refl)
     (λ v p a n t. absurd (false≢true
-        (sym (unless-none (is_overflow_of x) (does_acquire_stand c.name p.name h) c.name (acts.Let c.name o ∷ h)
-        (notices.Acquire p.name (flow_of v)) refl) ∙ t)))
+    (sym (unless-none (is_overflow_of x) (does_acquire_stand c.name p.name h) c.name (acts.Let c.name o ∷ h)
+    (notices.Acquire p.name (flow_of v)) refl) ∙ t)))
     (λ v p e a n s t. lacks v p e a n s (was_overflow_given c.name e.name h) refl t) t
   where
     lacks : (v : Packet) (p : SpdEntry) (e : SadEntry) → AsksToSeal c.name h o v p → newest p.reqid v (live c.name h) ≡ Some e
@@ -225,9 +225,11 @@ overflow-lacks c h o x t =
     lacks v p e a n s true w t = absurd (false≢true t)
     lacks v p e a n s false w t =
         let same : e.name ≡ x = same-is e.name x (sym (or-false (bytes_eq e.name x)) ∙ t) in
-        let stands : does_overflow_stand c.name e.name h ≡ false = overflow-is c.name e.name h (newest-live c.name h p.reqid v e n) ∙ w in
-        (record { packet = v; entry = p; half = e; asks = a; newest = n; spent = s; named = same }, subst
-            (λ z. does_overflow_stand c.name z h ≡ false) same stands)
+        let stands : does_overflow_stand c.name e.name h ≡ false = overflow-is c.name e.name h (newest-live c.name h p.reqid v e n) ∙ w in (
+          record { packet = v; entry = p; half = e; asks = a; newest = n; spent = s; named = same },
+          subst
+              (λ z. does_overflow_stand c.name z h ≡ false) same stands,
+        )
 
 pub lacks-overflow : (c : Gateway) (h : List Act) (o x : List ℕ) → LacksNumber c h o x → does_overflow_stand c.name x h ≡ false →
     list_any (is_notice (is_overflow_of x)) (gw_block c h (Let o)) ≡ true
@@ -237,13 +239,13 @@ lacks-overflow c h o x r s =
     let n : ℕ = sent c.name e.name h + 1 in
     let stands : does_overflow_stand c.name e.name h ≡ false = subst (λ z. does_overflow_stand c.name z h ≡ false) (sym r.named) s in
     let own : was_overflow_given c.name e.name h ≡ false =
-        sym (overflow-is c.name e.name h (newest-live c.name h r.entry.reqid r.packet e r.newest)) ∙ stands in
+    sym (overflow-is c.name e.name h (newest-live c.name h r.entry.reqid r.packet e r.newest)) ∙ stands in
     let same : bytes_eq e.name x ≡ true = subst (λ z. bytes_eq e.name z ≡ true) r.named (same-refl e.name) in
     ap (list_any (is_notice (is_overflow_of x))) (asks-acts c h o r.packet r.entry r.asks
-        ∙ (ap (let_by_half c.name c.seq_last past o r.packet r.entry) r.newest
+    ∙ (ap (let_by_half c.name c.seq_last past o r.packet r.entry) r.newest
     ∙ ap (λ b. if b then acts.Drop c.name why.SeqLimit
-        ∷ unless (was_overflow_given c.name e.name h) (tells c.name past (notices.SeqOverflow e.name)) else send_acts c.name past e n
-        (datagram e n r.packet o)) r.spent))
+    ∷ unless (was_overflow_given c.name e.name h) (tells c.name past (notices.SeqOverflow e.name)) else send_acts c.name past e n
+    (datagram e n r.packet o)) r.spent))
     ∙ (ap (λ b. list_any (is_notice (is_overflow_of x)) (unless b (tells c.name past (notices.SeqOverflow e.name)))) own
     ∙ (or-false (bytes_eq e.name x) ∙ same))
 
@@ -276,7 +278,7 @@ text-none q free g h e n None = refl
 text-none q free g h e n (Some x) =
     let a : Act = arrive.by_packet g e n (esp.inner_packet x) in
     ap (λ z. z || list_any (is_notice q) (look g (a ∷ h) (e ∷ []))) (packet-none q g e n (esp.inner_packet x))
-        ∙ look-none q free g (a ∷ h) (e ∷ [])
+    ∙ look-none q free g (a ∷ h) (e ∷ [])
 
 verdict-none : (q : Notice → Bool) → NoExpiry q → (g b : List ℕ) (h : List Act) (e : SadEntry) (n : ℕ) (w : Verdict)
     → list_any (is_notice q) (arrive.by_verdict g h b e n w) ≡ false
@@ -297,9 +299,9 @@ entry-none q g o (Some p) = by-action p.action
 -- where such a notice is among the acts, the datagram lacks a half
 arrive-told : {A : Type 0} (q : Notice → Bool) (c : Gateway) (h : List Act) (o : List ℕ) → NoExpiry q →
     ((v : Packet) → view_of o ≡ Ok v → arrive.is_sealed_for c.address v ≡ true → nat_lt (length v.payload) 34 ≡ false
-        → by_spi (spi_of v.payload) (live c.name h) ≡ None →
+    → by_spi (spi_of v.payload) (live c.name h) ≡ None →
     list_any (is_notice q) (unless (does_bad_spi_stand c.name (spi_of v.payload) h)
-        (tells c.name (acts.Arrived c.name o ∷ h) (notices.BadSpi (spi_of v.payload)))) ≡ true → A) →
+    (tells c.name (acts.Arrived c.name o ∷ h) (notices.BadSpi (spi_of v.payload)))) ≡ true → A) →
     list_any (is_notice q) (gw_block c h (Arrive o)) ≡ true → A
 unfolding arrive.arrive_acts
 arrive-told {A} q c h o free lacks t = by-view (view_of o) refl t
@@ -314,17 +316,17 @@ arrive-told {A} q c h o free lacks t = by-view (view_of o) refl t
     by-half v (Some e) r own f s t =
         let n : ℕ = number_of e (numbers_taken c.name e.name h) v.payload in
         absurd (false≢true (sym (verdict-none q free c.name v.payload past e n (verdict_over e.window (numbers_taken c.name e.name h) n))
-            ∙ t))
+        ∙ t))
 
     by-length : (v : Packet) → view_of o ≡ Ok v → arrive.is_sealed_for c.address v ≡ true → (b : Bool) → nat_lt (length v.payload) 34 ≡ b →
         list_any (is_notice q) (if b then arrive.drops c.name why.Short else arrive.arrive_by_half c.name past v.payload
-            (by_spi (spi_of v.payload) (live c.name h))) ≡ true → A
+        (by_spi (spi_of v.payload) (live c.name h))) ≡ true → A
     by-length v r own true f t = absurd (false≢true t)
     by-length v r own false f t = by-half v (by_spi (spi_of v.payload) (live c.name h)) r own f refl t
 
     by-own : (v : Packet) → view_of o ≡ Ok v → (b : Bool) → arrive.is_sealed_for c.address v ≡ b →
         list_any (is_notice q) (if b then arrive.esp_acts c.name past v.payload else arrive.arrive_by_entry c.name o
-            (first_entry (force c.name h) In v) ∷ []) ≡ true → A
+        (first_entry (force c.name h) In v) ∷ []) ≡ true → A
     by-own v r true own t = by-length v r own (nat_lt (length v.payload) 34) refl t
     by-own v r false own t = absurd (false≢true (sym (entry-none q c.name o (first_entry (force c.name h) In v)) ∙ t))
 
@@ -338,18 +340,20 @@ pub spi-lacks : (c : Gateway) (h : List Act) (o : List ℕ) (spi : ℕ) → list
     LacksSpi c h o spi × (does_bad_spi_stand c.name spi h ≡ false)
 spi-lacks c h o spi t =
     arrive-told (is_bad_spi_of spi) c h o (λ y soft n. refl)
-        (λ v r own f e t. lacks v r own f e (does_bad_spi_stand c.name (spi_of v.payload) h) refl t) t
+    (λ v r own f e t. lacks v r own f e (does_bad_spi_stand c.name (spi_of v.payload) h) refl t) t
   where
     lacks : (v : Packet) → view_of o ≡ Ok v → arrive.is_sealed_for c.address v ≡ true → nat_lt (length v.payload) 34 ≡ false
         → by_spi (spi_of v.payload) (live c.name h) ≡ None → (b : Bool) → does_bad_spi_stand c.name (spi_of v.payload) h ≡ b →
         list_any (is_notice (is_bad_spi_of spi)) (unless b (tells c.name (acts.Arrived c.name o ∷ h) (notices.BadSpi (spi_of v.payload)))) ≡
-            true →
+        true →
         LacksSpi c h o spi × (does_bad_spi_stand c.name spi h ≡ false)
     lacks v r own f e true s t = absurd (false≢true t)
     lacks v r own f e false s t =
-        let same : spi_of v.payload ≡ spi = eqb-true (spi_of v.payload) spi (sym (or-false (spi_of v.payload == spi)) ∙ t) in
-        (record { packet = v; view = r; own = own; whole = f; none = e; named = same }, subst
-            (λ (z : ℕ). does_bad_spi_stand c.name z h ≡ false) same s)
+        let same : spi_of v.payload ≡ spi = eqb-true (spi_of v.payload) spi (sym (or-false (spi_of v.payload == spi)) ∙ t) in (
+          record { packet = v; view = r; own = own; whole = f; none = e; named = same },
+          subst
+              (λ (z : ℕ). does_bad_spi_stand c.name z h ≡ false) same s,
+        )
 
 pub lacks-spi : (c : Gateway) (h : List Act) (o : List ℕ) (spi : ℕ) → LacksSpi c h o spi → does_bad_spi_stand c.name spi h ≡ false →
     list_any (is_notice (is_bad_spi_of spi)) (gw_block c h (Arrive o)) ≡ true
@@ -361,9 +365,9 @@ lacks-spi c h o spi r s =
     let same : (spi_of b == spi) ≡ true = subst (λ (z : ℕ). (spi_of b == z) ≡ true) r.named (eq-eqb (spi_of b) (spi_of b) refl) in
     ap (list_any (is_notice (is_bad_spi_of spi))) (ap (arrive.arrive_by_view c.name c.address past o) r.view
     ∙ (ap (λ d. if d then arrive.esp_acts c.name past b else arrive.arrive_by_entry c.name o (first_entry (force c.name h) In r.packet)
-        ∷ []) r.own
+    ∷ []) r.own
     ∙ (ap (λ d. if d then arrive.drops c.name why.Short else arrive.arrive_by_half c.name past b (by_spi (spi_of b) (live c.name h)))
-        r.whole
+    r.whole
     ∙ ap (arrive.arrive_by_half c.name past b) r.none)))
     ∙ (ap (λ d. list_any (is_notice (is_bad_spi_of spi)) (unless d (tells c.name past (notices.BadSpi (spi_of b))))) own
     ∙ (or-false (spi_of b == spi) ∙ same))
@@ -381,7 +385,7 @@ clock-none : (q : Notice → Bool) → NoExpiry q → (c : Gateway) (h : List Ac
 clock-none q free c h t =
     let past : List Act = acts.Now (max t (clock h)) ∷ h in
     clock-if (is_notice q) c.name past false (nat_lt (clock h) t) (look-none q free c.name past (live c.name h))
-        ∙ and-false (nat_lt (clock h) t)
+    ∙ and-false (nat_lt (clock h) t)
 
 handle-none : (q : Notice → Bool) (c : Gateway) (h : List Act) (r : table.Outcome) (s k : ℕ)
     → list_any (is_notice q) (change_acts c.name r r.change ++ acts.Handled c.name s k (answer_of r) ∷ []) ≡ false
@@ -406,8 +410,8 @@ arrive-none : (q : Notice → Bool) → NoExpiry q → ((spi : ℕ) → q (notic
 arrive-none q free other c h o =
     false_from_ne_true (list_any (is_notice q) (gw_block c h (Arrive o)))
     (λ t. arrive-told q c h o free
-        (λ v r own f e t. false≢true (sym (unless-none q (does_bad_spi_stand c.name (spi_of v.payload) h) c.name (acts.Arrived c.name o ∷ h)
-        (notices.BadSpi (spi_of v.payload)) (other (spi_of v.payload))) ∙ t)) t)
+    (λ v r own f e t. false≢true (sym (unless-none q (does_bad_spi_stand c.name (spi_of v.payload) h) c.name (acts.Arrived c.name o ∷ h)
+    (notices.BadSpi (spi_of v.payload)) (other (spi_of v.payload))) ∙ t)) t)
 
 packets-only : (q : Notice → Bool) → NoExpiry q → ((spi : ℕ) → q (notices.BadSpi spi) ≡ false)
     → (c : Gateway) (h : List Act) (e : GatewayEvent) → is_let e ≡ false → list_any (is_notice q) (gw_block c h e) ≡ false
@@ -432,9 +436,9 @@ let-no-spi c h o spi =
     false_from_ne_true (list_any (is_notice q) (gw_block c h (Let o)))
     (λ t. let-told q c h o (λ y soft n. refl)
     (λ v p a n t. false≢true (sym (unless-none q (does_acquire_stand c.name p.name h) c.name past (notices.Acquire p.name (flow_of v)) refl)
-        ∙ t))
+    ∙ t))
     (λ v p e a n s t. false≢true (sym (unless-none q (was_overflow_given c.name e.name h) c.name past (notices.SeqOverflow e.name) refl)
-        ∙ t)) t)
+    ∙ t)) t)
 
 pub spis-only : (c : Gateway) (h : List Act) (e : GatewayEvent) (spi : ℕ) → is_arrive e ≡ false
     → list_any (is_notice (is_bad_spi_of spi)) (gw_block c h e) ≡ false

@@ -65,14 +65,14 @@ some-goings : (g : List ℕ) (h : List Act) (es : List SadEntry) → some (going
 some-goings g h [] = refl
 some-goings g h (e ∷ es) =
     some-if (is_reached e.hard (counts g e.name h)) (acts.Gone g e.name gone.Hard ∷ goings g h es) (goings g h es) (some-goings g h es)
-        (some-goings g h es)
+    (some-goings g h es)
 
 some-expiries : (g : List ℕ) (h : List Act) (es : List SadEntry) → some (expiries g h es) ≡ false
 some-expiries g h [] = refl
 some-expiries g h (e ∷ es) =
     let ns : List Notice = expiry e.name (counts g e.name h) (event_of g h e) in
     some-append (given_by g (sessions.session_taken g h) ns) (expiries g h es) (some-given g (sessions.session_taken g h) ns)
-        (some-expiries g h es)
+    (some-expiries g h es)
 
 pub some-look : (g : List ℕ) (h : List Act) (es : List SadEntry) → some (look g h es) ≡ false
 some-look g h es = some-append (goings g h es) (expiries g h es) (some-goings g h es) (some-expiries g h es)
@@ -92,14 +92,14 @@ out-half : (q : ℕ) (g o : List ℕ) (h : List Act) (v : Packet) (p : SpdEntry)
 out-half q g o h v p None =
     let ns : List Act = unless (does_acquire_stand g p.name h) (tells g h (notices.Acquire p.name (flow_of v))) in
     first-of is_let_answer (acts.Drop g why.NoSa) ns refl
-        (some-unless (does_acquire_stand g p.name h) (tells g h (notices.Acquire p.name (flow_of v))) refl)
+    (some-unless (does_acquire_stand g p.name h) (tells g h (notices.Acquire p.name (flow_of v))) refl)
 out-half q g o h v p (Some e) =
     let ns : List Act = unless (was_overflow_given g e.name h) (tells g h (notices.SeqOverflow e.name)) in
     let n : ℕ = sent g e.name h + 1 in
     let a : Act = acts.Sent g e.name n (datagram e n v o) in
     pick is_let_answer (nat_le q (sent g e.name h)) (acts.Drop g why.SeqLimit ∷ ns) (send_acts g h e n (datagram e n v o))
     (first-of is_let_answer (acts.Drop g why.SeqLimit) ns refl
-        (some-unless (was_overflow_given g e.name h) (tells g h (notices.SeqOverflow e.name)) refl))
+    (some-unless (was_overflow_given g e.name h) (tells g h (notices.SeqOverflow e.name)) refl))
     (first-of is_let_answer a (look g (a ∷ h) (e ∷ [])) refl (some-look g (a ∷ h) (e ∷ [])))
 
 out-action : (q : ℕ) (g o : List ℕ) (h : List Act) (v : Packet) (p : SpdEntry) (a : Action)
@@ -117,7 +117,7 @@ out-view : (q : ℕ) (g o : List ℕ) (h : List Act) (r : Result Packet NotPacke
 out-view q g o h (Err fault) = refl
 out-view q g o h (Ok v) =
     pick is_let_answer (nat_lt 65000 (length o)) (acts.Drop g why.TooLong ∷ []) (let_by_entry g q h o v (first_entry (force g h) Out v))
-        refl
+    refl
     (out-entry q g o h v (first_entry (force g h) Out v))
 
 pub one-let : (c : Gateway) (h : List Act) (o : List ℕ) → has_one_answer is_let_answer (gw_block c h (Let o)) ≡ true
@@ -135,7 +135,7 @@ fits-inner : (g : List ℕ) (e : SadEntry) (n next : ℕ) (p : List ℕ) (r : Re
 fits-inner g e n next p (Err fault) = refl
 fits-inner g e n next p (Ok v) =
     fits-if (not (arrive.is_told_version next p)) (acts.Drop g why.Inner) (if holds_packet e.selector In v then acts.Gave g e.name n p
-        else acts.Drop g why.Selector) refl
+    else acts.Drop g why.Selector) refl
     (fits-if (holds_packet e.selector In v) (acts.Gave g e.name n p) (acts.Drop g why.Selector) refl refl)
 
 fits-packet : (g : List ℕ) (e : SadEntry) (n : ℕ) (p : Option esp.InnerPacket) → is_arrival_answer (arrive.by_packet g e n p) ≡ true
@@ -162,7 +162,7 @@ in-half : (g b : List ℕ) (h : List Act) (found : Option SadEntry) → is_answe
 in-half g b h None =
     let ns : List Act = unless (does_bad_spi_stand g (spi_of b) h) (tells g h (notices.BadSpi (spi_of b))) in
     first-of is_arrival_answer (acts.Drop g why.BadSpi) ns refl
-        (some-unless (does_bad_spi_stand g (spi_of b) h) (tells g h (notices.BadSpi (spi_of b))) refl)
+    (some-unless (does_bad_spi_stand g (spi_of b) h) (tells g h (notices.BadSpi (spi_of b))) refl)
 in-half g b h (Some e) =
     let n : ℕ = number_of e (numbers_taken g e.name h) b in
     in-verdict g b h e n (verdict_over e.window (numbers_taken g e.name h) n)
@@ -181,12 +181,12 @@ in-view : (g o : List ℕ) (own : Addr) (h : List Act) (r : Result Packet NotPac
 in-view g o own h (Err fault) = refl
 in-view g o own h (Ok v) =
     pick is_arrival_answer (arrive.is_sealed_for own v) (arrive.esp_acts g h v.payload)
-        (arrive.arrive_by_entry g o (first_entry (force g h) In v) ∷ [])
+    (arrive.arrive_by_entry g o (first_entry (force g h) In v) ∷ [])
     (pick is_arrival_answer (nat_lt (length v.payload) 34) (arrive.drops g why.Short)
-        (arrive.arrive_by_half g h v.payload (by_spi (spi_of v.payload) (live g h))) refl
+    (arrive.arrive_by_half g h v.payload (by_spi (spi_of v.payload) (live g h))) refl
     (in-half g v.payload h (by_spi (spi_of v.payload) (live g h))))
     (first-of is_arrival_answer (arrive.arrive_by_entry g o (first_entry (force g h) In v)) [] (in-entry g o (first_entry (force g h) In v))
-        refl)
+    refl)
 
 pub one-arrive : (c : Gateway) (h : List Act) (o : List ℕ) → has_one_answer is_arrival_answer (gw_block c h (Arrive o)) ≡ true
 unfolding arrive.arrive_acts
@@ -209,5 +209,5 @@ pub none-handle : (c : Gateway) (h : List Act) (request : Result Ask Fault) → 
 none-handle c h (Ok ask) =
     let r : table.Outcome = table.reply (tree_of c.name h) ask in
     some-append (change_acts c.name r r.change) (acts.Handled c.name (sessions.session_taken c.name h) (requests c.name h + 1) (answer_of r)
-        ∷ []) (none-change c.name r r.change) refl
+    ∷ []) (none-change c.name r r.change) refl
 none-handle c h (Err fault) = refl

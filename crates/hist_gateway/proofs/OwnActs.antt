@@ -86,7 +86,7 @@ own-expiries g h [] = refl
 own-expiries g h (e ∷ es) =
     let ns : List Notice = expiry e.name (counts g e.name h) (event_of g h e) in
     own-append g (given_by g (sessions.session_taken g h) ns) (expiries g h es) (own-given g (sessions.session_taken g h) ns)
-        (own-expiries g h es)
+    (own-expiries g h es)
 
 own-look : (g : List ℕ) (h : List Act) (es : List SadEntry) → own g (look g h es)
 own-look g h es = own-append g (goings g h es) (expiries g h es) (own-goings g h es) (own-expiries g h es)
@@ -101,15 +101,15 @@ own-half : (q : ℕ) (g o : List ℕ) (h : List Act) (v : Packet) (p : SpdEntry)
 own-half q g o h v p None =
     let ns : List Act = tells g h (notices.Acquire p.name (flow_of v)) in
     own-drop g why.NoSa (unless (does_acquire_stand g p.name h) ns)
-        (own-unless g (does_acquire_stand g p.name h) ns (own-tells g h (notices.Acquire p.name (flow_of v))))
+    (own-unless g (does_acquire_stand g p.name h) ns (own-tells g h (notices.Acquire p.name (flow_of v))))
 own-half q g o h v p (Some e) =
     let ns : List Act = tells g h (notices.SeqOverflow e.name) in
     let n : ℕ = sent g e.name h + 1 in
     let a : Act = acts.Sent g e.name n (datagram e n v o) in
     own-if g (nat_le q (sent g e.name h)) (acts.Drop g why.SeqLimit ∷ unless (was_overflow_given g e.name h) ns)
-        (send_acts g h e n (datagram e n v o))
+    (send_acts g h e n (datagram e n v o))
     (own-drop g why.SeqLimit (unless (was_overflow_given g e.name h) ns)
-        (own-unless g (was_overflow_given g e.name h) ns (own-tells g h (notices.SeqOverflow e.name))))
+    (own-unless g (was_overflow_given g e.name h) ns (own-tells g h (notices.SeqOverflow e.name))))
     (own-first g a (look g (a ∷ h) (e ∷ [])) (mine g) (own-look g (a ∷ h) (e ∷ [])))
 
 own-action : (q : ℕ) (g o : List ℕ) (h : List Act) (v : Packet) (p : SpdEntry) (a : Action) → own g (let_by_action g q h o v p a)
@@ -125,7 +125,7 @@ own-view : (q : ℕ) (g o : List ℕ) (h : List Act) (r : Result Packet NotPacke
 own-view q g o h (Err fault) = own-drop g (fault_why fault) [] refl
 own-view q g o h (Ok v) =
     own-if g (nat_lt 65000 (length o)) (acts.Drop g why.TooLong ∷ []) (let_by_entry g q h o v (first_entry (force g h) Out v))
-        (own-drop g why.TooLong [] refl)
+    (own-drop g why.TooLong [] refl)
     (own-entry q g o h v (first_entry (force g h) Out v))
 
 own-let : (q : ℕ) (g o : List ℕ) (h : List Act) → own g (let_acts g q h o)
@@ -143,7 +143,7 @@ one-inner : (g : List ℕ) (e : SadEntry) (n next : ℕ) (p : List ℕ) (r : Res
 one-inner g e n next p (Err fault) = mine g
 one-inner g e n next p (Ok v) =
     one-if g (not (arrive.is_told_version next p)) (acts.Drop g why.Inner) (if holds_packet e.selector In v then acts.Gave g e.name n p
-        else acts.Drop g why.Selector) (mine g)
+    else acts.Drop g why.Selector) (mine g)
     (one-if g (holds_packet e.selector In v) (acts.Gave g e.name n p) (acts.Drop g why.Selector) (mine g) (mine g))
 
 one-packet : (g : List ℕ) (e : SadEntry) (n : ℕ) (p : Option esp.InnerPacket) → is_strange g (arrive.by_packet g e n p) ≡ false
@@ -167,7 +167,7 @@ own-found : (g b : List ℕ) (h : List Act) (found : Option SadEntry) → own g 
 own-found g b h None =
     let ns : List Act = tells g h (notices.BadSpi (spi_of b)) in
     own-drop g why.BadSpi (unless (does_bad_spi_stand g (spi_of b) h) ns) (own-unless g (does_bad_spi_stand g (spi_of b) h) ns
-        (own-tells g h (notices.BadSpi (spi_of b))))
+    (own-tells g h (notices.BadSpi (spi_of b))))
 own-found g b h (Some e) =
     let n : ℕ = number_of e (numbers_taken g e.name h) b in
     own-verdict g b h e n (verdict_over e.window (numbers_taken g e.name h) n)
@@ -185,9 +185,9 @@ own-seen : (g o : List ℕ) (address : Addr) (h : List Act) (r : Result Packet N
 own-seen g o address h (Err fault) = own-drop g (fault_why fault) [] refl
 own-seen g o address h (Ok v) =
     own-if g (arrive.is_sealed_for address v) (arrive.esp_acts g h v.payload) (arrive.arrive_by_entry g o (first_entry (force g h) In v)
-        ∷ [])
+    ∷ [])
     (own-if g (nat_lt (length v.payload) 34) (arrive.drops g why.Short)
-        (arrive.arrive_by_half g h v.payload (by_spi (spi_of v.payload) (live g h))) (own-drop g why.Short [] refl)
+    (arrive.arrive_by_half g h v.payload (by_spi (spi_of v.payload) (live g h))) (own-drop g why.Short [] refl)
     (own-found g v.payload h (by_spi (spi_of v.payload) (live g h))))
     (own-first g (arrive.arrive_by_entry g o (first_entry (force g h) In v)) [] (one-entry g o (first_entry (force g h) In v)) refl)
 
@@ -207,7 +207,7 @@ own-handle : (g : List ℕ) (s k : ℕ) (h : List Act) (request : Result Ask Fau
 own-handle g s k h (Ok ask) =
     let r : table.Outcome = table.reply (tree_of g h) ask in
     own-append g (change_acts g r r.change) (acts.Handled g s k (answer_of r) ∷ []) (own-change g r r.change)
-        (own-first g (acts.Handled g s k (answer_of r)) [] (mine g) refl)
+    (own-first g (acts.Handled g s k (answer_of r)) [] (mine g) refl)
 own-handle g s k h (Err fault) = own-first g (acts.Handled g s k (fault_answer fault)) [] (mine g) refl
 
 -- ---- what another gateway keeps
@@ -217,7 +217,7 @@ own-block c h (Let o) away = own-first c.name (acts.Let c.name o) (let_acts c.na
     (own-let c.seq_last c.name o (acts.Let c.name o ∷ h))
 own-block c h (Arrive o) away =
     own-first c.name (acts.Arrived c.name o) (arrive.arrive_acts c.name c.address (acts.Arrived c.name o ∷ h) o) (mine c.name)
-        (own-arrive c.name o c.address (acts.Arrived c.name o ∷ h))
+    (own-arrive c.name o c.address (acts.Arrived c.name o ∷ h))
 own-block c h (Clock t) away = cc
 own-block c h (Handle request) away = own-handle c.name (sessions.session_taken c.name h) (requests c.name h + 1) h request
 own-block c h Session_taken away = own-first c.name (acts.Opened c.name (sessions.openings c.name h + 1)) [] (mine c.name) refl

@@ -103,10 +103,10 @@ opened-as o now e found x p = rw p (opened-by-name o now e x (bytes_eq e.name x.
 pub opened-at : (o : List ℕ) (now i : ℕ) (x : Half) (xs : List Half) → are_names_apart (names_of xs) ≡ true → slice_get xs i ≡ Some x →
     by_spi (spi_of (esp_of o)) (entries_of xs) ≡ Some x.entry →
     map (opened_under (entries_of xs) (Some o) now) xs ≡ changed
-        (take_number now (octets_in (Some o)) (number_from x.entry x.window.top (esp_of o))) i xs
+    (take_number now (octets_in (Some o)) (number_from x.entry x.window.top (esp_of o))) i xs
 opened-at o now i x xs a q found =
     map-as (opened_under (entries_of xs) (Some o) now) (under x.entry.name (took o now x.entry))
-        (λ z. opened-as o now x.entry (by_spi (spi_of (esp_of o)) (entries_of xs)) z found) xs
+    (λ z. opened-as o now x.entry (by_spi (spi_of (esp_of o)) (entries_of xs)) z found) xs
     ∙ (placed (took o now x.entry) xs i x a q
     ∙ changed-as (took o now x.entry) (take_number now (octets_in (Some o)) (number_from x.entry x.window.top (esp_of o))) xs i x q refl)
 
@@ -121,7 +121,7 @@ pub overflow-at : (i : ℕ) (x : Half) (xs : List Half) → are_names_apart (nam
     map (note (notices.SeqOverflow x.entry.name)) xs ≡ changed (with_overflow true) i xs
 overflow-at i x xs a q =
     map-as (note (notices.SeqOverflow x.entry.name)) (under x.entry.name (with_overflow true))
-        (λ z. overflow-as z (bytes_eq x.entry.name z.entry.name)) xs
+    (λ z. overflow-as z (bytes_eq x.entry.name z.entry.name)) xs
     ∙ placed (with_overflow true) xs i x a q
 
 pub soft-as : (x : Half) (b : Bool) → with_overflow x.overflow (with_life (with_told (b || x.life.is_told) x.life) x) ≡
@@ -133,7 +133,7 @@ pub soft-at : (counts : Limits) (i : ℕ) (x : Half) (xs : List Half) → are_na
     map (note (notices.Expire x.entry.name true counts)) xs ≡ changed softly_told i xs
 soft-at counts i x xs a q =
     map-as (note (notices.Expire x.entry.name true counts)) (under x.entry.name softly_told)
-        (λ z. soft-as z (bytes_eq x.entry.name z.entry.name)) xs
+    (λ z. soft-as z (bytes_eq x.entry.name z.entry.name)) xs
     ∙ placed softly_told xs i x a q
 
 pub hard-at : (name : List ℕ) (counts : Limits) (xs : List Half) → map (note (notices.Expire name false counts)) xs ≡ xs

@@ -47,7 +47,7 @@ other-name y x e own found = other-split y x e (bytes_eq y x) refl own found
 without-found : (x y : List ℕ) (e : SadEntry) (es : List SadEntry) (b c : Bool) → bytes_eq e.name y ≡ b → bytes_eq e.name x ≡ c →
     (bytes_eq e.name y ≡ true → bytes_eq y x ≡ bytes_eq e.name x) →
     has_half x (without y es) ≡ (not (bytes_eq y x) && has_half x es) → has_half x (without y (e ∷ es)) ≡ (not (bytes_eq y x)
-        && has_half x (e ∷ es))
+    && has_half x (e ∷ es))
 without-found x y e es true c own found same ih = let s = same own in
     rw own (ih ∙ and-same (bytes_eq y x) (bytes_eq e.name x) (has_half x es) s)
 without-found x y e es false true own found same ih = rw (own, found) (other-name y x e own found)
@@ -57,7 +57,7 @@ pub without-half : (x y : List ℕ) (es : List SadEntry) → has_half x (without
 without-half x y [] = grind arith
 without-half x y (e ∷ es) =
     without-found x y e es (bytes_eq e.name y) (bytes_eq e.name x) refl refl (λ own. ap (λ n. bytes_eq n x) (sym (same-is e.name y own)))
-        (without-half x y es)
+    (without-half x y es)
 
 live-put : (g x f : List ℕ) (e : SadEntry) (h : List Act) (b : Bool) → bytes_eq f g ≡ b → has_half x (live g h) ≡ is_live g x h →
     has_half x (live g (acts.Put f e ∷ h)) ≡ is_live g x (acts.Put f e ∷ h)
@@ -108,7 +108,7 @@ unwanted-is : (name : List ℕ) (r : ℕ) (list : List SpdEntry) (ps : List (Lis
 unwanted-is name r list [] = grind arith
 unwanted-is name r list (p ∷ ps) =
     unwanted-step name p r list ps (bytes_eq p name) (has_reqid p r list) refl refl
-        (λ own. ap (λ n. has_reqid n r list) (sym (same-is p name own))) (unwanted-is name r list ps)
+    (λ own. ap (λ n. has_reqid n r list) (sym (same-is p name own))) (unwanted-is name r list ps)
 
 notice-is : (name : List ℕ) (n : Notice) (ps : List (List ℕ)) → among name (with_acquire n ps) ≡ (is_acquire_of name n || among name ps)
 notice-is name (notices.Acquire p s) ps = any-end (λ q. bytes_eq q name) ps p
@@ -119,7 +119,7 @@ notice-is name (notices.BadSpi k) ps = refl
 acquires-notice : (g name f : List ℕ) (n : Notice) (h : List Act) (b : Bool) → bytes_eq f g ≡ b
     → among name (acquires g h) ≡ does_acquire_stand g name h →
     among name (if bytes_eq f g then with_acquire n (acquires g h) else acquires g h) ≡ ((bytes_eq f g && is_acquire_of name n)
-        || does_acquire_stand g name h)
+    || does_acquire_stand g name h)
 acquires-notice g name f n h true at ih = rw (at, sym ih) (notice-is name n (acquires g h))
 acquires-notice g name f n h false at ih = rw at ih
 
@@ -132,7 +132,7 @@ acquires-clear g name f h false at ih = rw at ih
 acquires-put : (g name : List ℕ) (r : ℕ) (h : List Act) (b : Bool) (c : Bool) → b ≡ c → among name (acquires g h) ≡ does_acquire_stand g
     name h →
     among name (if b then unwanted r (force g h) (acquires g h) else acquires g h) ≡ (not (b && has_reqid name r (force g h))
-        && does_acquire_stand g name h)
+    && does_acquire_stand g name h)
 acquires-put g name r h true c at ih = rw (sym ih) (unwanted-is name r (force g h) (acquires g h))
 acquires-put g name r h false c at ih = ih
 
@@ -142,7 +142,7 @@ acquires-is g name (acts.Notice f s n ∷ h) = acquires-notice g name f n h (byt
 acquires-is g name (acts.Policy f list ∷ h) = acquires-clear g name f h (bytes_eq f g) refl (acquires-is g name h)
 acquires-is g name (acts.Put f e ∷ h) =
     acquires-put g name e.reqid h (bytes_eq f g && not (is_inbound e.name)) (bytes_eq f g && not (is_inbound e.name)) refl
-        (acquires-is g name h)
+    (acquires-is g name h)
 acquires-is g name (acts.Opened f s ∷ h) = acquires-clear g name f h (bytes_eq f g) refl (acquires-is g name h)
 acquires-is g name (acts.Boot f ∷ h) = acquires-clear g name f h (bytes_eq f g) refl (acquires-is g name h)
 acquires-is g name (a ∷ h) = acquires-is g name h
@@ -172,7 +172,7 @@ taken-is g x s (acts.Put f e ∷ h) = rw (sym (taken-is g x s h)) (taken-put (is
 taken-is g x s (acts.Gave f y n o ∷ h) = rw (sym (taken-is g x s h)) (taken-gave (is_half f y g x) s n (numbers_taken g x h))
 taken-is g x s (acts.Drop f w ∷ h) =
     rw (sym (taken-is g x s h)) (taken-drop (bytes_eq f g && is_opened w) s (arrival_number g x (numbers_taken g x h) h)
-        (numbers_taken g x h))
+    (numbers_taken g x h))
 taken-is g x s (a ∷ h) = taken-is g x s h
 
 -- ---- notices of a live half

@@ -86,7 +86,7 @@ acts-quiet c s Session_taken = refl
 
 done-change : (g : List ℕ) (s : GatewayState) (t k : ℕ) (r : Outcome) (change : Change) →
     did_all g (quiet s) (change_acts g r change ++ acts.Handled g t k (answer_of r) ∷ []) ≡ did_all g s (change_acts g r change
-        ++ acts.Handled g t k (answer_of r) ∷ [])
+    ++ acts.Handled g t k (answer_of r) ∷ [])
 done-change g s t k r changes.Nothing = refl
 done-change g s t k r changes.Spd = refl
 done-change g s t k r (changes.Put e) = refl

@@ -106,7 +106,7 @@ only-one x p own e (y ∷ es) a (inl same) n =
     let r = and_parts (not (has_half y.name es)) (are_apart es) a in
     let name : y.name ≡ x = ap (λ z. z.name) same ∙ same-is e.name x n in
     let rest : list_any p es ≡ false = others-not x p own es (subst (λ z. has_half z es ≡ false) name (not-true (has_half y.name es) r.0))
-        in
+    in
     ap (λ z. p y || z) rest ∙ (or-false (p y) ∙ ap p same)
 only-one x p own e (y ∷ es) a (inr i) n =
     let r = and_parts (not (has_half y.name es)) (are_apart es) a in
@@ -159,7 +159,7 @@ expiries-idle : (reaches : List Act → SadEntry → Bool) (g x : List ℕ) (k h
 expiries-idle reaches g x k h [] = refl
 expiries-idle reaches g x k h (e ∷ es) =
     given-idle reaches g x k (sessions.session_taken g h) (expiry e.name (counts g e.name h) (event_of g h e)) (expiries g h es)
-        (λ k. expiries-idle reaches g x k h es)
+    (λ k. expiries-idle reaches g x k h es)
 
 goings-idle : (reaches : List Act → SadEntry → Bool) (g x : List ℕ) (k h : List Act) (es : List SadEntry) (rest : List Act)
     → ((k : List Act) → is_reached_in reaches g x k rest ≡ false) → is_reached_in reaches g x k (goings g h es ++ rest) ≡ false
@@ -227,23 +227,23 @@ let-agrees c x p reaches h o is apart = idle-agrees c.name x p reaches (acts.Let
 
     by-number : (v : Packet) (e : SadEntry) (b : Bool) → InList e (live g h) →
         Agrees p reaches g x past (if b then acts.Drop g why.SeqLimit
-            ∷ unless (was_overflow_given g e.name h) (tells g past (notices.SeqOverflow e.name))
-            else send_acts g past e (sent g e.name h + 1) (datagram e (sent g e.name h + 1) v o))
+        ∷ unless (was_overflow_given g e.name h) (tells g past (notices.SeqOverflow e.name))
+        else send_acts g past e (sent g e.name h + 1) (datagram e (sent g e.name h + 1) v o))
     by-number v e true i =
         dropped why.SeqLimit (unless (was_overflow_given g e.name h) (tells g past (notices.SeqOverflow e.name)))
         (unless-agrees g x p reaches (was_overflow_given g e.name h) (acts.Drop g why.SeqLimit ∷ past) past (notices.SeqOverflow e.name)
-            (is.plain (acts.Notice g (sessions.session_taken g past) (notices.SeqOverflow e.name)) refl))
+        (is.plain (acts.Notice g (sessions.session_taken g past) (notices.SeqOverflow e.name)) refl))
     by-number v e false i =
         let n : ℕ = sent g e.name h + 1 in
         use-agrees g x p reaches is (acts.Sent g e.name n (datagram e n v o)) past e (is.plain (acts.Sent g e.name n (datagram e n v o))
-            refl) (ap (λ z. z && bytes_eq e.name x) (same-refl g)) apart i
+        refl) (ap (λ z. z && bytes_eq e.name x) (same-refl g)) apart i
 
     by-half : (v : Packet) (q : SpdEntry) (found : Option SadEntry) → newest q.reqid v (live g h) ≡ found
         → Agrees p reaches g x past (let_by_half g c.seq_last past o v q found)
     by-half v q None e =
         dropped why.NoSa (unless (does_acquire_stand g q.name h) (tells g past (notices.Acquire q.name (flow_of v))))
         (unless-agrees g x p reaches (does_acquire_stand g q.name h) (acts.Drop g why.NoSa ∷ past) past (notices.Acquire q.name (flow_of v))
-            (is.plain (acts.Notice g (sessions.session_taken g past) (notices.Acquire q.name (flow_of v))) refl))
+        (is.plain (acts.Notice g (sessions.session_taken g past) (notices.Acquire q.name (flow_of v))) refl))
     by-half v q (Some e) n = by-number v e (nat_le c.seq_last (sent g e.name h)) (newest-in q.reqid v e (live g h) n)
 
     by-action : (v : Packet) (q : SpdEntry) (d : Action) → Agrees p reaches g x past (let_by_action g c.seq_last past o v q d)
@@ -304,7 +304,7 @@ arrive-agrees c x p reaches h o is apart = idle-agrees c.name x p reaches (acts.
         let a : Act = arrive.by_packet g e n (esp.inner_packet t) in
         let u = use-packet g e n (esp.inner_packet t) in
         use-agrees g x p reaches is a past e (use-quiet g x p reaches is e n a u) (use-looked g x o h e n a f u) apart
-            (spi-in (spi_of (esp_of o)) e (live g h) f)
+        (spi-in (spi_of (esp_of o)) e (live g h) f)
 
     by-verdict : (b : List ℕ) (e : SadEntry) (n : ℕ) (w : Verdict) → by_spi (spi_of (esp_of o)) (live g h) ≡ Some e
         → Agrees p reaches g x past (arrive.by_verdict g past b e n w)
@@ -319,7 +319,7 @@ arrive-agrees c x p reaches h o is apart = idle-agrees c.name x p reaches (acts.
         let spi : ℕ = spi_of v.payload in
         dropped why.BadSpi (unless (does_bad_spi_stand g spi h) (tells g past (notices.BadSpi spi))) refl
         (unless-agrees g x p reaches (does_bad_spi_stand g spi h) (acts.Drop g why.BadSpi ∷ past) past (notices.BadSpi spi)
-            (is.plain (acts.Notice g (sessions.session_taken g past) (notices.BadSpi spi)) refl))
+        (is.plain (acts.Notice g (sessions.session_taken g past) (notices.BadSpi spi)) refl))
     by-half v (Some e) s f =
         let n : ℕ = number_of e (numbers_taken g e.name h) v.payload in
         by-verdict v.payload e n (verdict_over e.window (numbers_taken g e.name h) n) (ap (λ z. by_spi (spi_of z) (live g h)) s ∙ f)
@@ -411,7 +411,7 @@ soft-expiry-is g x = record { looks = look-soft g x; named = soft-name g x; plai
 changed-agrees : (g x : List ℕ) (p : Act → Bool) (reaches : List Act → SadEntry → Bool) (h : List Act) (r : table.Outcome) (s k : ℕ)
     (a : Change) → IsTold g x p reaches →
     ((name : List ℕ) → p (acts.Gone g name gone.Removed) ≡ false)
-        → Agrees p reaches g x h (change_acts g r a ++ acts.Handled g s k (answer_of r) ∷ [])
+    → Agrees p reaches g x h (change_acts g r a ++ acts.Handled g s k (answer_of r) ∷ [])
 changed-agrees g x p reaches h r s k changes.Nothing is removed = ap (λ z. z || false) (is.plain (acts.Handled g s k (answer_of r)) refl)
 changed-agrees g x p reaches h r s k changes.Spd is removed =
     rw (is.plain (acts.Policy g r.tree.spd) refl, is.plain (acts.Handled g s k (answer_of r)) refl) refl
@@ -423,7 +423,7 @@ changed-agrees g x p reaches h r s k (changes.Gone name) is removed = rw (remove
 block-agrees : (c : Gateway) (x : List ℕ) (p : Act → Bool) (reaches : List Act → SadEntry → Bool) (h : List Act) (e : GatewayEvent)
     → IsTold c.name x p reaches →
     ((name : List ℕ) → p (acts.Gone c.name name gone.Removed) ≡ false) → AreInstalled c.name h
-        → Agrees p reaches c.name x h (gw_block c h e)
+    → Agrees p reaches c.name x h (gw_block c h e)
 block-agrees c x p reaches h (Let o) is removed are = let-agrees c x p reaches h o is (halves-are c.name h are).apart
 block-agrees c x p reaches h (Arrive o) is removed are = arrive-agrees c x p reaches h o is (halves-are c.name h are).apart
 block-agrees c x p reaches h (Clock t) is removed are = clock-agrees c x p reaches h t is

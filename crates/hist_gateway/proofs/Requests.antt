@@ -35,7 +35,7 @@ none-later g s [] m above = refl
 none-later g s (acts.Opened f t ∷ h) m above = none-later g s h m.1 (opened-before (bytes_eq f g) (openings g h) s above)
 none-later g s (acts.Handled f t k a ∷ h) m above =
     handled-other (bytes_eq f g) t (openings g h) s (handled g s h) (λ at. let e = m.0 at in let le = taken-le g h m.1 in
-        omega (arith, e, le)) above (none-later g s h m.1 above)
+    omega (arith, e, le)) above (none-later g s h m.1 above)
 none-later g s (a ∷ h) m above = none-later g s h m.1 above
 
 same-number : (m n : ℕ) → m ≡ n → (m == n) ≡ true

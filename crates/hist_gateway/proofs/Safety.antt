@@ -73,8 +73,11 @@ fresh-is size ns s e = fresh-by size (greatest ns) s (is_among s ns) (s == 0) (i
 good : (q : Gateway) (h : List Act) (a : Act) → GatewayMayAct q h a → Good h → Good (a ∷ h)
 good q h (acts.Clear f o) m k = record { few = k.few; safe = (m, k.safe) }
 good q h (acts.Pass f o) m k = record { few = k.few; safe = (m, k.safe) }
-good q h (acts.Put f e) m k = record { few = λ g x. few-put (is_half f e.name g x) (sent g x h) (numbers g x h) (k.few g x); safe =
-    (tt, k.safe) }
+good q h (acts.Put f e) m k = record {
+  few = λ g x. few-put (is_half f e.name g x) (sent g x h) (numbers g x h) (k.few g x);
+  safe =
+      (tt, k.safe);
+}
 good q h (acts.Sent f y n o) m k = record {
   few = λ g x. few-sent (is_half f y g x) (sent g x h) n (numbers g x h) (k.few g x) (same-sent h f y g x n m.number);
   safe = (subst (λ t. is_among t (numbers f y h) ≡ false) (sym m.number) (unused (sent f y h) (numbers f y h) (k.few f y)), k.safe);
@@ -83,10 +86,10 @@ good q h (acts.Gave f y n o) m k =
     let e : SadEntry = m.opens.half in
     let b : List ℕ = m.opens.outer.payload in
     let own : verdict_over e.window (numbers_taken f y h) (number_of e (numbers_taken f y h) b) ≡ verdicts.Fresh =
-        subst (λ x. verdict_over e.window (numbers_taken f x h) (number_of e (numbers_taken f x h) b) ≡ verdicts.Fresh) (sym m.name)
-        m.opens.fresh in
+    subst (λ x. verdict_over e.window (numbers_taken f x h) (number_of e (numbers_taken f x h) b) ≡ verdicts.Fresh) (sym m.name)
+    m.opens.fresh in
     let fresh : verdict_over e.window (numbers_taken f y h) n ≡ verdicts.Fresh =
-        subst (λ s. verdict_over e.window (numbers_taken f y h) s ≡ verdicts.Fresh) (sym m.number) own in
+    subst (λ s. verdict_over e.window (numbers_taken f y h) s ≡ verdicts.Fresh) (sym m.number) own in
     record { few = k.few; safe = (fresh-is e.window (numbers_taken f y h) n fresh, k.safe) }
 good q h a m k = record { few = k.few; safe = (tt, k.safe) }
 
@@ -105,7 +108,7 @@ lawful-on : AllFit → (c : Gateway) (h : List Act) (es : List GatewayEvent) →
 lawful-on fits c h [] l = l
 lawful-on fits c h (e ∷ es) l =
     rw (after-append h (gw_block c h e) (gw_history c (after h (gw_block c h e)) es))
-        (lawful-on fits c (after h (gw_block c h e)) es (lawful-block fits c h e l))
+    (lawful-on fits c (after h (gw_block c h e)) es (lawful-block fits c h e l))
 
 pub lawful-history : AllFit → (c : Gateway) (es : List GatewayEvent) → IsGatewayPast c (after [] (gw_history c [] es))
 lawful-history fits c es = lawful-on fits c [] es tt

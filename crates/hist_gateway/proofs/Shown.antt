@@ -62,12 +62,20 @@ abbrev pub gateway_b : Gateway
 gateway_b = record { name = b; address = address_b; seq_last = 4294967295 }
 
 abbrev pub first_site : Prefix
-first_site = record { addr = V6 (32 ∷ 1 ∷ 13 ∷ 184 ∷ 0 ∷ 1 ∷ 0 ∷ 0 ∷ 0 ∷ 0 ∷ 0 ∷ 0 ∷ 0 ∷ 0 ∷ 0 ∷ 0 ∷ []); len = 48; in_range = omega arith;
-    cleared = refl }
+first_site = record {
+  addr = V6 (32 ∷ 1 ∷ 13 ∷ 184 ∷ 0 ∷ 1 ∷ 0 ∷ 0 ∷ 0 ∷ 0 ∷ 0 ∷ 0 ∷ 0 ∷ 0 ∷ 0 ∷ 0 ∷ []);
+  len = 48;
+  in_range = omega arith;
+  cleared = refl;
+}
 
 abbrev pub second_site : Prefix
-second_site = record { addr = V6 (32 ∷ 1 ∷ 13 ∷ 184 ∷ 0 ∷ 2 ∷ 0 ∷ 0 ∷ 0 ∷ 0 ∷ 0 ∷ 0 ∷ 0 ∷ 0 ∷ 0 ∷ 0 ∷ []); len = 48; in_range = omega arith;
-    cleared = refl }
+second_site = record {
+  addr = V6 (32 ∷ 1 ∷ 13 ∷ 184 ∷ 0 ∷ 2 ∷ 0 ∷ 0 ∷ 0 ∷ 0 ∷ 0 ∷ 0 ∷ 0 ∷ 0 ∷ 0 ∷ 0 ∷ []);
+  len = 48;
+  in_range = omega arith;
+  cleared = refl;
+}
 
 abbrev ten_one : Prefix
 ten_one = record { addr = V4 (10 ∷ 1 ∷ 0 ∷ 0 ∷ []); len = 16; in_range = omega arith; cleared = refl }
@@ -113,8 +121,15 @@ packet_6 = 96 ∷ 0 ∷ 0 ∷ 0 ∷ 0 ∷ 12 ∷ 17 ∷ 64 ∷ 32 ∷ 1 ∷ 13 �
     ∷ 0 ∷ 0 ∷ 0 ∷ 0 ∷ 0 ∷ 0 ∷ 0 ∷ 0 ∷ 0 ∷ 9 ∷ 18 ∷ 52 ∷ 0 ∷ 53 ∷ 0 ∷ 12 ∷ 205 ∷ 35 ∷ 97 ∷ 98 ∷ 99 ∷ 100 ∷ []
 
 abbrev view_4 : Packet
-view_4 = record { src = V4 (10 ∷ 1 ∷ 0 ∷ 5 ∷ []); dst = V4 (10 ∷ 2 ∷ 0 ∷ 9 ∷ []); proto = 17; ports = Some (4660, 53); df = true; payload =
-    18 ∷ 52 ∷ 0 ∷ 53 ∷ 0 ∷ 12 ∷ 0 ∷ 0 ∷ 97 ∷ 98 ∷ 99 ∷ 100 ∷ [] }
+view_4 = record {
+  src = V4 (10 ∷ 1 ∷ 0 ∷ 5 ∷ []);
+  dst = V4 (10 ∷ 2 ∷ 0 ∷ 9 ∷ []);
+  proto = 17;
+  ports = Some (4660, 53);
+  df = true;
+  payload =
+      18 ∷ 52 ∷ 0 ∷ 53 ∷ 0 ∷ 12 ∷ 0 ∷ 0 ∷ 97 ∷ 98 ∷ 99 ∷ 100 ∷ [];
+}
 
 seen_4 : view_of packet_4 ≡ Ok view_4
 unfolding view_of
@@ -137,12 +152,12 @@ shown_acquire = refl
 shown_out : gw_history gateway_a [] (Let packet_4
     ∷ Handle (Ok (asks.PutSpd (policy (codes "p1") Out 1 actions.Bypass (between ten_one ten_two) ∷ [])))
     ∷ Let packet_4 ∷ Let [] ∷ Handle (Ok (asks.PostSpd (policy (codes "d1") Out 0 actions.Discard (between ten_one ten_two)) places.First))
-        ∷ Let packet_4 ∷ [])
+    ∷ Let packet_4 ∷ [])
     ≡ acts.Let a packet_4 ∷ acts.Drop a why.NoPolicy
     ∷ acts.Policy a (policy (codes "p1") Out 1 actions.Bypass (between ten_one ten_two) ∷ []) ∷ acts.Handled a 0 1 (done 204)
     ∷ acts.Let a packet_4 ∷ acts.Clear a packet_4 ∷ acts.Let a [] ∷ acts.Drop a why.Malformed
     ∷ acts.Policy a (policy (codes "d1") Out 0 actions.Discard (between ten_one ten_two)
-        ∷ policy (codes "p1") Out 1 actions.Bypass (between ten_one ten_two) ∷ []) ∷ acts.Handled a 0 2 (done 201)
+    ∷ policy (codes "p1") Out 1 actions.Bypass (between ten_one ten_two) ∷ []) ∷ acts.Handled a 0 2 (done 201)
     ∷ acts.Let a packet_4 ∷ acts.Drop a why.Discard ∷ []
 unfolding let_acts view_of holds_packet reply
 shown_out = refl
@@ -189,7 +204,7 @@ sealed_1 = 0 ∷ 0 ∷ 1 ∷ 1 ∷ 0 ∷ 0 ∷ 0 ∷ 1 ∷ 0 ∷ 0 ∷ 0 ∷ 0 �
 
 shown_bad_spi : gw_history gateway_b [] (Arrive datagram_1 ∷ Arrive datagram_1 ∷ Session_taken ∷ Arrive datagram_1 ∷ Arrive datagram_1 ∷ [])
     ≡ acts.Arrived b datagram_1 ∷ acts.Drop b why.BadSpi ∷ acts.Notice b 0 (notices.BadSpi 257) ∷ acts.Arrived b datagram_1
-        ∷ acts.Drop b why.BadSpi
+    ∷ acts.Drop b why.BadSpi
     ∷ acts.Opened b 1 ∷ acts.Arrived b datagram_1 ∷ acts.Drop b why.BadSpi ∷ acts.Notice b 1 (notices.BadSpi 257)
     ∷ acts.Arrived b datagram_1 ∷ acts.Drop b why.BadSpi ∷ []
 unfolding arrive.arrive_acts number_from view_of
@@ -236,7 +251,7 @@ soft_first = acts.Put a out_1 ∷ []
 shown_clock : gw_history gateway_a soft_first (Clock 3599 ∷ Clock 3600 ∷ Clock 3600 ∷ Clock 3601 ∷ Session_taken ∷ Clock 3000 ∷ Clock 3602
     ∷ [])
     ≡ acts.Now 3599 ∷ acts.Now 3600 ∷ acts.Notice a 0 (notices.Expire (codes "out/1") true (limits 3600 0 0 3600)) ∷ acts.Now 3600
-        ∷ acts.Now 3601
+    ∷ acts.Now 3601
     ∷ acts.Opened a 1 ∷ acts.Now 3601 ∷ acts.Now 3602 ∷ acts.Notice a 1 (notices.Expire (codes "out/1") true (limits 3602 0 0 3602)) ∷ []
 shown_clock = refl
 
@@ -254,7 +269,7 @@ used_once = acts.Sent a (codes "out/1") 1 datagram_1 ∷ acts.Let a packet_6 ∷
 shown_looks : gw_history gateway_a used_once (Clock 3600 ∷ Handle (Ok asks.GetSad) ∷ [])
     ≡ acts.Now 3600 ∷ acts.Gone a (codes "out/3") gone.Hard
     ∷ acts.Notice a 1 (notices.Expire (codes "in/2") true (limits 3600 0 0 3600))
-        ∷ acts.Notice a 1 (notices.Expire (codes "out/1") true (limits 3600 88 1 3600))
+    ∷ acts.Notice a 1 (notices.Expire (codes "out/1") true (limits 3600 88 1 3600))
     ∷ acts.Notice a 1 (notices.Expire (codes "out/3") false (limits 3600 0 0 3600))
     ∷ acts.Handled a 1 1 (record { status = 200; tag = None; names = codes "in/2" ∷ codes "out/1" ∷ [] }) ∷ []
 unfolding view_of reply
@@ -301,7 +316,7 @@ put_once = acts.Handled b 1 1 (done 201) ∷ acts.Put b in_once ∷ acts.Opened 
 
 shown_ended : Opens in_once → gw_block gateway_b put_once (Arrive datagram_1)
     ≡ acts.Arrived b datagram_1 ∷ acts.Gave b (codes "in/1") 1 packet_6 ∷ acts.Gone b (codes "in/1") gone.Hard
-        ∷ acts.Notice b 1 (notices.Expire (codes "in/1") false (limits 0 88 1 0)) ∷ []
+    ∷ acts.Notice b 1 (notices.Expire (codes "in/1") false (limits 0 88 1 0)) ∷ []
 unfolding arrive.arrive_acts number_from view_of upper_of holds_packet esp.inner_packet
 shown_ended opens = ap (λ text. acts.Arrived b datagram_1 ∷ arrive.by_text b (acts.Arrived b datagram_1 ∷ put_once) in_once 1 text) opens
 
@@ -389,12 +404,12 @@ shown_requests : gw_history gateway_b [] (Session_taken ∷ Handle (Ok (asks.Pos
     ∷ Handle (Ok (asks.PostSad (half (codes "in/9") 257 (between second_site first_site) address_a address_b (limits 0 0 0 0)
     (limits 0 0 0 0))))
     ∷ Handle (Ok (asks.DeleteSad (codes "in/7"))) ∷ Handle (Ok asks.GetSad) ∷ Handle (Ok (asks.DeleteSad (codes "in/1")))
-        ∷ Handle (Ok asks.GetSad)
+    ∷ Handle (Ok asks.GetSad)
     ∷ Handle (Err (record { status = 400; tag = tags.UnknownElement })) ∷ Session_taken ∷ Handle (Ok asks.GetSpd) ∷ [])
     ≡ acts.Opened b 1 ∷ acts.Put b in_1 ∷ acts.Handled b 1 1 (done 201) ∷ acts.Handled b 1 2 (refusal 409 tags.ResourceDenied)
-        ∷ acts.Handled b 1 3 (refusal 409 tags.ResourceDenied)
+    ∷ acts.Handled b 1 3 (refusal 409 tags.ResourceDenied)
     ∷ acts.Handled b 1 4 (refusal 404 tags.InvalidValue)
-        ∷ acts.Handled b 1 5 (record { status = 200; tag = None; names = codes "in/1" ∷ [] })
+    ∷ acts.Handled b 1 5 (record { status = 200; tag = None; names = codes "in/1" ∷ [] })
     ∷ acts.Gone b (codes "in/1") gone.Removed ∷ acts.Handled b 1 6 (done 204) ∷ acts.Handled b 1 7 (done 200)
     ∷ acts.Handled b 1 8 (refusal 400 tags.UnknownElement) ∷ acts.Opened b 2 ∷ acts.Handled b 2 1 (done 200) ∷ []
 unfolding reply
@@ -405,12 +420,12 @@ shown_acquire_ends : gw_history gateway_a [] (Handle (Ok (asks.PutSpd protect_4)
     ∷ Let packet_4 ∷ Handle (Ok (asks.PostSad out_1)) ∷ Let packet_4
     ∷ Handle (Ok (asks.PutSpd protect_4)) ∷ Let packet_4 ∷ [])
     ≡ acts.Policy a protect_4 ∷ acts.Handled a 0 1 (done 204) ∷ acts.Let a packet_4 ∷ acts.Drop a why.NoSa
-        ∷ acts.Notice a 0 (notices.Acquire (codes "o1") (flow_of view_4))
+    ∷ acts.Notice a 0 (notices.Acquire (codes "o1") (flow_of view_4))
     ∷ acts.Put a in_1 ∷ acts.Handled a 0 2 (done 201) ∷ acts.Let a packet_4 ∷ acts.Drop a why.NoSa
     ∷ acts.Put a out_1 ∷ acts.Handled a 0 3 (done 201) ∷ acts.Let a packet_4 ∷ acts.Drop a why.NoSa
-        ∷ acts.Notice a 0 (notices.Acquire (codes "o1") (flow_of view_4))
+    ∷ acts.Notice a 0 (notices.Acquire (codes "o1") (flow_of view_4))
     ∷ acts.Policy a protect_4 ∷ acts.Handled a 0 4 (done 204) ∷ acts.Let a packet_4 ∷ acts.Drop a why.NoSa
-        ∷ acts.Notice a 0 (notices.Acquire (codes "o1") (flow_of view_4)) ∷ []
+    ∷ acts.Notice a 0 (notices.Acquire (codes "o1") (flow_of view_4)) ∷ []
 unfolding let_acts view_of holds_packet reply
 shown_acquire_ends = refl
 
@@ -421,7 +436,7 @@ out_other = record out_1 { reqid = 11 }
 shown_acquire_stays : gw_history gateway_a [] (Handle (Ok (asks.PutSpd protect_4)) ∷ Let packet_4 ∷ Handle (Ok (asks.PostSad out_other))
     ∷ Let packet_4 ∷ [])
     ≡ acts.Policy a protect_4 ∷ acts.Handled a 0 1 (done 204) ∷ acts.Let a packet_4 ∷ acts.Drop a why.NoSa
-        ∷ acts.Notice a 0 (notices.Acquire (codes "o1") (flow_of view_4))
+    ∷ acts.Notice a 0 (notices.Acquire (codes "o1") (flow_of view_4))
     ∷ acts.Put a out_other ∷ acts.Handled a 0 2 (done 201) ∷ acts.Let a packet_4 ∷ acts.Drop a why.NoSa ∷ []
 unfolding let_acts view_of holds_packet reply
 shown_acquire_stays = refl
@@ -445,13 +460,13 @@ out_idle = half (codes "out/1") 257 (between first_site second_site) address_a a
 
 shown_idle : gw_history gateway_a (acts.Put a out_idle ∷ []) (Clock 4 ∷ Clock 5 ∷ [])
     ≡ acts.Now 4 ∷ acts.Now 5 ∷ acts.Gone a (codes "out/1") gone.Hard
-        ∷ acts.Notice a 0 (notices.Expire (codes "out/1") false (limits 5 0 0 5)) ∷ []
+    ∷ acts.Notice a 0 (notices.Expire (codes "out/1") false (limits 5 0 0 5)) ∷ []
 shown_idle = refl
 
 shown_idle_used : gw_history gateway_a (acts.Sent a (codes "out/1") 1 datagram_1 ∷ acts.Let a packet_6 ∷ acts.Now 3 ∷ acts.Put a out_idle
     ∷ []) (Clock 7 ∷ Clock 8 ∷ [])
     ≡ acts.Now 7 ∷ acts.Now 8 ∷ acts.Gone a (codes "out/1") gone.Hard
-        ∷ acts.Notice a 0 (notices.Expire (codes "out/1") false (limits 8 88 1 5)) ∷ []
+    ∷ acts.Notice a 0 (notices.Expire (codes "out/1") false (limits 8 88 1 5)) ∷ []
 unfolding view_of
 shown_idle_used = refl
 
@@ -518,7 +533,7 @@ sent_once = acts.Sent a (codes "out/1") 1 (datagram out_once 1 view_6 packet_6) 
 shown_spent : gw_block gateway_a (acts.Put a out_once ∷ acts.Policy a protect_6 ∷ []) (Let packet_6)
     ≡ acts.Let a packet_6 ∷ acts.Sent a (codes "out/1") 1 (datagram out_once 1 view_6 packet_6)
     ∷ acts.Gone a (codes "out/1") gone.Hard ∷ acts.Notice a 0 (notices.Expire (codes "out/1") false (counts a (codes "out/1") sent_once))
-        ∷ []
+    ∷ []
 unfolding let_acts view_of upper_of holds_packet
 shown_spent = refl
 

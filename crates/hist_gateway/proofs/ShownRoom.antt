@@ -36,30 +36,30 @@ rows g h = length-map (live g h) (row_of g h)
 by-room : (c : Gateway) (h : List Act) (e : SadEntry) (full : Bool) → Free c h e → nat_le 4096 (length (live c.name h)) ≡ full →
     table.reply (tree_of c.name h) (asks.PostSad e)
     ≡ (if full then table.full (tree_of c.name h) else table.made (table.At_half e.name) (changes.Put e)
-        (table.with_sad (tree_of c.name h) ((tree_of c.name h).sad ++ table.new_row e ∷ [])))
+    (table.with_sad (tree_of c.name h) ((tree_of c.name h).sad ++ table.new_row e ∷ [])))
 unfolding table.reply
 by-room c h e full free room =
     let g : List ℕ = c.name in
     let made : table.Outcome =
-        table.made (table.At_half e.name) (changes.Put e) (table.with_sad (tree_of g h) ((tree_of g h).sad ++ table.new_row e ∷ [])) in
+    table.made (table.At_half e.name) (changes.Put e) (table.with_sad (tree_of g h) ((tree_of g h).sad ++ table.new_row e ∷ [])) in
     let last : table.Outcome = if table.is_sad_full (tree_of g h).sad then table.full (tree_of g h) else made in
     let own : table.Outcome = if is_inbound e.name && table.has_spi e.spi (tree_of g h).sad then table.spi_taken (tree_of g h) else last in
     let name : list_any (table.is_row e.name) (tree_of g h).sad ≡ false = any-map (table.is_row e.name) (row_of g h) (live g h) ∙ free.0 in
     let spi : (is_inbound e.name && table.has_spi e.spi (tree_of g h).sad) ≡ false =
-        ap (λ z. is_inbound e.name && z) (any-map (λ r. is_inbound r.entry.name && (r.entry.spi == e.spi)) (row_of g h) (live g h))
-        ∙ free.1 in
+    ap (λ z. is_inbound e.name && z) (any-map (λ r. is_inbound r.entry.name && (r.entry.spi == e.spi)) (row_of g h) (live g h))
+    ∙ free.1 in
     ap (λ z. if z then table.exists (tree_of g h) else own) name
     ∙ (ap (λ z. if z then table.spi_taken (tree_of g h) else last) spi
     ∙ ap (λ z. if z then table.full (tree_of g h) else made) (ap (nat_le 4096) (rows g h) ∙ room))
 
 pub shown_put : (c : Gateway) (h : List Act) (e : SadEntry) → Free c h e → nat_le 4096 (length (live c.name h)) ≡ false →
     gw_block c h (Handle (Ok (asks.PostSad e))) ≡ acts.Put c.name e ∷ acts.Handled c.name (sessions.session_taken c.name h)
-        (requests c.name h + 1) (done 201) ∷ []
+    (requests c.name h + 1) (done 201) ∷ []
 shown_put c h e free room = ap (reply_acts c.name (sessions.session_taken c.name h) (requests c.name h + 1)) (by-room c h e false free room)
 
 pub shown_full : (c : Gateway) (h : List Act) (e : SadEntry) → Free c h e → nat_le 4096 (length (live c.name h)) ≡ true →
     gw_block c h (Handle (Ok (asks.PostSad e))) ≡ acts.Handled c.name (sessions.session_taken c.name h) (requests c.name h + 1)
-        (refusal 409 tags.ResourceDenied) ∷ []
+    (refusal 409 tags.ResourceDenied) ∷ []
 shown_full c h e free room = ap (reply_acts c.name (sessions.session_taken c.name h) (requests c.name h + 1)) (by-room c h e true free room)
 
 -- ---- a past with so many outbound halves

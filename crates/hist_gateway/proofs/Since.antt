@@ -40,7 +40,7 @@ octets-since g x f e (acts.Put y d ∷ recent) old i n = let r = or_parts (is_ha
     rw r.0 (octets-since g x f e recent old i r.1)
 octets-since g x f e (a ∷ recent) old i n =
     octets-step (is_use g x a (recent ++ acts.Put f e ∷ old)) (octets_used g x (recent ++ acts.Put f e ∷ old))
-        (use_octets g a (recent ++ acts.Put f e ∷ old)) (uses_among g x recent (acts.Put f e ∷ old)) (octets-since g x f e recent old i n)
+    (use_octets g a (recent ++ acts.Put f e ∷ old)) (uses_among g x recent (acts.Put f e ∷ old)) (octets-since g x f e recent old i n)
 
 times-step : (b : Bool) (m n : ℕ) (us : List ℕ) → m ≡ length us → (if b then m + 1 else m) ≡ length (if b then n ∷ us else us)
 times-step true m n us e = let q : m + 1 ≡ suc (length us) = omega (arith, e) in q
@@ -53,7 +53,7 @@ times-since g x f e (acts.Put y d ∷ recent) old i n = let r = or_parts (is_hal
     rw r.0 (times-since g x f e recent old i r.1)
 times-since g x f e (a ∷ recent) old i n =
     times-step (is_use g x a (recent ++ acts.Put f e ∷ old)) (times_used g x (recent ++ acts.Put f e ∷ old))
-        (use_octets g a (recent ++ acts.Put f e ∷ old)) (uses_among g x recent (acts.Put f e ∷ old)) (times-since g x f e recent old i n)
+    (use_octets g a (recent ++ acts.Put f e ∷ old)) (uses_among g x recent (acts.Put f e ∷ old)) (times-since g x f e recent old i n)
 
 -- no use among the newer acts
 unused-step : (b : Bool) (n : ℕ) (us : List ℕ) → (if b then n ∷ us else us) ≡ [] → (b ≡ false) × (us ≡ [])
@@ -140,8 +140,15 @@ spi-told g f spi k s h at ih (suc n) t = by-same (k == spi) refl t
     by-same true e t =
         let here : f ≡ g = same-is f g at in
         let same : k ≡ spi = eqb-true k spi e in
-        record { recent = []; session = s; old = h; all = (λ i. acts.Notice (here i) s (notices.BadSpi (same i)) ∷ h); since = refl; few =
-            omega arith }
+        record {
+          recent = [];
+          session = s;
+          old = h;
+          all = (λ i. acts.Notice (here i) s (notices.BadSpi (same i)) ∷ h);
+          since = refl;
+          few =
+              omega arith;
+        }
     by-same false e t = one-later g spi n (acts.Notice f s (notices.BadSpi k)) h refl (ih n t)
 
 notice-told : (g f : List ℕ) (spi s : ℕ) (m : Notice) (h : List Act) (b : Bool) → bytes_eq f g ≡ b → Tells g spi h → (n : ℕ) →
@@ -204,8 +211,8 @@ stays-of g spi s (acts.Notice f t m ∷ recent) old e n l =
     let c : ℕ = length (filter (is_spi_telling g) recent) in
     let ih = stays-of g spi s recent old e in
     notice-stays g f spi t c m (recent ++ acts.Notice g s (notices.BadSpi spi) ∷ old) (bytes_eq f g) refl ih n
-        (subst (λ (z : ℕ). z < n)
-        (sym (length-if (bytes_eq f g && is_any_bad_spi m) (acts.Notice f t m) (filter (is_spi_telling g) recent))) l)
+    (subst (λ (z : ℕ). z < n)
+    (sym (length-if (bytes_eq f g && is_any_bad_spi m) (acts.Notice f t m) (filter (is_spi_telling g) recent))) l)
 stays-of g spi s (acts.Opened f t ∷ recent) old e n l = let r = or_parts (bytes_eq f g) (list_any (is_fresh_start g) recent) e in
     rw r.0 (stays-of g spi s recent old r.1 n l)
 stays-of g spi s (acts.Boot f ∷ recent) old e n l = let r = or_parts (bytes_eq f g) (list_any (is_fresh_start g) recent) e in

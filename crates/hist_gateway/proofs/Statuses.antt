@@ -39,7 +39,7 @@ posted t e place =
     let room : table.Outcome = if table.is_spd_full t.spd then table.full t else point in
     either (table.has_policy e.name t.spd) (table.exists t) room refl
     (either (table.is_spd_full t.spd) (table.full t) point refl (either (not (table.has_point place t.spd)) (table.no_point t) made refl
-        refl))
+    refl))
 
 put : (t : Tree) (e : SpdEntry) → Answers (table.put_spd_entry t e)
 put t e =
@@ -55,7 +55,7 @@ installed t e =
     let own : table.Outcome = if is_inbound e.name && table.has_spi e.spi t.sad then table.spi_taken t else room in
     either (list_any (table.is_row e.name) t.sad) (table.exists t) own refl
     (either (is_inbound e.name && table.has_spi e.spi t.sad) (table.spi_taken t) room refl
-        (either (table.is_sad_full t.sad) (table.full t) made refl refl))
+    (either (table.is_sad_full t.sad) (table.full t) made refl refl))
 
 policy-shown : (t : Tree) (found : Option SpdEntry) → Answers (table.show_policy t found)
 policy-shown t None = refl
@@ -96,5 +96,5 @@ pub request-statuses : (c : Gateway) (h : List Act) (request : Result Ask Fault)
 request-statuses c h (Ok ask) m =
     let r : table.Outcome = table.reply (tree_of c.name h) ask in
     changed c.name r r.change (acts.Handled c.name (sessions.session_taken c.name h) (requests c.name h + 1) (answer_of r))
-        (replies (tree_of c.name h) ask)
+    (replies (tree_of c.name h) ask)
 request-statuses c h (Err fault) m = and_from (is_answer_status (Some fault.tag) fault.status) true m refl

@@ -44,7 +44,7 @@ let_by_half g seq_last h o v p None = acts.Drop g why.NoSa
     ∷ unless (does_acquire_stand g p.name h) (tells g h (notices.Acquire p.name (flow_of v)))
 let_by_half g seq_last h o v p (Some e) =
     if nat_le seq_last (sent g e.name h) then acts.Drop g why.SeqLimit
-        ∷ unless (was_overflow_given g e.name h) (tells g h (notices.SeqOverflow e.name))
+    ∷ unless (was_overflow_given g e.name h) (tells g h (notices.SeqOverflow e.name))
     else send_acts g h e (sent g e.name h + 1) (datagram e (sent g e.name h + 1) v o)
 
 -- what is done with a packet by the action of its policy (RFC 4301 section 5.1)

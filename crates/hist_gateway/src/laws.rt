@@ -65,7 +65,8 @@ pub fn readings()
     ensures live { (g x : List ℕ) (h : List Act) → has_half x (live g h) ≡ is_live g x h }
     ensures acquires { (g name : List ℕ) (h : List Act) → list_any (λ p. bytes_eq p name) (acquires g h) ≡ does_acquire_stand g name h }
     ensures taken { (g x : List ℕ) (s : ℕ) (h : List Act) → is_among s (numbers_taken g x h) ≡ was_taken g x s h }
-    ensures sent { (c : Gateway) (h : List Act) → IsGatewayPast c h → (g x : List ℕ) (s : ℕ) → was_number_sent g x s h ≡ (nat_le 1 s && nat_le s (sent g x h)) }
+    ensures sent { (c : Gateway) (h : List Act) → IsGatewayPast c h → (g x : List ℕ) (s : ℕ)
+        → was_number_sent g x s h ≡ (nat_le 1 s && nat_le s (sent g x h)) }
     ensures soft { (g x : List ℕ) (h : List Act) → is_live g x h ≡ true → does_soft_stand g x h ≡ was_soft_given g x h }
     ensures overflow { (g x : List ℕ) (h : List Act) → is_live g x h ≡ true → does_overflow_stand g x h ≡ was_overflow_given g x h }
 {}
@@ -73,7 +74,8 @@ pub fn readings()
 /// A step from what is kept of a past gives the one block that the past allows, and leaves what is kept of the past with it.
 pub fn steps()
     ensures acts { (c : Gateway) (h : List Act) (e : GatewayEvent) → acts_of c (state_of c.name h) e ≡ gw_block c h e }
-    ensures keeps { (c : Gateway) (h : List Act) (e : GatewayEvent) → state_of c.name (after h (gw_block c h e)) ≡ next c (state_of c.name h) e }
+    ensures keeps { (c : Gateway) (h : List Act) (e : GatewayEvent) → state_of c.name (after h (gw_block c h e)) ≡ next c
+        (state_of c.name h) e }
     ensures run { (c : Gateway) (h : List Act) (es : List GatewayEvent) → run c (state_of c.name h) es ≡ gw_history c h es }
 {
     verdicts();
@@ -113,8 +115,10 @@ pub fn halves()
     ensures kept { (g : List ℕ) (h : List Act) → AreInstalled g h → AreHalves g h }
     ensures outbound { (g : List ℕ) (h : List Act) (reqid : ℕ) (v : Packet) (e : SadEntry) → AreInstalled g h →
         newest reqid v (live g h) ≡ Some e → IsHalfFor g h reqid v e }
-    ensures inbound { (g : List ℕ) (h : List Act) (spi : ℕ) (e : SadEntry) → AreInstalled g h → by_spi spi (live g h) ≡ Some e → IsHalfOf g h spi e }
-    ensures blocks { (c : Gateway) (g : List ℕ) (h : List Act) (e : GatewayEvent) → AreInstalled g h → AreInstalled g (after h (gw_block c h e)) }
+    ensures inbound { (g : List ℕ) (h : List Act) (spi : ℕ) (e : SadEntry) → AreInstalled g h → by_spi spi (live g h) ≡ Some e
+        → IsHalfOf g h spi e }
+    ensures blocks { (c : Gateway) (g : List ℕ) (h : List Act) (e : GatewayEvent) → AreInstalled g h
+        → AreInstalled g (after h (gw_block c h e)) }
     ensures lawful { (c : Gateway) (g : List ℕ) (h : List Act) → IsGatewayPast c h → AreInstalled g h }
 {
     changes_fit();
@@ -164,7 +168,8 @@ pub fn answers()
     ensures packet { (c : Gateway) (h : List Act) (o : List ℕ) → has_one_answer is_let_answer (gw_block c h (Let o)) ≡ true }
     ensures datagram { (c : Gateway) (h : List Act) (o : List ℕ) → has_one_answer is_arrival_answer (gw_block c h (Arrive o)) ≡ true }
     ensures clock { (c : Gateway) (h : List Act) (t : ℕ) → list_any is_answer (gw_block c h (Clock t)) ≡ false }
-    ensures request { (c : Gateway) (h : List Act) (request : Result Ask Fault) → list_any is_answer (gw_block c h (Handle request)) ≡ false }
+    ensures request { (c : Gateway) (h : List Act) (request : Result Ask Fault) → list_any is_answer (gw_block c h (Handle request)) ≡
+        false }
     ensures session { (c : Gateway) (h : List Act) → list_any is_answer (gw_block c h Session_taken) ≡ false }
 {}
 
@@ -174,36 +179,51 @@ pub fn answers()
 /// So it is in every block: the half is gone, or the expiry told, exactly where a use of the half, or a reading that raises the clock
 /// while it is live, is among the block's acts and leaves it at the limit.
 pub fn expires_where_reached()
-    ensures ends { (g x : List ℕ) (h : List Act) (es : List SadEntry) → list_any (is_hard_end x) (look g h es) ≡ list_any (reaches_hard g h x) es }
-    ensures hard { (g x : List ℕ) (h : List Act) (es : List SadEntry) → list_any (is_hard_expiry x) (look g h es) ≡ list_any (reaches_hard g h x) es }
-    ensures soft { (g x : List ℕ) (h : List Act) (es : List SadEntry) → list_any (is_soft_expiry x) (look g h es) ≡ list_any (reaches_soft g h x) es }
-    ensures clock_ends { (c : Gateway) (h : List Act) (t : ℕ) (x : List ℕ) → list_any (is_hard_end x) (gw_block c h (Clock t)) ≡ (nat_lt (clock h) t && list_any (reaches_hard c.name (acts.Now (max t (clock h)) ∷ h) x) (live c.name h)) }
-    ensures clock_hard { (c : Gateway) (h : List Act) (t : ℕ) (x : List ℕ) → list_any (is_hard_expiry x) (gw_block c h (Clock t)) ≡ (nat_lt (clock h) t && list_any (reaches_hard c.name (acts.Now (max t (clock h)) ∷ h) x) (live c.name h)) }
-    ensures clock_soft { (c : Gateway) (h : List Act) (t : ℕ) (x : List ℕ) → list_any (is_soft_expiry x) (gw_block c h (Clock t)) ≡ (nat_lt (clock h) t && list_any (reaches_soft c.name (acts.Now (max t (clock h)) ∷ h) x) (live c.name h)) }
-    ensures block_ends { (c : Gateway) (h : List Act) (e : GatewayEvent) (x : List ℕ) → AreInstalled c.name h → list_any (is_hard_end x) (gw_block c h e) ≡ is_hard_reached_in c.name x h (gw_block c h e) }
-    ensures block_hard { (c : Gateway) (h : List Act) (e : GatewayEvent) (x : List ℕ) → AreInstalled c.name h → list_any (is_hard_expiry x) (gw_block c h e) ≡ is_hard_reached_in c.name x h (gw_block c h e) }
-    ensures block_soft { (c : Gateway) (h : List Act) (e : GatewayEvent) (x : List ℕ) → AreInstalled c.name h → list_any (is_soft_expiry x) (gw_block c h e) ≡ is_soft_reached_in c.name x h (gw_block c h e) }
+    ensures ends { (g x : List ℕ) (h : List Act) (es : List SadEntry) → list_any (is_hard_end x) (look g h es) ≡ list_any
+        (reaches_hard g h x) es }
+    ensures hard { (g x : List ℕ) (h : List Act) (es : List SadEntry) → list_any (is_hard_expiry x) (look g h es) ≡ list_any
+        (reaches_hard g h x) es }
+    ensures soft { (g x : List ℕ) (h : List Act) (es : List SadEntry) → list_any (is_soft_expiry x) (look g h es) ≡ list_any
+        (reaches_soft g h x) es }
+    ensures clock_ends { (c : Gateway) (h : List Act) (t : ℕ) (x : List ℕ) → list_any (is_hard_end x) (gw_block c h (Clock t)) ≡
+        (nat_lt (clock h) t && list_any (reaches_hard c.name (acts.Now (max t (clock h)) ∷ h) x) (live c.name h)) }
+    ensures clock_hard { (c : Gateway) (h : List Act) (t : ℕ) (x : List ℕ) → list_any (is_hard_expiry x) (gw_block c h (Clock t)) ≡
+        (nat_lt (clock h) t && list_any (reaches_hard c.name (acts.Now (max t (clock h)) ∷ h) x) (live c.name h)) }
+    ensures clock_soft { (c : Gateway) (h : List Act) (t : ℕ) (x : List ℕ) → list_any (is_soft_expiry x) (gw_block c h (Clock t)) ≡
+        (nat_lt (clock h) t && list_any (reaches_soft c.name (acts.Now (max t (clock h)) ∷ h) x) (live c.name h)) }
+    ensures block_ends { (c : Gateway) (h : List Act) (e : GatewayEvent) (x : List ℕ) → AreInstalled c.name h
+        → list_any (is_hard_end x) (gw_block c h e) ≡ is_hard_reached_in c.name x h (gw_block c h e) }
+    ensures block_hard { (c : Gateway) (h : List Act) (e : GatewayEvent) (x : List ℕ) → AreInstalled c.name h
+        → list_any (is_hard_expiry x) (gw_block c h e) ≡ is_hard_reached_in c.name x h (gw_block c h e) }
+    ensures block_soft { (c : Gateway) (h : List Act) (e : GatewayEvent) (x : List ℕ) → AreInstalled c.name h
+        → list_any (is_soft_expiry x) (gw_block c h e) ≡ is_soft_reached_in c.name x h (gw_block c h e) }
 {}
 
 /// The notices that may stand are given exactly where they are asked for and none stands: an acquire where a packet that a protect
 /// entry in force holds finds no live outbound half, an overflow where the newest one for it has sent its last number, and a bad
 /// SPI where no live inbound half has that of a datagram. No other event gives one.
 pub fn tells_where_none_stands()
-    ensures acquire { (c : Gateway) (h : List Act) (o name : List ℕ) → list_any (is_notice (is_acquire_of name)) (gw_block c h (Let o)) ≡ true →
+    ensures acquire { (c : Gateway) (h : List Act) (o name : List ℕ) → list_any (is_notice (is_acquire_of name)) (gw_block c h (Let o)) ≡
+        true →
         LacksHalf c.name h o name × (does_acquire_stand c.name name h ≡ false) }
-    ensures no_half { (c : Gateway) (h : List Act) (o name : List ℕ) → LacksHalf c.name h o name → does_acquire_stand c.name name h ≡ false →
+    ensures no_half { (c : Gateway) (h : List Act) (o name : List ℕ) → LacksHalf c.name h o name → does_acquire_stand c.name name h ≡ false
+        →
         list_any (is_notice (is_acquire_of name)) (gw_block c h (Let o)) ≡ true }
     ensures overflow { (c : Gateway) (h : List Act) (o x : List ℕ) → list_any (is_notice (is_overflow_of x)) (gw_block c h (Let o)) ≡ true →
         LacksNumber c h o x × (does_overflow_stand c.name x h ≡ false) }
     ensures no_number { (c : Gateway) (h : List Act) (o x : List ℕ) → LacksNumber c h o x → does_overflow_stand c.name x h ≡ false →
         list_any (is_notice (is_overflow_of x)) (gw_block c h (Let o)) ≡ true }
-    ensures bad_spi { (c : Gateway) (h : List Act) (o : List ℕ) (spi : ℕ) → list_any (is_notice (is_bad_spi_of spi)) (gw_block c h (Arrive o)) ≡ true →
+    ensures bad_spi { (c : Gateway) (h : List Act) (o : List ℕ) (spi : ℕ)
+        → list_any (is_notice (is_bad_spi_of spi)) (gw_block c h (Arrive o)) ≡ true →
         LacksSpi c h o spi × (does_bad_spi_stand c.name spi h ≡ false) }
     ensures no_spi { (c : Gateway) (h : List Act) (o : List ℕ) (spi : ℕ) → LacksSpi c h o spi → does_bad_spi_stand c.name spi h ≡ false →
         list_any (is_notice (is_bad_spi_of spi)) (gw_block c h (Arrive o)) ≡ true }
-    ensures else_acquire { (c : Gateway) (h : List Act) (e : GatewayEvent) (name : List ℕ) → is_let e ≡ false → list_any (is_notice (is_acquire_of name)) (gw_block c h e) ≡ false }
-    ensures else_overflow { (c : Gateway) (h : List Act) (e : GatewayEvent) (x : List ℕ) → is_let e ≡ false → list_any (is_notice (is_overflow_of x)) (gw_block c h e) ≡ false }
-    ensures else_bad_spi { (c : Gateway) (h : List Act) (e : GatewayEvent) (spi : ℕ) → is_arrive e ≡ false → list_any (is_notice (is_bad_spi_of spi)) (gw_block c h e) ≡ false }
+    ensures else_acquire { (c : Gateway) (h : List Act) (e : GatewayEvent) (name : List ℕ) → is_let e ≡ false
+        → list_any (is_notice (is_acquire_of name)) (gw_block c h e) ≡ false }
+    ensures else_overflow { (c : Gateway) (h : List Act) (e : GatewayEvent) (x : List ℕ) → is_let e ≡ false
+        → list_any (is_notice (is_overflow_of x)) (gw_block c h e) ≡ false }
+    ensures else_bad_spi { (c : Gateway) (h : List Act) (e : GatewayEvent) (spi : ℕ) → is_arrive e ≡ false
+        → list_any (is_notice (is_bad_spi_of spi)) (gw_block c h e) ≡ false }
 {}
 
 /// An SPI stands exactly where it was told at the gateway, fewer than 64 were told there after it, and since then no session was
@@ -218,13 +238,17 @@ pub fn keeps_told_spis()
 /// many they were, and its idle time from the clock at its last use, or at its installation where it was not used. What is kept of
 /// a half has these counts.
 pub fn counts_uses()
-    ensures installed { (g x f : List ℕ) (e : SadEntry) (recent old : List Act) → is_half f e.name g x ≡ true → list_any (is_put_at g x) recent ≡ false →
+    ensures installed { (g x f : List ℕ) (e : SadEntry) (recent old : List Act) → is_half f e.name g x ≡ true
+        → list_any (is_put_at g x) recent ≡ false →
         installed_at g x (recent ++ acts.Put f e ∷ old) ≡ clock old }
-    ensures octets { (g x f : List ℕ) (e : SadEntry) (recent old : List Act) → is_half f e.name g x ≡ true → list_any (is_put_at g x) recent ≡ false →
+    ensures octets { (g x f : List ℕ) (e : SadEntry) (recent old : List Act) → is_half f e.name g x ≡ true
+        → list_any (is_put_at g x) recent ≡ false →
         octets_used g x (recent ++ acts.Put f e ∷ old) ≡ sum (uses_among g x recent (acts.Put f e ∷ old)) }
-    ensures packets { (g x f : List ℕ) (e : SadEntry) (recent old : List Act) → is_half f e.name g x ≡ true → list_any (is_put_at g x) recent ≡ false →
+    ensures packets { (g x f : List ℕ) (e : SadEntry) (recent old : List Act) → is_half f e.name g x ≡ true
+        → list_any (is_put_at g x) recent ≡ false →
         times_used g x (recent ++ acts.Put f e ∷ old) ≡ length (uses_among g x recent (acts.Put f e ∷ old)) }
-    ensures unused { (g x f : List ℕ) (e : SadEntry) (recent old : List Act) → is_half f e.name g x ≡ true → list_any (is_put_at g x) recent ≡ false →
+    ensures unused { (g x f : List ℕ) (e : SadEntry) (recent old : List Act) → is_half f e.name g x ≡ true
+        → list_any (is_put_at g x) recent ≡ false →
         uses_among g x recent (acts.Put f e ∷ old) ≡ [] → last_used g x (recent ++ acts.Put f e ∷ old) ≡ clock old }
     ensures used { (g x : List ℕ) (a : Act) (recent old : List Act) → is_use g x a old ≡ true → list_any (is_put_at g x) recent ≡ false →
         uses_among g x recent (a ∷ old) ≡ [] → last_used g x (recent ++ a ∷ old) ≡ clock old }
@@ -234,7 +258,8 @@ pub fn counts_uses()
 /// A request is answered with 200, 201 or 204 and no tag, or with a refusal's status and its tag, where one that can't be read has
 /// such a fault. No other status comes.
 pub fn answers_with_statuses()
-    ensures { (c : Gateway) (h : List Act) (request : Result Ask Fault) → MayCome (Handle request) → list_all has_answer_status (gw_block c h (Handle request)) ≡ true }
+    ensures { (c : Gateway) (h : List Act) (request : Result Ask Fault) → MayCome (Handle request)
+        → list_all has_answer_status (gw_block c h (Handle request)) ≡ true }
 {}
 
 /// What acts make of the halves, by the place of the half: no two have one name, and the half that an act names stands at that place.
@@ -269,7 +294,8 @@ pub fn between()
 pub fn looks_at_places()
     ensures all { (g : List ℕ) (t : ℕ) (s : GatewayState) → are_names_apart (names_of s.halves) ≡ true → take 64 s.bad_spis ≡ s.bad_spis →
         did_all g (quiet s) (look_of g t s.clock s.halves) ≡ with_halves (without_all (names_reached s.clock s.halves) (map (look_at s.clock) s.halves)) s }
-    ensures one { (g : List ℕ) (t i : ℕ) (x : Half) (s : GatewayState) → are_names_apart (names_of s.halves) ≡ true → take 64 s.bad_spis ≡ s.bad_spis →
+    ensures one { (g : List ℕ) (t i : ℕ) (x : Half) (s : GatewayState) → are_names_apart (names_of s.halves) ≡ true
+        → take 64 s.bad_spis ≡ s.bad_spis →
         slice_get s.halves i ≡ Some x →
         did_all g (quiet s) (look_of g t s.clock (x ∷ [])) ≡ with_halves (without_all (names_reached s.clock (x ∷ [])) (changed (look_at s.clock) i s.halves)) s }
 {}

@@ -49,21 +49,30 @@ carried-new gs f y g x m n b p o h l s e =
     let k = half-is f y g x t.0 in
     let c = carried-let gs f y m p o h l s t.3 in
     subst (λ z. Carried z x n b p h) k.0
-        (subst (λ z. Carried f z n b p h) k.1 (subst (λ z. Carried f y z b p h) (eq-nat m n t.1)
-        (subst (λ z. Carried f y m z p h) (name-is (esp_of o) b t.2) c)))
+    (subst (λ z. Carried f z n b p h) k.1 (subst (λ z. Carried f y z b p h) (eq-nat m n t.1)
+    (subst (λ z. Carried f y m z p h) (name-is (esp_of o) b t.2) c)))
 
 carried-order : (gs : List Peer) (f : List ℕ) (s k : ℕ) (d : SadEntry) (g x : List ℕ) (n : ℕ) (b p : List ℕ) (h : List Act)
     → bytes_eq d.name x ≡ false → Carried g x n b p h → Carried g x n b p (acts.Order f s k (asks.Put d) ∷ h)
-carried-order gs f s k d g x n b p h q c =
-    (c.0, c.1, if-old (bytes_eq d.name x) (Some d) (order_of x h) q ∙ c.2, if-old (bytes_eq d.name x) f (site x h) q
-        ∙ c.3, c.4, c.5, c.6, c.7, c.8)
+carried-order gs f s k d g x n b p h q c = (
+  c.0,
+  c.1,
+  if-old (bytes_eq d.name x) (Some d) (order_of x h) q ∙ c.2,
+  if-old (bytes_eq d.name x) f (site x h) q
+      ∙ c.3,
+  c.4,
+  c.5,
+  c.6,
+  c.7,
+  c.8,
+)
 
 pub carried : (gs : List Peer) (g x : List ℕ) (n : ℕ) (b p : List ℕ) (h : List Act) → IsLawful gs h → was_sent g x n b p h ≡ true
     → Carried g x n b p h
 carried gs g x n b p [] l e = absurd (no e)
 carried gs g x n b p (acts.Sent f y m o ∷ h) l e =
     or-split {A = Carried g x n b p h} (is_half f y g x && (m == n) && bytes_eq (esp_of o) b && is_let f p h) (was_sent g x n b p h)
-        (carried-new gs f y g x m n b p o h l.1 l.0) (carried gs g x n b p h l.1) e
+    (carried-new gs f y g x m n b p o h l.1 l.0) (carried gs g x n b p h l.1) e
 carried gs g x n b p (acts.Order f s k (asks.Put d) ∷ h) l e =
     let c = carried gs g x n b p h l.1 e in
     carried-order gs f s k d g x n b p h (other gs x f d h l.1 l.0.4 (order-ordered x c.0 h c.2)) c
@@ -85,20 +94,29 @@ sealed-now : (f y : List ℕ) (m : ℕ) (o x b : List ℕ) (h : List Act) → Se
     → (bytes_eq y x && bytes_eq (esp_of o) b) ≡ true → SentSomewhere x b (acts.Sent f y m o ∷ h)
 sealed-now f y m o x b h s e =
     let p = let-of f y m o h s in
-    let a = half-true f y f x refl (name-is y x (both-left (bytes_eq y x) (bytes_eq (esp_of o) b) e)) in
-    (f, m, p.0, or_left (is_half f y f x && (m == m) && bytes_eq (esp_of o) b && is_let f p.0 h) (was_sent f x m b p.0 h)
-        (all-four (is_half f y f x) (m == m) (bytes_eq (esp_of o) b) (is_let f p.0 h) a (self m)
-        (both-right (bytes_eq y x) (bytes_eq (esp_of o) b) e) p.1))
+    let a = half-true f y f x refl (name-is y x (both-left (bytes_eq y x) (bytes_eq (esp_of o) b) e)) in (
+      f,
+      m,
+      p.0,
+      or_left (is_half f y f x && (m == m) && bytes_eq (esp_of o) b && is_let f p.0 h) (was_sent f x m b p.0 h)
+          (all-four (is_half f y f x) (m == m) (bytes_eq (esp_of o) b) (is_let f p.0 h) a (self m)
+          (both-right (bytes_eq y x) (bytes_eq (esp_of o) b) e) p.1),
+    )
 
 sealed-more : (f y : List ℕ) (m : ℕ) (o x b : List ℕ) (h : List Act) → SentSomewhere x b h → SentSomewhere x b (acts.Sent f y m o ∷ h)
-sealed-more f y m o x b h s = (s.0, s.1, s.2, or_right (is_half f y s.0 x && (m == s.1) && bytes_eq (esp_of o) b && is_let f s.2 h)
-    (was_sent s.0 x s.1 b s.2 h) s.3)
+sealed-more f y m o x b h s = (
+  s.0,
+  s.1,
+  s.2,
+  or_right (is_half f y s.0 x && (m == s.1) && bytes_eq (esp_of o) b && is_let f s.2 h)
+      (was_sent s.0 x s.1 b s.2 h) s.3,
+)
 
 pub sealed-sent : (gs : List Peer) (x b : List ℕ) (h : List Act) → IsLawful gs h → is_sealed x b h ≡ true → SentSomewhere x b h
 sealed-sent gs x b [] l e = absurd (no e)
 sealed-sent gs x b (acts.Sent f y m o ∷ h) l e =
     or-split {A = SentSomewhere x b (acts.Sent f y m o ∷ h)} (bytes_eq y x && bytes_eq (esp_of o) b) (is_sealed x b h)
-        (sealed-now f y m o x b h l.0) (λ q. sealed-more f y m o x b h (sealed-sent gs x b h l.1 q)) e
+    (sealed-now f y m o x b h l.0) (λ q. sealed-more f y m o x b h (sealed-sent gs x b h l.1 q)) e
 sealed-sent gs x b (a ∷ h) l e = sealed-sent gs x b h l.1 e
 
 -- and the other way round
@@ -112,7 +130,7 @@ pub sent-sealed : (g x : List ℕ) (n : ℕ) (b p : List ℕ) (h : List Act) →
 sent-sealed g x n b p [] e = absurd (no e)
 sent-sealed g x n b p (acts.Sent f y m o ∷ h) e =
     or-split {A = ((bytes_eq y x && bytes_eq (esp_of o) b) || is_sealed x b h) ≡ true} (is_half f y g x && (m == n) && bytes_eq (esp_of o) b
-        && is_let f p h) (was_sent g x n b p h)
+    && is_let f p h) (was_sent g x n b p h)
     (λ q. or_left (bytes_eq y x && bytes_eq (esp_of o) b) (is_sealed x b h) (sent-this f y g x m n b p o h q))
     (λ q. or_right (bytes_eq y x && bytes_eq (esp_of o) b) (is_sealed x b h) (sent-sealed g x n b p h q)) e
 sent-sealed g x n b p (a ∷ h) e = sent-sealed g x n b p h e
@@ -123,7 +141,7 @@ among-more : (n m : ℕ) (xs : List ℕ) → is_among n xs ≡ true → is_among
 among-more n m [] e = absurd (no e)
 among-more n m (x ∷ xs) e =
     or-split {A = ((n == x) || is_among n (xs ++ m ∷ [])) ≡ true} (n == x) (is_among n xs)
-        (λ q. or_left (n == x) (is_among n (xs ++ m ∷ [])) q) (λ q. or_right (n == x) (is_among n (xs ++ m ∷ [])) (among-more n m xs q)) e
+    (λ q. or_left (n == x) (is_among n (xs ++ m ∷ [])) q) (λ q. or_right (n == x) (is_among n (xs ++ m ∷ [])) (among-more n m xs q)) e
 
 among-last : (n : ℕ) (xs : List ℕ) → is_among n (xs ++ n ∷ []) ≡ true
 among-last n [] = or_left (n == n) false (self n)
@@ -153,32 +171,43 @@ given-new f y x m n q h w e =
     let b = eq-nat m n (both-right (bytes_eq y x) (m == n) e) in
     let k = half-true f y f x refl a in
     let r : is_among n (numbers_taken f x h ++ m ∷ []) ≡ true = subst (λ z. is_among z (numbers_taken f x h ++ m ∷ []) ≡ true) b
-        (among-last m (numbers_taken f x h)) in
-    (f, subst (λ z. was_put f z h ≡ true) a w, (let t : is_among n (if is_half f y f x then numbers_taken f x h ++ m
-        ∷ [] else numbers_taken f x h) ≡ true = rw k r in t))
+    (among-last m (numbers_taken f x h)) in (
+      f,
+      subst (λ z. was_put f z h ≡ true) a w,
+      (let t : is_among n (if is_half f y f x then numbers_taken f x h ++ m
+          ∷ [] else numbers_taken f x h) ≡ true = rw k r in t),
+    )
 
 given-more : (f y x : List ℕ) (m n : ℕ) (q : List ℕ) (h : List Act) → WasGiven x n h → WasGiven x n (acts.Gave f y m q ∷ h)
-given-more f y x m n q h i =
-    (i.0, i.1, among-if (is_half f y i.0 x) n (numbers_taken i.0 x h) (numbers_taken i.0 x h ++ m ∷ [])
-    (among-more n m (numbers_taken i.0 x h) i.2) i.2)
+given-more f y x m n q h i = (
+  i.0,
+  i.1,
+  among-if (is_half f y i.0 x) n (numbers_taken i.0 x h) (numbers_taken i.0 x h ++ m ∷ [])
+      (among-more n m (numbers_taken i.0 x h) i.2) i.2,
+)
 
 given-put : (f x : List ℕ) (n : ℕ) (d : SadEntry) (h : List Act) → ((g : List ℕ) → was_put g d.name h ≡ false) → WasGiven x n h
     → WasGiven x n (acts.Put f d ∷ h)
 given-put f x n d h w i =
     let q : is_half f d.name i.0 x ≡ false = false_from_ne_true (is_half f d.name i.0 x) (λ r. let s = (half-is f d.name i.0 x r).1 in
-        no (sym (w i.0) ∙ (let t : was_put i.0 d.name h ≡ true = rw s i.1 in t))) in
-    (i.0, or_right (is_half f d.name i.0 x) (was_put i.0 x h) i.1,
-        (let t : is_among n (if is_half f d.name i.0 x then [] else numbers_taken i.0 x h) ≡ true = rw q i.2 in t))
+    no (sym (w i.0) ∙ (let t : was_put i.0 d.name h ≡ true = rw s i.1 in t))) in (
+      i.0,
+      or_right (is_half f d.name i.0 x) (was_put i.0 x h) i.1,
+      (let t : is_among n (if is_half f d.name i.0 x then [] else numbers_taken i.0 x h) ≡ true = rw q i.2 in t),
+    )
 
 pub given : (gs : List Peer) (x : List ℕ) (n : ℕ) (h : List Act) → IsLawful gs h → was_given x n h ≡ true → WasGiven x n h
 given gs x n [] l e = absurd (no e)
 given gs x n (acts.Gave f y m q ∷ h) l e =
     or-split {A = WasGiven x n (acts.Gave f y m q ∷ h)} (bytes_eq y x && (m == n)) (was_given x n h)
-        (given-new f y x m n q h (given-now gs f y m q h l.1 l.0)) (λ r. given-more f y x m n q h (given gs x n h l.1 r)) e
+    (given-new f y x m n q h (given-now gs f y m q h l.1 l.0)) (λ r. given-more f y x m n q h (given gs x n h l.1 r)) e
 given gs x n (acts.Put f d ∷ h) l e = given-put f x n d h (λ g. put-once gs g f d h l.1 l.0.0 l.0.1) (given gs x n h l.1 e)
 given gs x n (acts.Drop f why ∷ h) l e =
-    let i = given gs x n h l.1 e in
-    (i.0, i.1, among-if (bytes_eq f i.0 && is_opened why) n (numbers_taken i.0 x h)
-        (with_number (numbers_taken i.0 x h) (arrival_number i.0 x (numbers_taken i.0 x h) h))
-        (among-with n (numbers_taken i.0 x h) (arrival_number i.0 x (numbers_taken i.0 x h) h) i.2) i.2)
+    let i = given gs x n h l.1 e in (
+      i.0,
+      i.1,
+      among-if (bytes_eq f i.0 && is_opened why) n (numbers_taken i.0 x h)
+          (with_number (numbers_taken i.0 x h) (arrival_number i.0 x (numbers_taken i.0 x h) h))
+          (among-with n (numbers_taken i.0 x h) (arrival_number i.0 x (numbers_taken i.0 x h) h) i.2) i.2,
+    )
 given gs x n (a ∷ h) l e = given gs x n h l.1 e

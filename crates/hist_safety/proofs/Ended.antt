@@ -14,7 +14,7 @@ pub doomed-ended : (ended : List ℕ → List Act → Bool) → NeverEnds ended 
 doomed-ended ended n [] r t e = absurd (no e)
 doomed-ended ended n (acts.Order f s k (asks.Remove x) ∷ h) r t e =
     n t (acts.Order f s k (asks.Remove x)) h (or-split {A = ended t h ≡ true} (bytes_eq x (in_half t)) (is_removal_ordered (in_half t) h)
-        (λ q. r.0 t (name-is x (in_half t) q)) (doomed-ended ended n h r.1 t) e)
+    (λ q. r.0 t (name-is x (in_half t) q)) (doomed-ended ended n h r.1 t) e)
 doomed-ended ended n (acts.Order f s k asks.Read ∷ h) r t e = n t (acts.Order f s k asks.Read) h (doomed-ended ended n h r t e)
 doomed-ended ended n (acts.Order f s k (asks.Policy l) ∷ h) r t e = n t (acts.Order f s k (asks.Policy l)) h (doomed-ended ended n h r t e)
 doomed-ended ended n (acts.Order f s k (asks.Put d) ∷ h) r t e = n t (acts.Order f s k (asks.Put d)) h (doomed-ended ended n h r t e)

@@ -40,15 +40,15 @@ sess-in gs x (acts.Opened f t ∷ h) l e = let i = sess-in gs x h l.1 e in
     (i.0, more (bytes_eq f (site x h)) (session_of x h) (openings (site x h) h) i.1)
 sess-in gs x (acts.Order f t j (asks.Put d) ∷ h) l e =
     sess-new x f t h l.0.2 (open-some f h l.0.1) (bytes_eq d.name x)
-        (λ q. sess-in gs x h l.1 (or-false (bytes_eq d.name x) (was_order_given x h) q e))
+    (λ q. sess-in gs x h l.1 (or-false (bytes_eq d.name x) (was_order_given x h) q e))
 sess-in gs x (a ∷ h) l e = sess-in gs x h l.1 e
 
 -- the number of the order of a put
 num-new : (x f : List ℕ) (t j : ℕ) (h : List Act) → j ≡ orders f t h + 1 → (b : Bool)
     → (b ≡ false → place_of x h ≤ orders (site x h) (session_of x h) h) →
     (if b then j else place_of x h) ≤ (if is_session f t (if b then f else site x h) (if b then t else session_of x h)
-        then orders (if b then f else site x h) (if b then t else session_of x h) h + 1 else orders (if b then f else site x h)
-        (if b then t else session_of x h) h)
+    then orders (if b then f else site x h) (if b then t else session_of x h) h + 1 else orders (if b then f else site x h)
+    (if b then t else session_of x h) h)
 num-new x f t j h e true i = let q = session-self f t in rw q (omega (arith, e))
 num-new x f t j h e false i = more (is_session f t (site x h) (session_of x h)) (place_of x h) (orders (site x h) (session_of x h) h)
     (i refl)

@@ -87,7 +87,7 @@ pub made-put : (gs : List Peer) (x : List ℕ) (h : List Act) → IsLawful gs h 
 made-put gs x [] l q = absurd (no q)
 made-put gs x (acts.Answered f t j a ∷ h) l q =
     or-split {A = was_put (site x h) x h ≡ true} (is_put x (order_at f t j h) && nat_lt a.status 400) (is_put_accepted x h)
-        (made-new gs f t j x a h l.1 l.0.4) (made-put gs x h l.1) q
+    (made-new gs f t j x a h l.1 l.0.4) (made-put gs x h l.1) q
 made-put gs x (acts.Put f d ∷ h) l q = or_right (is_half f d.name (site x h) x) (was_put (site x h) x h) (made-put gs x h l.1 q)
 made-put gs x (acts.Order f t j (asks.Put d) ∷ h) l q =
     let i = made-put gs x h l.1 q in
@@ -131,10 +131,10 @@ pub last : (gs : List Peer) (t : List ℕ) (h : List Act) → IsLawful gs h → 
 last gs t [] l e = absurd (no e)
 last gs t (acts.Order f s k (asks.Remove y) ∷ h) l e =
     or-split {A = Last t h} (bytes_eq y (in_half t)) (is_removal_ordered (in_half t) h)
-        (λ q. last-remove gs f y t h l.1 l.0.4 (name-is y (in_half t) q)) (last gs t h l.1) e
+    (λ q. last-remove gs f y t h l.1 l.0.4 (name-is y (in_half t) q)) (last gs t h l.1) e
 last gs t (acts.Order f s k (asks.Put d) ∷ h) l e =
     last-or (bytes_eq d.name (out_half t)) (was_order_given (out_half t) h) {A = is_removal_handled (out_half t) h ≡ true}
-        (λ q. last-put f t d h e l.0.4 (name-is d.name (out_half t) q)) (last gs t h l.1 e)
+    (λ q. last-put f t d h e l.0.4 (name-is d.name (out_half t) q)) (last gs t h l.1 e)
 last gs t (acts.Handled f s k a ∷ h) l e = last-off {A = was_order_given (out_half t) h ≡ false}
     (is_removal (out_half t) (order_at f s k h)) (is_removal_handled (out_half t) h) (last gs t h l.1 e)
 last gs t (a ∷ h) l e = last gs t h l.1 e
@@ -171,7 +171,7 @@ stays gs g x (acts.Put f d ∷ h) l e = stays-put (is_half f d.name g x) (was_pu
 stays gs g x (acts.Gone f y gone.Removed ∷ h) l e =
     let d = (asked gs f (session_taken f h) (handled f (session_taken f h) h + 1) y h l.1 (next-is f (asks.Remove y) h l.0.1)).0 in
     stays-gone (is_half f y g x) (is_live g x h) (is_lapsed g x h) (is_removal_ordered x h)
-        (λ q. subst (λ z. is_removal_ordered z h ≡ true) (half-is f y g x q).1 d) (stays gs g x h l.1 e)
+    (λ q. subst (λ z. is_removal_ordered z h ≡ true) (half-is f y g x q).1 d) (stays gs g x h l.1 e)
 stays gs g x (acts.Gone f y gone.Hard ∷ h) l e = stays-hard (is_half f y g x) (is_live g x h) (is_lapsed g x h) (is_removal_ordered x h)
     (stays gs g x h l.1 e)
 stays gs g x (acts.Boot f ∷ h) l e = stays-boot (bytes_eq f g) (was_put g x h) (is_live g x h) (is_lapsed g x h) (is_removal_ordered x h) e
@@ -207,9 +207,11 @@ out-stays v p d f (inr (inr e)) = absurd (f e)
 -- while the outbound half is live the inbound one is live, or lapsed since its put
 pub sent-safe : (gs : List Peer) (g t : List ℕ) (h : List Act) → IsLawful gs h → is_live g (out_half t) h ≡ true →
     (was_put (site (in_half t) h) (in_half t) h ≡ true) × ((is_live (site (in_half t) h) (in_half t) h ≡ true)
-        ⊎ (is_lapsed (site (in_half t) h) (in_half t) h ≡ true))
+    ⊎ (is_lapsed (site (in_half t) h) (in_half t) h ≡ true))
 sent-safe gs g t h l e =
     let o = (was gs g (out_half t) h l (live-was g (out_half t) h e)).0 in
-    let p = first-in gs t h l o in
-    (p, out-stays (is_live (site (in_half t) h) (in_half t) h) (is_lapsed (site (in_half t) h) (in_half t) h)
-        (is_removal_ordered (in_half t) h) (λ d. live-out gs g t h l e (last gs t h l d)) (stays gs (site (in_half t) h) (in_half t) h l p))
+    let p = first-in gs t h l o in (
+      p,
+      out-stays (is_live (site (in_half t) h) (in_half t) h) (is_lapsed (site (in_half t) h) (in_half t) h)
+          (is_removal_ordered (in_half t) h) (λ d. live-out gs g t h l e (last gs t h l d)) (stays gs (site (in_half t) h) (in_half t) h l p),
+    )

@@ -27,7 +27,7 @@ pub not-now : (gs : List Peer) (g f x : List ℕ) (d e : SadEntry) (h : List Act
     → is_half f d.name g x ≡ false
 not-now gs g f x d e h w p =
     false_from_ne_true (is_half f d.name g x) (λ q. let r = (half-is f d.name g x q).1 in
-        let s : was_put g d.name h ≡ true = rw r (put-was g x e h p) in no (sym w ∙ s))
+    let s : was_put g d.name h ≡ true = rw r (put-was g x e h p) in no (sym w ∙ s))
 
 under-put : (gs : List Peer) (c iv f : List ℕ) (d : SadEntry) (h : List Act) → ((g : List ℕ) → was_put g d.name h ≡ false) → Under c iv h
     → Under c iv (acts.Put f d ∷ h)
@@ -53,10 +53,10 @@ under-sent f y n o c iv (acts.Let g p ∷ h) m a b =
     let s : Sends f y n p o h = m.1 in
     let k : aes_part s.half.key ≡ c = sym (ap aes_in s.put) ∙ name-is (aes_in (put_of f y h)) c a in
     let one : Under (aes_part s.half.key) (iv_of (esp_of o)) (acts.Sent f y n o ∷ acts.Let g p ∷ h) =
-        subst (λ z. Under (aes_part s.half.key) (iv_of (esp_of o)) (acts.Sent f y n o ∷ acts.Let z p ∷ h)) (sym m.0)
-        (under-now f y n p o h s) in
+    subst (λ z. Under (aes_part s.half.key) (iv_of (esp_of o)) (acts.Sent f y n o ∷ acts.Let z p ∷ h)) (sym m.0)
+    (under-now f y n p o h s) in
     subst (λ z. Under z iv (acts.Sent f y n o ∷ acts.Let g p ∷ h)) k
-        (subst (λ z. Under (aes_part s.half.key) z (acts.Sent f y n o ∷ acts.Let g p ∷ h)) (name-is (iv_of (esp_of o)) iv b) one)
+    (subst (λ z. Under (aes_part s.half.key) z (acts.Sent f y n o ∷ acts.Let g p ∷ h)) (name-is (iv_of (esp_of o)) iv b) one)
 under-sent f y n o c iv [] m a b = absurd m
 under-sent f y n o c iv (act ∷ h) m a b = absurd m
 
@@ -64,9 +64,9 @@ pub used-by : (gs : List Peer) (c iv : List ℕ) (h : List Act) → IsLawful gs 
 used-by gs c iv [] l e = absurd (no e)
 used-by gs c iv (acts.Sent f y n o ∷ h) l e =
     or-split {A = Under c iv (acts.Sent f y n o ∷ h)} (bytes_eq (aes_in (put_of f y h)) c && bytes_eq (iv_of (esp_of o)) iv)
-        (was_sealed c iv h)
+    (was_sealed c iv h)
     (λ r. under-sent f y n o c iv h l.0 (both-left (bytes_eq (aes_in (put_of f y h)) c) (bytes_eq (iv_of (esp_of o)) iv) r)
-        (both-right (bytes_eq (aes_in (put_of f y h)) c) (bytes_eq (iv_of (esp_of o)) iv) r))
+    (both-right (bytes_eq (aes_in (put_of f y h)) c) (bytes_eq (iv_of (esp_of o)) iv) r))
     (λ r. under-more c iv f y n o h (used-by gs c iv h l.1 r)) e
 used-by gs c iv (acts.Put f d ∷ h) l e = under-put gs c iv f d h (λ g. put-once gs g f d h l.1 l.0.0 l.0.1) (used-by gs c iv h l.1 e)
 used-by gs c iv (a ∷ h) l e = used-by gs c iv h l.1 e
@@ -102,7 +102,7 @@ key-clash gs g x n p o h l s u =
     let w = one-half gs u.0 g u.1 x u.2 s.half h l u.4 s.put u.9 s.outbound u.5 in
     let k : u.3 ≤ sent g x h = subst (λ z. u.3 ≤ sent z x h) w.0 (subst (λ z. u.3 ≤ sent u.0 z h) w.1 u.8) in
     let e : to_be_bytes w64 n ≡ to_be_bytes w64 u.3 =
-        sym (ap (λ (z : List ℕ). iv_of z) s.sealed ∙ esp-iv (keying_of s.half) n (next_header p) p) ∙ u.6 in
+    sym (ap (λ (z : List ℕ). iv_of z) s.sealed ∙ esp-iv (keying_of s.half) n (next_header p) p) ∙ u.6 in
     let a = s.small in
     let b = u.7 in
     let r = iv-once n u.3 (omega (arith, a)) (omega (arith, b)) e in

@@ -69,9 +69,11 @@ Stands g e h = (put_of g e.name h ≡ Some e) × (is_live g e.name h ≡ true)
 
 stands-new : (f g : List ℕ) (d e : SadEntry) (h : List Act) → f ≡ g → d ≡ e → Stands g e (acts.Put f d ∷ h)
 stands-new f g d e h p q =
-    let b : is_half f d.name g e.name ≡ true = half-true f d.name g e.name p (ap (λ (z : SadEntry). z.name) q) in
-    (if-new (is_half f d.name g e.name) (Some d) (put_of g e.name h) b
-        ∙ ap (λ (z : SadEntry). Some z) q, or_left (is_half f d.name g e.name) (is_live g e.name h) b)
+    let b : is_half f d.name g e.name ≡ true = half-true f d.name g e.name p (ap (λ (z : SadEntry). z.name) q) in (
+      if-new (is_half f d.name g e.name) (Some d) (put_of g e.name h) b
+          ∙ ap (λ (z : SadEntry). Some z) q,
+      or_left (is_half f d.name g e.name) (is_live g e.name h) b,
+    )
 
 stands-old : (gs : List Peer) (f g : List ℕ) (d e : SadEntry) (h : List Act) → was_put g d.name h ≡ false → Stands g e h
     → Stands g e (acts.Put f d ∷ h)
@@ -83,8 +85,11 @@ stands-put : (gs : List Peer) (b : Bool) (f g : List ℕ) (d e : SadEntry) (h : 
     → (IsOneOf e (live g h) → Stands g e h) →
     IsOneOf e (if b then live g h ++ d ∷ [] else live g h) → Stands g e (acts.Put f d ∷ h)
 stands-put gs true f g d e h q w ih p =
-    elim (member-split e d (live g h) p) as (λ z. Stands g e (acts.Put f d ∷ h)) [ inl r ↦ stands-old gs f g d e h w (ih r) | inr r ↦
-        stands-new f g d e h (q refl) r ]
+    elim (member-split e d (live g h) p) as (λ z. Stands g e (acts.Put f d ∷ h)) [
+      | inl r ↦ stands-old gs f g d e h w (ih r)
+      | inr r ↦
+          stands-new f g d e h (q refl) r
+    ]
 stands-put gs false f g d e h q w ih p = stands-old gs f g d e h w (ih p)
 
 gone-other : (b c v : Bool) → (b ≡ true → c ≡ false) → v ≡ true → (not (b && c) && v) ≡ true
@@ -202,6 +207,6 @@ spi-finds gs g t spi e h l v p q =
     let m : IsOneOf e (live g h) = subst (λ z. IsOneOf z (live g h)) same w.1 in
     let name : e.name ≡ in_half t = ap (λ (z : SadEntry). z.name) (sym same) ∙ w.2 in
     let b : spi_test spi e ≡ true = and_from (is_inbound e.name) (e.spi == spi) (ap is_inbound name) (let r = self spi in
-        ap (λ (z : ℕ). z == spi) q ∙ r) in
+    ap (λ (z : ℕ). z == spi) q ∙ r) in
     let f = find-some (spi_test spi) e (live g h) b m in
     f.1 ∙ ap (λ (z : SadEntry). Some z) (same-half gs g t spi f.0 e h l p q f.1)

@@ -36,10 +36,15 @@ this-is : (f y : List ℕ) (m : ℕ) (o g x : List ℕ) (n : ℕ) (b p : List �
 this-is f y m o g x n b p h e =
     let k = both-left (is_half f y g x && (m == n) && bytes_eq (esp_of o) b) (is_let f p h) e in
     let j = both-left (is_half f y g x && (m == n)) (bytes_eq (esp_of o) b) k in
-    let i = half-is f y g x (both-left (is_half f y g x) (m == n) j) in
-    (i.0, i.1, eq-nat m n (both-right (is_half f y g x) (m == n) j), name-is (esp_of o) b
-        (both-right (is_half f y g x && (m == n)) (bytes_eq (esp_of o) b) k), both-right (is_half f y g x && (m == n)
-        && bytes_eq (esp_of o) b) (is_let f p h) e)
+    let i = half-is f y g x (both-left (is_half f y g x) (m == n) j) in (
+      i.0,
+      i.1,
+      eq-nat m n (both-right (is_half f y g x) (m == n) j),
+      name-is (esp_of o) b
+          (both-right (is_half f y g x && (m == n)) (bytes_eq (esp_of o) b) k),
+      both-right (is_half f y g x && (m == n)
+          && bytes_eq (esp_of o) b) (is_let f p h) e,
+    )
 
 count-now : (f y : List ℕ) (m : ℕ) (o : List ℕ) (h : List Act) → SendMayHappen f y m o h → (e : SadEntry) × (put_of f y h ≡ Some e)
     × (m ≡ sent f y h + 1)
@@ -75,11 +80,11 @@ sent-under : (gs : List Peer) (g x : List ℕ) (n : ℕ) (b p : List ℕ) (h : L
 sent-under gs g x n b p [] l e = absurd (no e)
 sent-under gs g x n b p (acts.Sent f y m o ∷ h) l e =
     or-split {A = SentUnder g x n (acts.Sent f y m o ∷ h)} (is_half f y g x && (m == n) && bytes_eq (esp_of o) b && is_let f p h)
-        (was_sent g x n b p h)
+    (was_sent g x n b p h)
     (λ q. let t = this-is f y m o g x n b p h q in
-        under-this f y m o g x n h l.0 t.0 t.1 t.2
-        (both-left (is_half f y g x) (m == n) (both-left (is_half f y g x && (m == n)) (bytes_eq (esp_of o) b)
-        (both-left (is_half f y g x && (m == n) && bytes_eq (esp_of o) b) (is_let f p h) q))))
+    under-this f y m o g x n h l.0 t.0 t.1 t.2
+    (both-left (is_half f y g x) (m == n) (both-left (is_half f y g x && (m == n)) (bytes_eq (esp_of o) b)
+    (both-left (is_half f y g x && (m == n) && bytes_eq (esp_of o) b) (is_let f p h) q))))
     (λ q. let u = sent-under gs g x n b p h l.1 q in (u.0, u.1, more (is_half f y g x) n (sent g x h) u.2)) e
 sent-under gs g x n b p (acts.Put f d ∷ h) l e = under-put gs f g x n d h (put-once gs g f d h l.1 l.0.0 l.0.1)
     (sent-under gs g x n b p h l.1 e)
@@ -133,7 +138,7 @@ among-split n m (x ∷ xs) e =
     or-split {A = (((n == x) || is_among n xs) ≡ true) ⊎ (m ≡ n)} (n == x) (is_among n (xs ++ m ∷ []))
     (λ q. inl (or_left (n == x) (is_among n xs) q))
     (λ q. elim (among-split n m xs q) as (λ z. (((n == x) || is_among n xs) ≡ true) ⊎ (m ≡ n))
-        [ inl r ↦ inl (or_right (n == x) (is_among n xs) r) | inr r ↦ inr r ]) e
+    [ inl r ↦ inl (or_right (n == x) (is_among n xs) r) | inr r ↦ inr r ]) e
 
 with-split : (n : ℕ) (xs : List ℕ) (o : Option ℕ) → is_among n (with_number xs o) ≡ true → (is_among n xs ≡ true) ⊎ (o ≡ Some n)
 with-split n xs None e = inl e
@@ -157,7 +162,7 @@ arrival-is : (g x f o : List ℕ) (numbers : List ℕ) (half : SadEntry) (n : �
     (if b then number_for x (greatest numbers) (live g h) (esp_of o) else None) ≡ Some n → (half.name ≡ x) × (seq_of (esp_of o) ≡ n)
 arrival-is g x f o numbers half n h q true e =
     let r : (if bytes_eq half.name x then Some (number_of half numbers (esp_of o)) else None) ≡ Some n =
-        sym (ap (number_if x (greatest numbers) (esp_of o)) q) ∙ e in
+    sym (ap (number_if x (greatest numbers) (esp_of o)) q) ∙ e in
     let s = number-is (bytes_eq half.name x) (number_of half numbers (esp_of o)) n r in
     (name-is half.name x s.0, sym (number-field half (greatest numbers) (esp_of o)) ∙ s.1)
 arrival-is g x f o numbers half n h q false e = absurd (grind arith)
@@ -176,7 +181,7 @@ drop-sent gs f why g x n (acts.Arrived y o ∷ h) l m p q e =
     let d = m.3 q in
     let c : ComesTo gs f o d.0 h = d.2 in
     let found : by_spi (spi_of (esp_of o)) (live g h) ≡ Some d.0 = subst (λ z. by_spi (spi_of (esp_of o)) (live z h) ≡ Some d.0) p c.found
-        in
+    in
     let a = arrival-is g x y o (numbers_taken g x h) d.0 n h found (bytes_eq y g) e in
     let s = m.1 d.0 d.1 c d.3 in
     let t : is_sealed (other_half x) (esp_of o) h ≡ true = subst (λ z. is_sealed (other_half z) (esp_of o) h ≡ true) a.0 s in
@@ -194,8 +199,13 @@ gave-sent gs f y m q g x n h l s b e =
     subst (λ z. NumberSent (other_half x) z h) e (subst (λ z. NumberSent (other_half z) m h) k one)
 
 sent-more : (f y : List ℕ) (m : ℕ) (o x : List ℕ) (n : ℕ) (h : List Act) → NumberSent x n h → NumberSent x n (acts.Sent f y m o ∷ h)
-sent-more f y m o x n h s = (s.0, s.1, s.2, or_right (is_half f y s.0 x && (m == n) && bytes_eq (esp_of o) s.1 && is_let f s.2 h)
-    (was_sent s.0 x n s.1 s.2 h) s.3)
+sent-more f y m o x n h s = (
+  s.0,
+  s.1,
+  s.2,
+  or_right (is_half f y s.0 x && (m == n) && bytes_eq (esp_of o) s.1 && is_let f s.2 h)
+      (was_sent s.0 x n s.1 s.2 h) s.3,
+)
 
 pub taken-sent : (gs : List Peer) (g x : List ℕ) (n : ℕ) (h : List Act) → IsLawful gs h → is_among n (numbers_taken g x h) ≡ true
     → NumberSent (other_half x) n h
@@ -205,13 +215,12 @@ taken-sent gs g x n (acts.Put f d ∷ h) l e = if-split {A = NumberSent (other_h
 taken-sent gs g x n (acts.Gave f y m p ∷ h) l e =
     if-split {A = NumberSent (other_half x) n h} (is_half f y g x) n (numbers_taken g x h) (numbers_taken g x h ++ m ∷ [])
     (λ q r. elim (among-split n m (numbers_taken g x h) r) as (λ z. NumberSent (other_half x) n h)
-        [ inl s ↦ taken-sent gs g x n h l.1 s | inr s ↦ gave-sent gs f y m p g x n h l.1 l.0 q s ])
+    [ inl s ↦ taken-sent gs g x n h l.1 s | inr s ↦ gave-sent gs f y m p g x n h l.1 l.0 q s ])
     (taken-sent gs g x n h l.1) e
 taken-sent gs g x n (acts.Drop f why ∷ h) l e =
     if-split {A = NumberSent (other_half x) n h} (bytes_eq f g && is_opened why) n (numbers_taken g x h)
-        (with_number (numbers_taken g x h) (arrival_number g x (numbers_taken g x h) h))
-    (λ q r. elim (with-split n (numbers_taken g x h) (arrival_number g x (numbers_taken g x h) h) r) as (λ z. NumberSent (other_half x) n h)
-        [
+    (with_number (numbers_taken g x h) (arrival_number g x (numbers_taken g x h) h))
+    (λ q r. elim (with-split n (numbers_taken g x h) (arrival_number g x (numbers_taken g x h) h) r) as (λ z. NumberSent (other_half x) n h) [
       | inl s ↦ taken-sent gs g x n h l.1 s
       | inr s ↦ drop-sent gs f why g x n h l.1 l.0 (name-is f g (both-left (bytes_eq f g) (is_opened why) q))
           (both-right (bytes_eq f g) (is_opened why) q) s

@@ -96,7 +96,7 @@ answer-mid g x o a (b ∷ h) p m = absurd (no m)
 
 once-now : (f x : List ℕ) (t j : ℕ) (h : List Act) → (site x h ≡ f) → (session_of x h ≡ t) → (place_of x h ≡ j) → j ≡ handled f t h + 1 →
     place_of x h ≤ (if is_session f t (site x h) (session_of x h) then handled (site x h) (session_of x h) h + 1
-        else handled (site x h) (session_of x h) h)
+    else handled (site x h) (session_of x h) h)
 once-now f x t j h a b c q =
     let r : is_session f t (site x h) (session_of x h) ≡ true = rw (a, b) (session-self f t) in
     rw r (rw (a, b, c) (omega (arith, q)))
@@ -104,7 +104,7 @@ once-now f x t j h a b c q =
 once-handled : (f x : List ℕ) (t j : ℕ) (h : List Act) → (is_mid x h ≡ true → (site x h ≡ f) × (session_of x h ≡ t) × (place_of x h ≡ j))
     → j ≡ handled f t h + 1 → (is_mid x h ≡ true) ⊎ IsBehind x h →
     place_of x h ≤ (if is_session f t (site x h) (session_of x h) then handled (site x h) (session_of x h) h + 1
-        else handled (site x h) (session_of x h) h)
+    else handled (site x h) (session_of x h) h)
 once-handled f x t j h pl q (inl m) = let p = pl m in once-now f x t j h p.0 p.1 p.2 q
 once-handled f x t j h pl q (inr n) = more (is_session f t (site x h) (session_of x h)) (place_of x h)
     (handled (site x h) (session_of x h) h) n
@@ -126,7 +126,7 @@ behind-older : (x f : List ℕ) (t j : ℕ) (d : SadEntry) (h : List Act) → by
     → IsBehind x (acts.Order f t j (asks.Put d) ∷ h)
 behind-older x f t j d h q n =
     let m : (if bytes_eq d.name x then j else place_of x h) ≤ handled (if bytes_eq d.name x then f else site x h)
-        (if bytes_eq d.name x then t else session_of x h) h = rw q n in
+    (if bytes_eq d.name x then t else session_of x h) h = rw q n in
     m
 
 placed-at : (f x : List ℕ) (t j : ℕ) (e : SadEntry) (h : List Act) → IsPutAt f t j e h → e.name ≡ x → (site x h ≡ f) × (session_of x h ≡ t)

@@ -32,21 +32,21 @@ out-serial t u e = ap (λ (x : List ℕ). drop 4 x) e
 serial-put : (m : ℕ) (f : List ℕ) (e : SadEntry) (h : List Act) → m < 2 ^ 64
     → (was_order_given (in_half (decimal m)) h ≡ true → m ≤ inbounds h) → PutInMayHappen e h ⊎ PutOutMayHappen f e h →
     (bytes_eq e.name (in_half (decimal m)) || was_order_given (in_half (decimal m)) h) ≡ true
-        → m ≤ (if is_inbound e.name then inbounds h + 1 else inbounds h)
+    → m ≤ (if is_inbound e.name then inbounds h + 1 else inbounds h)
 serial-put m f e h lt ih (inl p) q =
     or-split {A = m ≤ (if is_inbound e.name then inbounds h + 1 else inbounds h)} (bytes_eq e.name (in_half (decimal m)))
-        (was_order_given (in_half (decimal m)) h)
+    (was_order_given (in_half (decimal m)) h)
     (λ r.
     let few = p.few in
     let same : decimal (inbounds h + 1) ≡ decimal m = in-serial (decimal (inbounds h + 1)) (decimal m) (sym p.name
-        ∙ name-is e.name (in_half (decimal m)) r) in
+    ∙ name-is e.name (in_half (decimal m)) r) in
     let n : inbounds h + 1 ≡ m = decimal_injective (inbounds h + 1) m (omega (arith, few)) lt same in
     let b : is_inbound e.name ≡ true = ap is_inbound p.name in
     rw b (omega (arith, n)))
     (λ r. more (is_inbound e.name) m (inbounds h) (ih r)) q
 serial-put m f e h lt ih (inr p) q =
     or-split {A = m ≤ (if is_inbound e.name then inbounds h + 1 else inbounds h)} (bytes_eq e.name (in_half (decimal m)))
-        (was_order_given (in_half (decimal m)) h)
+    (was_order_given (in_half (decimal m)) h)
     (λ r. absurd (in-out (decimal m) p.serial (sym (name-is e.name (in_half (decimal m)) r) ∙ p.name)))
     (λ r. more (is_inbound e.name) m (inbounds h) (ih r)) q
 
@@ -113,7 +113,7 @@ place gs g s k e (acts.Order f t j (asks.Remove x) ∷ h) l q =
     place gs g s k e h l.1 (order-old (is_session f t g s && (j == k)) (asks.Remove x) (asks.Put e) (order_at g s k h) (λ p. grind arith) q)
 place gs g s k e (acts.Order f t j (asks.Put d) ∷ h) l q =
     place-add g f s k t j e d h (place gs g s k e h l.1) (other gs e.name f d h l.1 l.0.4) (is_session f t g s && (j == k))
-        (spot-is f t j g s k) q
+    (spot-is f t j g s k) q
 place gs g s k e (a ∷ h) l q = place gs g s k e h l.1 q
 
 -- ---- a Put is that of the order of its half

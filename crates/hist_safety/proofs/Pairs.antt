@@ -35,7 +35,7 @@ order-ordered x e (a ∷ h) q = order-ordered x e h q
 -- and stands as the order with its number, in its session, at its gateway
 stands-new : (f x : List ℕ) (t j : ℕ) (d : SadEntry) (h : List Act) (b : Bool) → b ≡ true →
     order_at (if b then f else site x h) (if b then t else session_of x h) (if b then j else place_of x h) (acts.Order f t j (asks.Put d)
-        ∷ h) ≡ Some (asks.Put d)
+    ∷ h) ≡ Some (asks.Put d)
 stands-new f x t j d h true q = if-new (is_session f t f t && (j == j)) (Some (asks.Put d)) (order_at f t j h)
     (and_from (is_session f t f t) (j == j) (session-self f t) (self j))
 stands-new f x t j d h false q = absurd (no q)
@@ -44,7 +44,7 @@ stands-old : (f x : List ℕ) (t j : ℕ) (d e : SadEntry) (h : List Act) (b : B
     → (is_session f t (site x h) (session_of x h) && (j == place_of x h)) ≡ false → order_at (site x h) (session_of x h) (place_of x h) h ≡
     Some (asks.Put e) →
     order_at (if b then f else site x h) (if b then t else session_of x h) (if b then j else place_of x h) (acts.Order f t j (asks.Put d)
-        ∷ h) ≡ Some (asks.Put e)
+    ∷ h) ≡ Some (asks.Put e)
 stands-old f x t j d e h true q r o = absurd (no (sym q))
 stands-old f x t j d e h false q r o = if-old (is_session f t (site x h) (session_of x h) && (j == place_of x h)) (Some (asks.Put d))
     (order_at (site x h) (session_of x h) (place_of x h) h) r ∙ o
@@ -53,15 +53,15 @@ not-this : (gs : List Peer) (f x : List ℕ) (t j : ℕ) (h : List Act) → IsLa
     → (is_session f t (site x h) (session_of x h) && (j == place_of x h)) ≡ false
 not-this gs f x t j h l o e =
     not-new (is_session f t (site x h) (session_of x h) && (j == place_of x h)) (place_of x h) (orders (site x h) (session_of x h) h)
-        (count-at orders f t j (site x h) (session_of x h) (place_of x h) h e) (num-in gs x h l o)
+    (count-at orders f t j (site x h) (session_of x h) (place_of x h) h e) (num-in gs x h l o)
 
 pub order-stands : (gs : List Peer) (x : List ℕ) (e : SadEntry) (h : List Act) → IsLawful gs h → order_of x h ≡ Some e
     → order_at (site x h) (session_of x h) (place_of x h) h ≡ Some (asks.Put e)
 order-stands gs x e [] l q = absurd (grind arith)
 order-stands gs x e (acts.Order f t j (asks.Put d) ∷ h) l q =
     elim (if-cases (bytes_eq d.name x) d e (order_of x h) q) as (λ z. order_at (if bytes_eq d.name x then f else site x h)
-        (if bytes_eq d.name x then t else session_of x h) (if bytes_eq d.name x then j else place_of x h) (acts.Order f t j (asks.Put d)
-        ∷ h) ≡ Some (asks.Put e)) [
+    (if bytes_eq d.name x then t else session_of x h) (if bytes_eq d.name x then j else place_of x h) (acts.Order f t j (asks.Put d)
+    ∷ h) ≡ Some (asks.Put e)) [
       | inl r ↦ stands-new f x t j d h (bytes_eq d.name x) r.0 ∙ ap (λ (z : SadEntry). Some (asks.Put z)) r.1
       | inr r ↦ let o = order-ordered x e h r in
           stands-old f x t j d e h (bytes_eq d.name x) (other gs x f d h l.1 l.0.4 o) (not-this gs f x t j h l.1 o l.0.3)
@@ -70,7 +70,7 @@ order-stands gs x e (acts.Order f t j (asks.Put d) ∷ h) l q =
 order-stands gs x e (acts.Order f t j a ∷ h) l q =
     let o = order-ordered x e h q in
     if-old (is_session f t (site x h) (session_of x h) && (j == place_of x h)) (Some a) (order_at (site x h) (session_of x h) (place_of x h)
-        h) (not-this gs f x t j h l.1 o l.0.3) ∙ order-stands gs x e h l.1 q
+    h) (not-this gs f x t j h l.1 o l.0.3) ∙ order-stands gs x e h l.1 q
 order-stands gs x e (a ∷ h) l q = order-stands gs x e h l.1 q
 
 -- a half that was ordered has the name of one of the two
@@ -85,7 +85,7 @@ pub named : (gs : List Peer) (x : List ℕ) (h : List Act) → IsLawful gs h →
 named gs x [] l q = absurd (no q)
 named gs x (acts.Order f s k (asks.Put d) ∷ h) l q =
     or-split {A = Named x} (bytes_eq d.name x) (was_order_given x h)
-        (λ r. subst (λ z. Named z) (name-is d.name x r) (named-put f d h l.0.4)) (named gs x h l.1) q
+    (λ r. subst (λ z. Named z) (name-is d.name x r) (named-put f d h l.0.4)) (named gs x h l.1) q
 named gs x (a ∷ h) l q = named gs x h l.1 q
 
 outbound-by : (x : List ℕ) → is_inbound x ≡ false → Named x → (serial : List ℕ) × (x ≡ out_half serial)
@@ -111,18 +111,36 @@ pair-new f s k t d h p e q r =
     let o : order_of (in_half t) h ≡ Some p.inbound = subst (λ z. order_of (in_half z) h ≡ Some p.inbound) e p.order in
     let w : bytes_eq (site (in_half t) h) f ≡ false = subst (λ z. bytes_eq (site (in_half z) h) f ≡ false) e p.elsewhere in
     let v : bytes_eq (if bytes_eq d.name (in_half t) then f else site (in_half t) h) (if bytes_eq d.name (out_half t) then f
-        else site (out_half t) h) ≡ false = rw (q, r) w in
-    let m : is_put_accepted (in_half t) h ≡ true = subst (λ z. is_put_accepted (in_half z) h ≡ true) e p.made in
-    (d, p.inbound, if-new (bytes_eq d.name (out_half t)) (Some d) (order_of (out_half t) h) q, if-old (bytes_eq d.name (in_half t)) (Some d)
-        (order_of (in_half t) h) r ∙ o, p.key, p.spi, p.selector, v, m)
+    else site (out_half t) h) ≡ false = rw (q, r) w in
+    let m : is_put_accepted (in_half t) h ≡ true = subst (λ z. is_put_accepted (in_half z) h ≡ true) e p.made in (
+      d,
+      p.inbound,
+      if-new (bytes_eq d.name (out_half t)) (Some d) (order_of (out_half t) h) q,
+      if-old (bytes_eq d.name (in_half t)) (Some d)
+          (order_of (in_half t) h) r ∙ o,
+      p.key,
+      p.spi,
+      p.selector,
+      v,
+      m,
+    )
 
 pair-older : (f : List ℕ) (s k : ℕ) (t : List ℕ) (d : SadEntry) (h : List Act) → bytes_eq d.name (out_half t) ≡ false
     → bytes_eq d.name (in_half t) ≡ false → Pair t h → Pair t (acts.Order f s k (asks.Put d) ∷ h)
 pair-older f s k t d h q r p =
     let v : bytes_eq (if bytes_eq d.name (in_half t) then f else site (in_half t) h) (if bytes_eq d.name (out_half t) then f
-        else site (out_half t) h) ≡ false = rw (q, r) p.7 in
-    (p.0, p.1, if-old (bytes_eq d.name (out_half t)) (Some d) (order_of (out_half t) h) q
-        ∙ p.2, if-old (bytes_eq d.name (in_half t)) (Some d) (order_of (in_half t) h) r ∙ p.3, p.4, p.5, p.6, v, p.8)
+    else site (out_half t) h) ≡ false = rw (q, r) p.7 in (
+      p.0,
+      p.1,
+      if-old (bytes_eq d.name (out_half t)) (Some d) (order_of (out_half t) h) q
+          ∙ p.2,
+      if-old (bytes_eq d.name (in_half t)) (Some d) (order_of (in_half t) h) r ∙ p.3,
+      p.4,
+      p.5,
+      p.6,
+      v,
+      p.8,
+    )
 
 pair-put : (gs : List Peer) (f : List ℕ) (s k : ℕ) (t : List ℕ) (d : SadEntry) (h : List Act) → PutInMayHappen d h ⊎ PutOutMayHappen f d h
     → bytes_eq d.name (out_half t) ≡ true → Pair t (acts.Order f s k (asks.Put d) ∷ h)
@@ -143,7 +161,7 @@ pair gs t (acts.Order f s k (asks.Put d) ∷ h) l q =
     (λ r.
     let p = pair gs t h l.1 r in
     pair-older f s k t d h (other gs (out_half t) f d h l.1 l.0.4 r)
-        (other gs (in_half t) f d h l.1 l.0.4 (order-ordered (in_half t) p.1 h p.3)) p) q
+    (other gs (in_half t) f d h l.1 l.0.4 (order-ordered (in_half t) p.1 h p.3)) p) q
 pair gs t (acts.Answered f s k a ∷ h) l q =
     let p = pair gs t h l.1 q in
     (p.0, p.1, p.2, p.3, p.4, p.5, p.6, p.7, pair-made t (is_put (in_half t) (order_at f s k h) && nat_lt a.status 400) h p.8)
@@ -221,7 +239,7 @@ keys-new : (f t u : List ℕ) (c d e : SadEntry) (h : List Act) → PutInMayHapp
     →
     (order_of (in_half t) h ≡ Some d → order_of (in_half u) h ≡ Some e → t ≡ u) →
     ((bytes_eq c.name (in_half t) ≡ true) × (c ≡ d)) ⊎ (order_of (in_half t) h ≡ Some d) → ((bytes_eq c.name (in_half u) ≡ true) × (c ≡ e))
-        ⊎ (order_of (in_half u) h ≡ Some e) → t ≡ u
+    ⊎ (order_of (in_half u) h ≡ Some e) → t ≡ u
 keys-new f t u c d e h m s ih (inl p) (inl q) = in-serial t u (sym (name-is c.name (in_half t) p.0) ∙ name-is c.name (in_half u) q.0)
 keys-new f t u c d e h m s ih (inl p) (inr q) =
     absurd (key-new f t (in_half u) c e h m (name-is c.name (in_half t) p.0) q (ap (λ (z : SadEntry). aes_part z.key) p.1 ∙ s))
@@ -234,6 +252,6 @@ pub keys-differ : (gs : List Peer) (t u : List ℕ) (d e : SadEntry) (h : List A
 keys-differ gs t u d e [] l p q s = absurd (grind arith)
 keys-differ gs t u d e (acts.Order f j k (asks.Put c) ∷ h) l p q s =
     keys-new f t u c d e h l.0.4 s (λ a b. keys-differ gs t u d e h l.1 a b s)
-        (if-cases (bytes_eq c.name (in_half t)) c d (order_of (in_half t) h) p)
-        (if-cases (bytes_eq c.name (in_half u)) c e (order_of (in_half u) h) q)
+    (if-cases (bytes_eq c.name (in_half t)) c d (order_of (in_half t) h) p)
+    (if-cases (bytes_eq c.name (in_half u)) c e (order_of (in_half u) h) q)
 keys-differ gs t u d e (a ∷ h) l p q s = keys-differ gs t u d e h l.1 p q s

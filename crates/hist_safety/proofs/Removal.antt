@@ -30,13 +30,17 @@ remove-is y x p = grind arith
 
 asked-new : (f y x : List ℕ) (t j : ℕ) (h : List Act) → y ≡ x → f ≡ site y h → Later t j y h
     → Asked f t j x (acts.Order f t j (asks.Remove y) ∷ h)
-asked-new f y x t j h p q b = (or_left (bytes_eq y x) (is_removal_ordered x h) (name-true y x p), q
-    ∙ ap (λ (z : List ℕ). site z h) p, subst (λ z. Later t j z h) p b)
+asked-new f y x t j h p q b = (
+  or_left (bytes_eq y x) (is_removal_ordered x h) (name-true y x p),
+  q
+      ∙ ap (λ (z : List ℕ). site z h) p,
+  subst (λ z. Later t j z h) p b,
+)
 
 asked-remove : (g f x y : List ℕ) (s k t j : ℕ) (h : List Act) → f ≡ site y h → Later t j y h
     → (order_at g s k h ≡ Some (asks.Remove x) → Asked g s k x h) →
     (here : Bool) → (here ≡ true → (f ≡ g) × (t ≡ s) × (j ≡ k)) → (if here then Some (asks.Remove y) else order_at g s k h) ≡ Some
-        (asks.Remove x) → Asked g s k x (acts.Order f t j (asks.Remove y) ∷ h)
+    (asks.Remove x) → Asked g s k x (acts.Order f t j (asks.Remove y) ∷ h)
 asked-remove g f x y s k t j h q b i true three e =
     let r = three refl in
     let one = asked-new f y x t j h (remove-is y x e) q b in
@@ -47,7 +51,7 @@ asked-put : (g f x : List ℕ) (s k t j : ℕ) (d : SadEntry) (h : List Act) →
     → Asked g s k x (acts.Order f t j (asks.Put d) ∷ h)
 asked-put g f x s k t j d h q i =
     let b : ((if bytes_eq d.name x then t else session_of x h) < s) ⊎ (((if bytes_eq d.name x then t else session_of x h) ≡ s)
-        × ((if bytes_eq d.name x then j else place_of x h) < k)) = rw q i.2 in
+    × ((if bytes_eq d.name x then j else place_of x h) < k)) = rw q i.2 in
     (i.0, rw q i.1, b)
 
 pub asked : (gs : List Peer) (g : List ℕ) (s k : ℕ) (x : List ℕ) (h : List Act) → IsLawful gs h → order_at g s k h ≡ Some (asks.Remove x)
@@ -60,12 +64,12 @@ asked gs g s k x (acts.Order f t j (asks.Policy p) ∷ h) l e =
     e)
 asked gs g s k x (acts.Order f t j (asks.Put d) ∷ h) l e =
     let i = asked gs g s k x h l.1 (order-old (is_session f t g s && (j == k)) (asks.Put d) (asks.Remove x) (order_at g s k h)
-        (λ q. grind arith) e) in
+    (λ q. grind arith) e) in
     asked-put g f x s k t j d h (other gs x f d h l.1 l.0.4 (doomed-ordered gs x h l.1 i.0)) i
 asked gs g s k x (acts.Order f t j (asks.Remove y) ∷ h) l e =
     let m = remove-at f y h l.0.4 in
     asked-remove g f x y s k t j h m.1 (later-new gs y f t j h l.1 m.0 m.1 l.0.2 l.0.3) (asked gs g s k x h l.1) (is_session f t g s
-        && (j == k)) (spot-is f t j g s k) e
+    && (j == k)) (spot-is f t j g s k) e
 asked gs g s k x (a ∷ h) l e = asked gs g s k x h l.1 e
 
 pub removal-is : (x : List ℕ) (o : Option Order) → is_removal x o ≡ true → o ≡ Some (asks.Remove x)
@@ -114,8 +118,8 @@ dead-put : (x f : List ℕ) (t j : ℕ) (d : SadEntry) (h : List Act) → bytes_
     → Dead x (acts.Order f t j (asks.Put d) ∷ h)
 dead-put x f t j d h q i =
     let n : session_taken (if bytes_eq d.name x then f else site x h) h ≡ (if bytes_eq d.name x then t else session_of x h)
-        → (if bytes_eq d.name x then j else place_of x h) ≤ handled (if bytes_eq d.name x then f else site x h) (if bytes_eq d.name x then t
-        else session_of x h) h = rw q i.1 in
+    → (if bytes_eq d.name x then j else place_of x h) ≤ handled (if bytes_eq d.name x then f else site x h) (if bytes_eq d.name x then t
+    else session_of x h) h = rw q i.1 in
     let e : is_live (if bytes_eq d.name x then f else site x h) x h ≡ false = rw q i.2 in
     (i.0, n, e)
 
@@ -126,9 +130,12 @@ off-dead gs x (acts.Handled f t j a ∷ h) l e =
     (λ q. dead-new gs f x t j a h l (removal-is x (order_at f t j h) q))
     (λ q. let i = off-dead gs x h l.1 q in (i.0, never-handled x f t j a h i.1, i.2)) e
 off-dead gs x (acts.Put f d ∷ h) l e =
-    let i = off-dead gs x h l.1 e in
-    (i.0, i.1, put-dead (is_half f d.name (site x h) x) (is_live (site x h) x h)
-        (λ q. never-put gs f x d h l.1 l.0.1 (half-is f d.name (site x h) x q).1 i.1) i.2)
+    let i = off-dead gs x h l.1 e in (
+      i.0,
+      i.1,
+      put-dead (is_half f d.name (site x h) x) (is_live (site x h) x h)
+          (λ q. never-put gs f x d h l.1 l.0.1 (half-is f d.name (site x h) x q).1 i.1) i.2,
+    )
 off-dead gs x (acts.Gone f y w ∷ h) l e = let i = off-dead gs x h l.1 e in
     (i.0, i.1, and_right (not (is_half f y (site x h) x)) (is_live (site x h) x h) i.2)
 off-dead gs x (acts.Boot f ∷ h) l e =
@@ -141,9 +148,12 @@ off-dead gs x (acts.Boot f ∷ h) l e =
     )
 off-dead gs x (acts.Opened f t ∷ h) l e =
     let i = off-dead gs x h l.1 e in
-    let s = sess-in gs x h l.1 (doomed-ordered gs x h l.1 i.0) in
-    (i.0, never-opened (bytes_eq f (site x h)) t (session_taken (site x h) h) (session_of x h) (place_of x h) (openings (site x h) h)
-        (handled (site x h) (session_of x h) h) (opened-at f (site x h) t h l.0.1) s.1 i.1, i.2)
+    let s = sess-in gs x h l.1 (doomed-ordered gs x h l.1 i.0) in (
+      i.0,
+      never-opened (bytes_eq f (site x h)) t (session_taken (site x h) h) (session_of x h) (place_of x h) (openings (site x h) h)
+          (handled (site x h) (session_of x h) h) (opened-at f (site x h) t h l.0.1) s.1 i.1,
+      i.2,
+    )
 off-dead gs x (acts.Order f t j (asks.Remove y) ∷ h) l e = let i = off-dead gs x h l.1 e in
     (or_right (bytes_eq y x) (is_removal_ordered x h) i.0, i.1, i.2)
 off-dead gs x (acts.Order f t j (asks.Put d) ∷ h) l e =
@@ -163,7 +173,7 @@ pub told-off : (gs : List Peer) (g : List ℕ) (s k : ℕ) (x : List ℕ) (r : A
 told-off gs g s k x r [] l e f = absurd (grind arith)
 told-off gs g s k x r (acts.Handled f t j q ∷ h) l e w =
     elim (if-cases (is_session f t g s && (j == k)) q r (answer_at g s k h) e) as
-        (λ z. (is_removal x (order_at f t j h) || is_removal_handled x h) ≡ true) [
+    (λ z. (is_removal x (order_at f t j h) || is_removal_handled x h) ≡ true) [
       | inl p ↦ told-new g f x s k t j h w (spot-is f t j g s k p.0)
       | inr p ↦ or_right (is_removal x (order_at f t j h)) (is_removal_handled x h) (told-off gs g s k x r h l.1 p w)
     ]
@@ -175,6 +185,6 @@ pub left-off : (gs : List Peer) (x : List ℕ) (h : List Act) → IsLawful gs h 
 left-off gs x [] l e = absurd (no e)
 left-off gs x (acts.Answered f t j r ∷ h) l e =
     or-split {A = is_removal_handled x h ≡ true} (is_removal x (order_at f t j h)) (is_removal_answered x h)
-        (λ q. told-off gs f t j x r h l.1 l.0.4 (removal-is x (order_at f t j h) q)) (left-off gs x h l.1) e
+    (λ q. told-off gs f t j x r h l.1 l.0.4 (removal-is x (order_at f t j h) q)) (left-off gs x h l.1) e
 left-off gs x (acts.Handled f t j r ∷ h) l e = or_right (is_removal x (order_at f t j h)) (is_removal_handled x h) (left-off gs x h l.1 e)
 left-off gs x (a ∷ h) l e = left-off gs x h l.1 e

@@ -35,7 +35,7 @@ old-cut : (f g : List ℕ) (t s : ℕ) (c : Bool) (h : List Act) → (c ≡ true
     → (is_session f t g s || c) ≡ true → s ≤ openings g h
 old-cut f g t s c h ih p e =
     or-split {A = s ≤ openings g h} (is_session f t g s) c (λ q. let r = session-is f t g s q in
-        let u : openings f h ≡ openings g h = rw r.0 refl in let v = r.1 in omega (arith, p, u, v)) ih e
+    let u : openings f h ≡ openings g h = rw r.0 refl in let v = r.1 in omega (arith, p, u, v)) ih e
 
 pub cut-old : (gs : List Peer) (g : List ℕ) (s : ℕ) (h : List Act) → IsLawful gs h → was_cut g s h ≡ true → s ≤ openings g h
 cut-old gs g s [] l e = absurd (no e)
@@ -93,7 +93,7 @@ answered-handled gs g s (acts.Handled f u j r ∷ h) l = more (is_session f u g 
 answered-handled gs g s (acts.Answered f u j r ∷ h) l =
     let q : answered f u h + 1 ≤ handled f u h = (let a = told-handled gs f u j r h l.1 l.0.4 in let b = l.0.3 in omega (arith, a, b)) in
     more-answered (is_session f u g s) (answered g s h) (handled g s h) (answered f u h) (handled f u h) (answered-handled gs g s h l.1)
-        (same-count answered f u g s h) (same-count handled f u g s h) q
+    (same-count answered f u g s h) (same-count handled f u g s h) q
 answered-handled gs g s (a ∷ h) l = answered-handled gs g s h l.1
 
 -- no more is handled than was ordered
@@ -127,9 +127,9 @@ pub handled-ordered : (gs : List Peer) (g : List ℕ) (s : ℕ) (h : List Act) �
 handled-ordered gs g s [] l = omega arith
 handled-ordered gs g s (acts.Handled f u j r ∷ h) l =
     let q : handled f u h + 1 ≤ orders f u h =
-        rw (sym l.0.1) (order-bound gs f u j l.0.2.0 h l.1 (next-at f u j l.0.2.0 h l.0.0 l.0.1 l.0.2.1)) in
+    rw (sym l.0.1) (order-bound gs f u j l.0.2.0 h l.1 (next-at f u j l.0.2.0 h l.0.0 l.0.1 l.0.2.1)) in
     more-answered (is_session f u g s) (handled g s h) (orders g s h) (handled f u h) (orders f u h) (handled-ordered gs g s h l.1)
-        (same-count handled f u g s h) (same-count orders f u g s h) q
+    (same-count handled f u g s h) (same-count orders f u g s h) q
 handled-ordered gs g s (acts.Order f u j a ∷ h) l = more (is_session f u g s) (handled g s h) (orders g s h) (handled-ordered gs g s h l.1)
 handled-ordered gs g s (a ∷ h) l = handled-ordered gs g s h l.1
 

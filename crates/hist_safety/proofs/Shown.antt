@@ -84,12 +84,22 @@ two_is = refl
 
 -- 2001:db8:1::/48 behind a, 2001:db8:2::/48 behind b
 abbrev behind_a : Prefix
-behind_a = record { addr = V6 (32 ∷ 1 ∷ 13 ∷ 184 ∷ 0 ∷ 1 ∷ 0 ∷ 0 ∷ 0 ∷ 0 ∷ 0 ∷ 0 ∷ 0 ∷ 0 ∷ 0 ∷ 0 ∷ []); len = 48; in_range = low; cleared =
-    refl }
+behind_a = record {
+  addr = V6 (32 ∷ 1 ∷ 13 ∷ 184 ∷ 0 ∷ 1 ∷ 0 ∷ 0 ∷ 0 ∷ 0 ∷ 0 ∷ 0 ∷ 0 ∷ 0 ∷ 0 ∷ 0 ∷ []);
+  len = 48;
+  in_range = low;
+  cleared =
+      refl;
+}
 
 abbrev behind_b : Prefix
-behind_b = record { addr = V6 (32 ∷ 1 ∷ 13 ∷ 184 ∷ 0 ∷ 2 ∷ 0 ∷ 0 ∷ 0 ∷ 0 ∷ 0 ∷ 0 ∷ 0 ∷ 0 ∷ 0 ∷ 0 ∷ []); len = 48; in_range = low; cleared =
-    refl }
+behind_b = record {
+  addr = V6 (32 ∷ 1 ∷ 13 ∷ 184 ∷ 0 ∷ 2 ∷ 0 ∷ 0 ∷ 0 ∷ 0 ∷ 0 ∷ 0 ∷ 0 ∷ 0 ∷ 0 ∷ 0 ∷ []);
+  len = 48;
+  in_range = low;
+  cleared =
+      refl;
+}
 
 abbrev any_4 : Prefix
 any_4 = record { addr = V4 (0 ∷ 0 ∷ 0 ∷ 0 ∷ []); len = 0; in_range = least; cleared = refl }
@@ -100,8 +110,15 @@ chosen = record { local = behind_a; remote = behind_b; proto = None; local_ports
 abbrev list : List SpdEntry
 list =
     record { name = codes "o1"; direction = Out; reqid = 10; action = Protect; selector = chosen; window = 64 }
-    ∷ record { name = codes "o2"; direction = Out; reqid = 0; action = Bypass; selector =
-        record { local = any_4; remote = any_4; proto = None; local_ports = []; remote_ports = [] }; window = 64 } ∷ []
+    ∷ record {
+      name = codes "o2";
+      direction = Out;
+      reqid = 0;
+      action = Bypass;
+      selector =
+          record { local = any_4; remote = any_4; proto = None; local_ports = []; remote_ports = [] };
+      window = 64;
+    } ∷ []
 
 abbrev none : Limits
 none = record { time = 0; bytes = 0; packets = 0; idle = 0 }
@@ -183,8 +200,15 @@ q_view : view_of q ≡ Ok (packet_4 q)
 unfolding view_of
 q_view = refl
 
-q_first : first_entry list Out (packet_4 q) ≡ Some (record { name = codes "o2"; direction = Out; reqid = 0; action = Bypass; selector =
-    record { local = any_4; remote = any_4; proto = None; local_ports = []; remote_ports = [] }; window = 64 })
+q_first : first_entry list Out (packet_4 q) ≡ Some (record {
+  name = codes "o2";
+  direction = Out;
+  reqid = 0;
+  action = Bypass;
+  selector =
+      record { local = any_4; remote = any_4; proto = None; local_ports = []; remote_ports = [] };
+  window = 64;
+})
 unfolding holds_packet
 q_first = refl
 
@@ -237,11 +261,11 @@ undelivered-none g o h found = λ x n r d. none-some d.half (sym found ∙ d.com
 
 undelivered-by : (g o : List ℕ) (half : SadEntry) (v : Verdict) (h : List Act) → by_spi (spi_of (esp_of o)) (live g h) ≡ Some half →
     verdict_over half.window (numbers_taken g half.name h) (number_of half (numbers_taken g half.name h) (esp_of o)) ≡ v → (v ≡ Fresh → ⊥)
-        → IsUndelivered gateways g o h
+    → IsUndelivered gateways g o h
 undelivered-by g o half v h found e n = λ x m r d.
     let same : d.half ≡ half = some-is d.half half (sym d.comes.found ∙ found) in
     n (sym e ∙ subst (λ z. verdict_over z.window (numbers_taken g z.name h) (number_of z (numbers_taken g z.name h) (esp_of o)) ≡ Fresh)
-        same d.comes.fresh)
+    same d.comes.fresh)
 
 sealed-head : (x o : List ℕ) (f : List ℕ) (n : ℕ) (h : List Act) → is_sealed x (esp_of o) (acts.Sent f x n o ∷ h) ≡ true
 sealed-head x o f n h = or_left (bytes_eq x x && bytes_eq (esp_of o) (esp_of o)) (is_sealed x (esp_of o) h)
@@ -253,11 +277,24 @@ bypass older e = record {
   let_before = refl;
   bypass = record {
     packet = packet_4 q;
-    entry = record { name = codes "o2"; direction = Out; reqid = 0; action = Bypass; selector =
-        record { local = any_4; remote = any_4; proto = None; local_ports = []; remote_ports = [] }; window = 64 };
+    entry = record {
+      name = codes "o2";
+      direction = Out;
+      reqid = 0;
+      action = Bypass;
+      selector =
+          record { local = any_4; remote = any_4; proto = None; local_ports = []; remote_ports = [] };
+      window = 64;
+    };
     view = q_view;
-    first = subst (λ z. first_entry z Out (packet_4 q) ≡ Some (record { name = codes "o2"; direction = Out; reqid = 0; action = Bypass;
-        selector = record { local = any_4; remote = any_4; proto = None; local_ports = []; remote_ports = [] }; window = 64 })) (sym e)
+    first = subst (λ z. first_entry z Out (packet_4 q) ≡ Some (record {
+      name = codes "o2";
+      direction = Out;
+      reqid = 0;
+      action = Bypass;
+      selector = record { local = any_4; remote = any_4; proto = None; local_ports = []; remote_ports = [] };
+      window = 64;
+    })) (sym e)
         q_first;
     action = refl;
   };
@@ -266,66 +303,139 @@ bypass older e = record {
 abbrev h1 : List Act
 h1 =
     acts.Handled (codes "a") 1 1 (record { status = 200; tag = None; names = [] }) ∷ acts.Took 3 ∷ acts.Order (codes "b") 1 1 (asks.Read)
-        ∷ acts.Opened (codes "b") 1 ∷ acts.Took 2 ∷ acts.Order (codes "a") 1 1 (asks.Read) ∷ acts.Opened (codes "a") 1 ∷ acts.Took 1 ∷ []
+    ∷ acts.Opened (codes "b") 1 ∷ acts.Took 2 ∷ acts.Order (codes "a") 1 1 (asks.Read) ∷ acts.Opened (codes "a") 1 ∷ acts.Took 1 ∷ []
 
 lawful1 : IsLawful gateways h1
-lawful1 = ((refl, refl, (asks.Read, refl, (refl, tt))),
-    (refl, ((refl, refl, refl, refl, tt), ((refl, refl), (refl, ((refl, refl, refl, refl, tt), ((refl, refl), (refl, tt))))))))
+lawful1 = (
+  (refl, refl, (asks.Read, refl, (refl, tt))),
+  (refl, ((refl, refl, refl, refl, tt), ((refl, refl), (refl, ((refl, refl, refl, refl, tt), ((refl, refl), (refl, tt))))))),
+)
 
 abbrev h2 : List Act
 h2 =
     acts.Order (codes "b") 1 2 (asks.Put in1) ∷ acts.Answered (codes "b") 1 1 (record { status = 200; tag = None; names = [] })
-        ∷ acts.Took 6 ∷ acts.Handled (codes "b") 1 1 (record { status = 200; tag = None; names = [] }) ∷ acts.Took 5
-        ∷ acts.Order (codes "a") 1 2 (asks.Policy list) ∷ acts.Answered (codes "a") 1 1 (record { status = 200; tag = None; names = [] })
-        ∷ acts.Took 4 ∷ h1
+    ∷ acts.Took 6 ∷ acts.Handled (codes "b") 1 1 (record { status = 200; tag = None; names = [] }) ∷ acts.Took 5
+    ∷ acts.Order (codes "a") 1 2 (asks.Policy list) ∷ acts.Answered (codes "a") 1 1 (record { status = 200; tag = None; names = [] })
+    ∷ acts.Took 4 ∷ h1
 
 lawful2 : IsLawful gateways h2
-lawful2 = ((refl, refl, refl, refl, inl (record { name = one_is; few = few1; spi = refl; key = refl; ends = (refl, refl) })),
-    ((refl, refl, refl, refl, refl),
-    (refl, ((refl, refl, (asks.Read, refl, (refl, tt))),
-    (refl, ((refl, refl, refl, refl, tt), ((refl, refl, refl, refl, refl), (refl, lawful1))))))))
+lawful2 = (
+  (refl, refl, refl, refl, inl (record { name = one_is; few = few1; spi = refl; key = refl; ends = (refl, refl) })),
+  (
+    (refl, refl, refl, refl, refl),
+    (
+      refl,
+      (
+        (refl, refl, (asks.Read, refl, (refl, tt))),
+        (refl, ((refl, refl, refl, refl, tt), ((refl, refl, refl, refl, refl), (refl, lawful1)))),
+      ),
+    ),
+  ),
+)
 
 abbrev h3 : List Act
 h3 =
     acts.Drop (codes "a") why.NoSa ∷ acts.Let (codes "a") p ∷ acts.Took 9
-        ∷ acts.Answered (codes "a") 1 2 (record { status = 204; tag = None; names = [] }) ∷ acts.Took 8
-        ∷ acts.Handled (codes "a") 1 2 (record { status = 204; tag = None; names = [] }) ∷ acts.Policy (codes "a") list ∷ acts.Took 7 ∷ h2
+    ∷ acts.Answered (codes "a") 1 2 (record { status = 204; tag = None; names = [] }) ∷ acts.Took 8
+    ∷ acts.Handled (codes "a") 1 2 (record { status = 204; tag = None; names = [] }) ∷ acts.Policy (codes "a") list ∷ acts.Took 7 ∷ h2
 
 lawful3 : IsLawful gateways h3
-lawful3 = (refl, (refl,
-    (refl, ((refl, refl, refl, refl, refl), (refl, ((refl, refl, (asks.Policy list, refl, refl)), ((refl, refl), (refl, lawful2))))))))
+lawful3 = (
+  refl,
+  (
+    refl,
+    (refl, ((refl, refl, refl, refl, refl), (refl, ((refl, refl, (asks.Policy list, refl, refl)), ((refl, refl), (refl, lawful2)))))),
+  ),
+)
 
 abbrev h4 : List Act
 h4 =
     acts.Took 12 ∷ acts.Handled (codes "b") 1 2 (record { status = 201; tag = None; names = [] }) ∷ acts.Put (codes "b") in1 ∷ acts.Took 11
-        ∷ acts.Clear (codes "a") q ∷ acts.Let (codes "a") q ∷ acts.Took 10 ∷ acts.Notice (codes "a") 1 (notices.Acquire (codes "o1") chosen)
-        ∷ h3
+    ∷ acts.Clear (codes "a") q ∷ acts.Let (codes "a") q ∷ acts.Took 10 ∷ acts.Notice (codes "a") 1 (notices.Acquire (codes "o1") chosen)
+    ∷ h3
 
 lawful4 : IsLawful gateways h4
-lawful4 = (refl, ((refl, refl, (asks.Put in1, refl, (refl, refl))),
-    ((refl, refl), (refl, (bypass (acts.Took 10 ∷ acts.Notice (codes "a") 1 (notices.Acquire (codes "o1") chosen) ∷ h3) refl,
-    (refl, (refl, (refl, lawful3))))))))
+lawful4 = (
+  refl,
+  (
+    (refl, refl, (asks.Put in1, refl, (refl, refl))),
+    (
+      (refl, refl),
+      (
+        refl,
+        (
+          bypass (acts.Took 10 ∷ acts.Notice (codes "a") 1 (notices.Acquire (codes "o1") chosen) ∷ h3) refl,
+          (refl, (refl, (refl, lawful3))),
+        ),
+      ),
+    ),
+  ),
+)
 
 abbrev h5 : List Act
 h5 =
     acts.Answered (codes "a") 1 3 (record { status = 201; tag = None; names = [] }) ∷ acts.Took 14
-        ∷ acts.Handled (codes "a") 1 3 (record { status = 201; tag = None; names = [] }) ∷ acts.Put (codes "a") out1 ∷ acts.Took 13
-        ∷ acts.Order (codes "a") 1 3 (asks.Put out1) ∷ acts.Answered (codes "b") 1 2 (record { status = 201; tag = None; names = [] }) ∷ h4
+    ∷ acts.Handled (codes "a") 1 3 (record { status = 201; tag = None; names = [] }) ∷ acts.Put (codes "a") out1 ∷ acts.Took 13
+    ∷ acts.Order (codes "a") 1 3 (asks.Put out1) ∷ acts.Answered (codes "b") 1 2 (record { status = 201; tag = None; names = [] }) ∷ h4
 
 lawful5 : IsLawful gateways h5
-lawful5 = ((refl, refl, refl, refl, refl),
-    (refl, ((refl, refl, (asks.Put out1, refl, (refl, refl))),
-    ((refl, refl), (refl,
-    ((refl, refl, refl, refl, inr (record { serial = codes "1"; name = refl; once = refl; inbound = in1; order = refl; key = refl; spi =
-    refl; selector = refl; local = refl; remote = refl; elsewhere = refl; made = refl; stays = refl })),
-    ((refl, refl, refl, refl, refl), lawful4)))))))
+lawful5 = (
+  (refl, refl, refl, refl, refl),
+  (
+    refl,
+    (
+      (refl, refl, (asks.Put out1, refl, (refl, refl))),
+      (
+        (refl, refl),
+        (
+          refl,
+          (
+            (
+              refl,
+              refl,
+              refl,
+              refl,
+              inr (record {
+                serial = codes "1";
+                name = refl;
+                once = refl;
+                inbound = in1;
+                order = refl;
+                key = refl;
+                spi =
+                    refl;
+                selector = refl;
+                local = refl;
+                remote = refl;
+                elsewhere = refl;
+                made = refl;
+                stays = refl;
+              }),
+            ),
+            ((refl, refl, refl, refl, refl), lawful4),
+          ),
+        ),
+      ),
+    ),
+  ),
+)
 
 abbrev sent_past : List Act
 sent_past = acts.Took 15 ∷ h5
 
 sends1 : Sends (codes "a") (codes "out/1") 1 p datagram1 sent_past
-sends1 = record { half = out1; put = refl; live = refl; outbound = refl; packet = p_packet; view = p_view; holds = p_leaves; number = refl;
-    small = omega arith; sealed = datagram_esp out1 }
+sends1 = record {
+  half = out1;
+  put = refl;
+  live = refl;
+  outbound = refl;
+  packet = p_packet;
+  view = p_view;
+  holds = p_leaves;
+  number = refl;
+  small = omega arith;
+  sealed = datagram_esp out1;
+}
 
 abbrev arrived_past : List Act
 arrived_past = acts.Took 16 ∷ acts.Sent (codes "a") (codes "out/1") 1 datagram1 ∷ acts.Let (codes "a") p ∷ acts.Took 15 ∷ h5
@@ -340,8 +450,15 @@ genuine1 = genuine-by (codes "b") datagram1 in1 arrived_past found1 (sealed-head
 delivers1 : Delivers gateways (codes "b") datagram1 (codes "in/1") 1 p arrived_past
 delivers1 = record {
   half = in1;
-  comes = record { packet = outer_view outer (sealed_in out1); view = datagram_view out1; proto = refl; own = refl; found = found1; fresh =
-      ap (verdict_over 64 []) (datagram_number in1 out1 0) };
+  comes = record {
+    packet = outer_view outer (sealed_in out1);
+    view = datagram_view out1;
+    proto = refl;
+    own = refl;
+    found = found1;
+    fresh =
+        ap (verdict_over 64 []) (datagram_number in1 out1 0);
+  };
   name = refl;
   number = sym (datagram_number in1 out1 0);
   text = padded (pad_len (length p)) 41 p;
@@ -370,82 +487,173 @@ undelivered_again = undelivered-by (codes "b") datagram1 in1 Seen again_past fou
 abbrev h6 : List Act
 h6 =
     acts.Drop (codes "b") why.Seen ∷ acts.Arrived (codes "b") datagram1 ∷ acts.Took 17 ∷ acts.Gave (codes "b") (codes "in/1") 1 p
-        ∷ acts.Arrived (codes "b") datagram1 ∷ acts.Took 16 ∷ acts.Sent (codes "a") (codes "out/1") 1 datagram1 ∷ acts.Let (codes "a") p
-        ∷ acts.Took 15 ∷ h5
+    ∷ acts.Arrived (codes "b") datagram1 ∷ acts.Took 16 ∷ acts.Sent (codes "a") (codes "out/1") 1 datagram1 ∷ acts.Let (codes "a") p
+    ∷ acts.Took 15 ∷ h5
 
 lawful6 : IsLawful gateways h6
-lawful6 = ((refl, genuine_again, undelivered_again, λ e. absurd (no e)),
-    (refl, (refl, ((refl, genuine1, delivers1), (refl, (refl, ((refl, sends1), (refl, (refl, lawful5)))))))))
+lawful6 = (
+  (refl, genuine_again, undelivered_again, λ e. absurd (no e)),
+  (refl, (refl, ((refl, genuine1, delivers1), (refl, (refl, ((refl, sends1), (refl, (refl, lawful5)))))))),
+)
 
 abbrev h7 : List Act
 h7 =
     acts.Took 20 ∷ acts.Order (codes "a") 1 4 (asks.Put out2)
-        ∷ acts.Answered (codes "b") 1 3 (record { status = 201; tag = None; names = [] }) ∷ acts.Took 19
-        ∷ acts.Handled (codes "b") 1 3 (record { status = 201; tag = None; names = [] }) ∷ acts.Put (codes "b") in2 ∷ acts.Took 18
-        ∷ acts.Order (codes "b") 1 3 (asks.Put in2) ∷ h6
+    ∷ acts.Answered (codes "b") 1 3 (record { status = 201; tag = None; names = [] }) ∷ acts.Took 19
+    ∷ acts.Handled (codes "b") 1 3 (record { status = 201; tag = None; names = [] }) ∷ acts.Put (codes "b") in2 ∷ acts.Took 18
+    ∷ acts.Order (codes "b") 1 3 (asks.Put in2) ∷ h6
 
 lawful7 : IsLawful gateways h7
-lawful7 = (refl, ((refl, refl, refl, refl, inr (record { serial = codes "2"; name = refl; once = refl; inbound = in2; order = refl; key =
-    refl; spi = refl; selector = refl; local = refl; remote = refl; elsewhere = refl; made = refl; stays = refl })),
-    ((refl, refl, refl, refl, refl),
-    (refl, ((refl, refl, (asks.Put in2, refl, (refl, refl))),
-    ((refl, refl), (refl,
-    ((refl, refl, refl, refl, inl (record { name = two_is; few = few2; spi = refl; key = refl; ends = (refl, refl) })), lawful6))))))))
+lawful7 = (
+  refl,
+  (
+    (
+      refl,
+      refl,
+      refl,
+      refl,
+      inr (record {
+        serial = codes "2";
+        name = refl;
+        once = refl;
+        inbound = in2;
+        order = refl;
+        key =
+            refl;
+        spi = refl;
+        selector = refl;
+        local = refl;
+        remote = refl;
+        elsewhere = refl;
+        made = refl;
+        stays = refl;
+      }),
+    ),
+    (
+      (refl, refl, refl, refl, refl),
+      (
+        refl,
+        (
+          (refl, refl, (asks.Put in2, refl, (refl, refl))),
+          (
+            (refl, refl),
+            (
+              refl,
+              ((refl, refl, refl, refl, inl (record { name = two_is; few = few2; spi = refl; key = refl; ends = (refl, refl) })), lawful6),
+            ),
+          ),
+        ),
+      ),
+    ),
+  ),
+)
 
 abbrev h8 : List Act
 h8 =
     acts.Took 23 ∷ acts.Cut (codes "a") 1 ∷ acts.Took 22 ∷ acts.Order (codes "a") 1 5 (asks.Remove (codes "out/1"))
-        ∷ acts.Answered (codes "a") 1 4 (record { status = 201; tag = None; names = [] }) ∷ acts.Took 21
-        ∷ acts.Handled (codes "a") 1 4 (record { status = 201; tag = None; names = [] }) ∷ acts.Put (codes "a") out2 ∷ h7
+    ∷ acts.Answered (codes "a") 1 4 (record { status = 201; tag = None; names = [] }) ∷ acts.Took 21
+    ∷ acts.Handled (codes "a") 1 4 (record { status = 201; tag = None; names = [] }) ∷ acts.Put (codes "a") out2 ∷ h7
 
 lawful8 : IsLawful gateways h8
-lawful8 = (refl, ((refl, refl, refl),
-    (refl, ((refl, refl, refl, refl, inr (record { serial = codes "1"; name = refl; order = refl; here = refl })),
-    ((refl, refl, refl, refl, refl), (refl, ((refl, refl, (asks.Put out2, refl, (refl, refl))), ((refl, refl), lawful7))))))))
+lawful8 = (
+  refl,
+  (
+    (refl, refl, refl),
+    (
+      refl,
+      (
+        (refl, refl, refl, refl, inr (record { serial = codes "1"; name = refl; order = refl; here = refl })),
+        ((refl, refl, refl, refl, refl), (refl, ((refl, refl, (asks.Put out2, refl, (refl, refl))), ((refl, refl), lawful7)))),
+      ),
+    ),
+  ),
+)
 
 abbrev h9 : List Act
 h9 =
     acts.Took 26 ∷ acts.Handled (codes "a") 2 1 (record { status = 200; tag = None; names = codes "out/2" ∷ [] }) ∷ acts.Took 25
-        ∷ acts.Order (codes "a") 2 1 (asks.Read) ∷ acts.Opened (codes "a") 2 ∷ acts.Took 24
-        ∷ acts.Handled (codes "a") 1 5 (record { status = 204; tag = None; names = [] })
-        ∷ acts.Gone (codes "a") (codes "out/1") gone.Removed ∷ h8
+    ∷ acts.Order (codes "a") 2 1 (asks.Read) ∷ acts.Opened (codes "a") 2 ∷ acts.Took 24
+    ∷ acts.Handled (codes "a") 1 5 (record { status = 204; tag = None; names = [] })
+    ∷ acts.Gone (codes "a") (codes "out/1") gone.Removed ∷ h8
 
 lawful9 : IsLawful gateways h9
-lawful9 = (refl, ((refl, refl, (asks.Read, refl, (refl, tt))),
-    (refl, ((refl, refl, refl, refl, tt),
-    ((refl, refl), (refl, ((refl, refl, (asks.Remove (codes "out/1"), refl, (refl, refl))), ((refl, refl), lawful8))))))))
+lawful9 = (
+  refl,
+  (
+    (refl, refl, (asks.Read, refl, (refl, tt))),
+    (
+      refl,
+      (
+        (refl, refl, refl, refl, tt),
+        ((refl, refl), (refl, ((refl, refl, (asks.Remove (codes "out/1"), refl, (refl, refl))), ((refl, refl), lawful8)))),
+      ),
+    ),
+  ),
+)
 
 abbrev h10 : List Act
 h10 =
     acts.Took 29 ∷ acts.Order (codes "b") 1 4 (asks.Remove (codes "in/1"))
-        ∷ acts.Answered (codes "a") 2 2 (record { status = 404; tag = None; names = [] }) ∷ acts.Took 28
-        ∷ acts.Handled (codes "a") 2 2 (record { status = 404; tag = None; names = [] }) ∷ acts.Took 27
-        ∷ acts.Order (codes "a") 2 2 (asks.Remove (codes "out/1"))
-        ∷ acts.Answered (codes "a") 2 1 (record { status = 200; tag = None; names = codes "out/2" ∷ [] }) ∷ h9
+    ∷ acts.Answered (codes "a") 2 2 (record { status = 404; tag = None; names = [] }) ∷ acts.Took 28
+    ∷ acts.Handled (codes "a") 2 2 (record { status = 404; tag = None; names = [] }) ∷ acts.Took 27
+    ∷ acts.Order (codes "a") 2 2 (asks.Remove (codes "out/1"))
+    ∷ acts.Answered (codes "a") 2 1 (record { status = 200; tag = None; names = codes "out/2" ∷ [] }) ∷ h9
 
 lawful10 : IsLawful gateways h10
-lawful10 = (refl, ((refl, refl, refl, refl, inl (record { serial = codes "1"; name = refl; order = refl; here = refl; last = inr refl })),
-    ((refl, refl, refl, refl, refl),
-    (refl, ((refl, refl, (asks.Remove (codes "out/1"), refl, (refl, refl))),
-    (refl, ((refl, refl, refl, refl, inr (record { serial = codes "1"; name = refl; order = refl; here = refl })),
-    ((refl, refl, refl, refl, refl), lawful9))))))))
+lawful10 = (
+  refl,
+  (
+    (refl, refl, refl, refl, inl (record { serial = codes "1"; name = refl; order = refl; here = refl; last = inr refl })),
+    (
+      (refl, refl, refl, refl, refl),
+      (
+        refl,
+        (
+          (refl, refl, (asks.Remove (codes "out/1"), refl, (refl, refl))),
+          (
+            refl,
+            (
+              (refl, refl, refl, refl, inr (record { serial = codes "1"; name = refl; order = refl; here = refl })),
+              ((refl, refl, refl, refl, refl), lawful9),
+            ),
+          ),
+        ),
+      ),
+    ),
+  ),
+)
 
 abbrev h11 : List Act
 h11 =
     acts.Boot (codes "b") ∷ acts.Took 31 ∷ acts.Answered (codes "b") 1 4 (record { status = 204; tag = None; names = [] }) ∷ acts.Took 30
-        ∷ acts.Handled (codes "b") 1 4 (record { status = 204; tag = None; names = [] }) ∷ acts.Gone (codes "b") (codes "in/1") gone.Removed
-        ∷ h10
+    ∷ acts.Handled (codes "b") 1 4 (record { status = 204; tag = None; names = [] }) ∷ acts.Gone (codes "b") (codes "in/1") gone.Removed
+    ∷ h10
 
 lawful11 : IsLawful gateways h11
-lawful11 = (refl, (refl,
-    ((refl, refl, refl, refl, refl), (refl, ((refl, refl, (asks.Remove (codes "in/1"), refl, (refl, refl))), ((refl, refl), lawful10))))))
+lawful11 = (
+  refl,
+  (
+    refl,
+    ((refl, refl, refl, refl, refl), (refl, ((refl, refl, (asks.Remove (codes "in/1"), refl, (refl, refl))), ((refl, refl), lawful10)))),
+  ),
+)
 
 abbrev sent_past2 : List Act
 sent_past2 = acts.Took 32 ∷ h11
 
 sends2 : Sends (codes "a") (codes "out/2") 1 p datagram2 sent_past2
-sends2 = record { half = out2; put = refl; live = refl; outbound = refl; packet = p_packet; view = p_view; holds = p_leaves; number = refl;
-    small = omega arith; sealed = datagram_esp out2 }
+sends2 = record {
+  half = out2;
+  put = refl;
+  live = refl;
+  outbound = refl;
+  packet = p_packet;
+  view = p_view;
+  holds = p_leaves;
+  number = refl;
+  small = omega arith;
+  sealed = datagram_esp out2;
+}
 
 abbrev lost_past : List Act
 lost_past = acts.Took 33 ∷ acts.Sent (codes "a") (codes "out/2") 1 datagram2 ∷ acts.Let (codes "a") p ∷ acts.Took 32 ∷ h11
@@ -462,7 +670,7 @@ undelivered2 = undelivered-none (codes "b") datagram2 lost_past found2
 abbrev h12 : List Act
 h12 =
     acts.Drop (codes "b") why.BadSpi ∷ acts.Arrived (codes "b") datagram2 ∷ acts.Took 33 ∷ acts.Sent (codes "a") (codes "out/2") 1 datagram2
-        ∷ acts.Let (codes "a") p ∷ acts.Took 32 ∷ h11
+    ∷ acts.Let (codes "a") p ∷ acts.Took 32 ∷ h11
 
 lawful12 : IsLawful gateways h12
 lawful12 = ((refl, genuine2, undelivered2, λ e. absurd (no e)), (refl, (refl, ((refl, sends2), (refl, (refl, lawful11))))))
@@ -502,8 +710,15 @@ unsafe-dropped s = no (sym (ap is_drop (s.4 (codes "1") p in1 must1)))
 unsafe-unanswered : IsLastSafe gateways (acts.Arrived (codes "b") datagram1 ∷ arrived_past) → ⊥
 unsafe-unanswered f = f (codes "1") p in1 must1
 
-p_first : first_entry list Out p_packet ≡ Some (record { name = codes "o1"; direction = Out; reqid = 10; action = Protect; selector =
-    chosen; window = 64 })
+p_first : first_entry list Out p_packet ≡ Some (record {
+  name = codes "o1";
+  direction = Out;
+  reqid = 10;
+  action = Protect;
+  selector =
+      chosen;
+  window = 64;
+})
 unfolding holds_packet
 p_first = refl
 
@@ -520,7 +735,7 @@ unsafe-clear s =
     let v : p_packet ≡ b.packet = ok-is p_packet b.packet (sym p_view ∙ b.view) in
     let f : first_entry list Out p_packet ≡ Some b.entry = subst (λ z. first_entry list Out z ≡ Some b.entry) (sym v) b.first in
     let e : record { name = codes "o1"; direction = Out; reqid = 10; action = Protect; selector = chosen; window = 64 } ≡ b.entry =
-        some-is _ b.entry (sym p_first ∙ f) in
+    some-is _ b.entry (sym p_first ∙ f) in
     protect-bypass (ap (λ (z : SpdEntry). z.action) e ∙ b.action)
 
 -- one AES key and one IV seal twice
@@ -528,7 +743,7 @@ unsafe-twice : Safe gateways (acts.Sent (codes "a") (codes "out/1") 1 datagram1 
 unsafe-twice s =
     let n = name-self (iv_of (esp_of datagram1)) in
     let e : was_sealed (aes_in (put_of (codes "a") (codes "out/1") arrived_past)) (iv_of (esp_of datagram1)) arrived_past ≡ true =
-        rw n refl in
+    rw n refl in
     no (sym s.1 ∙ e)
 
 -- a packet is given that nobody sent, and one datagram is given twice

@@ -63,7 +63,7 @@ found gs g x spi e h l p q =
 paired : (gs : List Peer) (t : List ℕ) (o i : SadEntry) (h : List Act) → IsLawful gs h → order_of (out_half t) h ≡ Some o
     → order_of (in_half t) h ≡ Some i →
     (keying_of o ≡ keying_of i) × (o.spi ≡ i.spi) × (i.selector ≡ mirrored o.selector)
-        × (bytes_eq (site (in_half t) h) (site (out_half t) h) ≡ false)
+    × (bytes_eq (site (in_half t) h) (site (out_half t) h) ≡ false)
 paired gs t o i h l p q =
     let w = pair gs t h l (order-ordered (out_half t) o h p) in
     let a : w.0 ≡ o = some-is w.0 o (sym w.2 ∙ p) in
@@ -71,7 +71,7 @@ paired gs t o i h l p q =
     let k : o.key ≡ i.key = ap (λ (z : SadEntry). z.key) (sym a) ∙ w.4 ∙ ap (λ (z : SadEntry). z.key) b in
     let s : o.spi ≡ i.spi = ap (λ (z : SadEntry). z.spi) (sym a) ∙ w.5 ∙ ap (λ (z : SadEntry). z.spi) b in
     let m : i.selector ≡ mirrored o.selector = ap (λ (z : SadEntry). z.selector) (sym b) ∙ w.6
-        ∙ ap (λ (z : SadEntry). mirrored z.selector) a in
+    ∙ ap (λ (z : SadEntry). mirrored z.selector) a in
     (keying-same o i k s, s, m, w.7)
 
 gave-by : (gs : List Peer) (g o x : List ℕ) (n : ℕ) (p : List ℕ) (h : List Act) → IsLawful gs h → IsGenuine gs g o h
@@ -86,16 +86,18 @@ gave-by gs g o x n p h l genuine d t e order here =
     let w = paired gs t c.0 d.half h l c.2 i in
     let sealed : esp_of o ≡ esp (keying_of d.half) s.1 (next_header s.2) s.2 = c.6 ∙ ap (λ k. esp k s.1 (next_header s.2) s.2) w.0 in
     let number : n ≡ s.1 = d.number ∙ number-field d.half (greatest (numbers_taken g x h)) (esp_of o) ∙ ap (λ (y : List ℕ). seq_of y) sealed
-        ∙ esp-seq (keying_of d.half) s.1 (next_header s.2) s.2 c.5 in
+    ∙ esp-seq (keying_of d.half) s.1 (next_header s.2) s.2 c.5 in
     let packet : p ≡ s.2 = one-packet (keying_of d.half) s.1 (next_header s.2) (next_header p) s.2 p (esp_of o) d.text sealed d.opens
-        d.inner in
+    d.inner in
     let site_in : site (in_half t) h ≡ g = subst (λ y. site y h ≡ g) e here in
     let apart : bytes_eq (site (out_half t) h) g ≡ false =
-        name-not (site (out_half t) h) g (λ r. no (sym w.3 ∙ name-true (site (in_half t) h) (site (out_half t) h) (site_in ∙ sym r))) in
+    name-not (site (out_half t) h) g (λ r. no (sym w.3 ∙ name-true (site (in_half t) h) (site (out_half t) h) (site_in ∙ sym r))) in
     let was : was_sent (site (out_half t) h) (out_half t) s.1 (esp_of o) s.2 h ≡ true =
-        subst (λ y. was_sent y (out_half t) s.1 (esp_of o) s.2 h ≡ true) (sym c.3) s.3 in
-    (apart, subst (λ y. was_sent (site (out_half t) h) (out_half t) y (esp_of o) p h ≡ true) (sym number)
-        (subst (λ y. was_sent (site (out_half t) h) (out_half t) s.1 (esp_of o) y h ≡ true) (sym packet) was))
+    subst (λ y. was_sent y (out_half t) s.1 (esp_of o) s.2 h ≡ true) (sym c.3) s.3 in (
+      apart,
+      subst (λ y. was_sent (site (out_half t) h) (out_half t) y (esp_of o) p h ≡ true) (sym number)
+          (subst (λ y. was_sent (site (out_half t) h) (out_half t) s.1 (esp_of o) y h ≡ true) (sym packet) was),
+    )
 
 not-given : (gs : List Peer) (g x : List ℕ) (n size : ℕ) (h : List Act) → IsLawful gs h → site x h ≡ g
     → verdict_over size (numbers_taken g x h) n ≡ Fresh → was_given x n h ≡ false
@@ -110,8 +112,8 @@ fresh-of : (gs : List Peer) (g o x : List ℕ) (n : ℕ) (p : List ℕ) (h : Lis
     → verdict_over d.half.window (numbers_taken g x h) n ≡ Fresh
 fresh-of gs g o x n p h d =
     let a : verdict_over d.half.window (numbers_taken g x h) (number_of d.half (numbers_taken g x h) (esp_of o)) ≡ Fresh =
-        subst (λ z. verdict_over d.half.window (numbers_taken g z h) (number_of d.half (numbers_taken g z h) (esp_of o)) ≡ Fresh) d.name
-        d.comes.fresh in
+    subst (λ z. verdict_over d.half.window (numbers_taken g z h) (number_of d.half (numbers_taken g z h) (esp_of o)) ≡ Fresh) d.name
+    d.comes.fresh in
     ap (verdict_over d.half.window (numbers_taken g x h)) d.number ∙ a
 
 gave-now : (gs : List Peer) (g o x : List ℕ) (n : ℕ) (p : List ℕ) (h : List Act) → IsLawful gs h → IsGenuine gs g o h
@@ -157,15 +159,15 @@ holds-in : (s : Selector) (v : Packet) → holds_packet s Out v ≡ true → hol
 unfolding holds_packet
 holds-in s v e =
     let z = swap (lies_in v.src s.local) (lies_in v.dst s.remote) (proto_fits s.proto v.proto)
-        (port_fits s.local_ports (local_port Out v.ports)) (port_fits s.remote_ports (remote_port Out v.ports)) e in
+    (port_fits s.local_ports (local_port Out v.ports)) (port_fits s.remote_ports (remote_port Out v.ports)) e in
     subst (λ k. (lies_in v.dst s.remote
-        && (lies_in v.src s.local
-        && (proto_fits s.proto v.proto && (port_fits s.remote_ports (local_port In v.ports) && port_fits s.local_ports k)))) ≡ true)
-        (ports-out v.ports)
+    && (lies_in v.src s.local
+    && (proto_fits s.proto v.proto && (port_fits s.remote_ports (local_port In v.ports) && port_fits s.local_ports k)))) ≡ true)
+    (ports-out v.ports)
     (subst (λ k. (lies_in v.dst s.remote
-        && (lies_in v.src s.local
-        && (proto_fits s.proto v.proto && (port_fits s.remote_ports k && port_fits s.local_ports (local_port Out v.ports))))) ≡ true)
-        (ports-in v.ports) z)
+    && (lies_in v.src s.local
+    && (proto_fits s.proto v.proto && (port_fits s.remote_ports k && port_fits s.local_ports (local_port Out v.ports))))) ≡ true)
+    (ports-in v.ports) z)
 
 still-live : (v p d : Bool) → p ≡ false → d ≡ false → Stands v p d → v ≡ true
 still-live v p d e f (inl q) = q
@@ -180,7 +182,7 @@ comes : (gs : List Peer) (g o t p : List ℕ) (half : SadEntry) (h : List Act) �
     → half.name ≡ in_half t → spi_of (esp_of o) ≡ half.spi → ComesTo gs g o half h
 comes gs g o t p half h l m name spi =
     let v = still-live (is_live g (in_half t) h) (is_lapsed g (in_half t) h) (is_removal_ordered (in_half t) h) m.whole m.stays
-        (stays gs g (in_half t) h l (put-was g (in_half t) half h m.put)) in
+    (stays gs g (in_half t) h l (put-was g (in_half t) half h m.put)) in
     record {
       packet = m.packet;
       view = m.view;
@@ -201,9 +203,9 @@ delivered gs g o t p half h l m =
     let n = numbered gs t half h l i.3 in
     let low : (keying_of half).spi < 2 ^ 32 = subst (λ (z : ℕ). z < 2 ^ 32) (sym (keying-spi half)) (small-spi t half n) in
     let spi : spi_of (esp_of o) ≡ half.spi = ap (λ (z : List ℕ). spi_of z) sealed ∙ esp-spi (keying_of half) m.number (next_header p) p low
-        ∙ keying-spi half in
+    ∙ keying-spi half in
     let fits : holds_packet half.selector In c.1 ≡ true = subst (λ z. holds_packet z In c.1 ≡ true) (sym w.2)
-        (holds-in c.0.selector c.1 c.8) in
+    (holds-in c.0.selector c.1 c.8) in
     record {
       half = half;
       comes = comes gs g o t p half h l m i.0 spi;
@@ -234,9 +236,9 @@ delivers-once gs g o x y m n p q h a b =
     let s = same-found gs g o a.half b.half h a.comes b.comes in
     let e : x ≡ y = sym a.name ∙ ap (λ (z : SadEntry). z.name) s ∙ b.name in
     let k : m ≡ n = a.number ∙ ap (λ (z : List ℕ). number_of a.half (numbers_taken g z h) (esp_of o)) e
-        ∙ ap (λ (z : SadEntry). number_of z (numbers_taken g y h) (esp_of o)) s ∙ sym b.number in
+    ∙ ap (λ (z : SadEntry). number_of z (numbers_taken g y h) (esp_of o)) s ∙ sym b.number in
     let r : p ≡ q = same-packet a.half b.half (esp_of o) a.text b.text p q (next_header p) (next_header q) s a.opens b.opens a.inner b.inner
-        in
+    in
     rw (e, k, r) refl
 
 answer-not : (g f o : List ℕ) (q : Order) (a : Answer) (h : List Act) → IsAnswer g q a (acts.Arrived f o ∷ h) → ⊥

@@ -38,15 +38,15 @@ PutIs g x e h = (e.name ≡ x) × (was_order_given x h ≡ true) × (site x h �
 abbrev pub Pair : List ℕ → List Act → Type 0
 Pair t h =
     (o : SadEntry) × (i : SadEntry) × (order_of (out_half t) h ≡ Some o) × (order_of (in_half t) h ≡ Some i) × (o.key ≡ i.key)
-        × (o.spi ≡ i.spi)
+    × (o.spi ≡ i.spi)
     × (i.selector ≡ mirrored o.selector) × (bytes_eq (site (in_half t) h) (site (out_half t) h) ≡ false)
-        × (is_put_accepted (in_half t) h ≡ true)
+    × (is_put_accepted (in_half t) h ≡ true)
 
 -- the key and IV were used by an outbound half that has the key, with a number up to its count
 abbrev pub Under : List ℕ → List ℕ → List Act → Type 0
 Under c iv h =
     (g x : List ℕ) × (e : SadEntry) × (k : ℕ) × (halves.put_of g x h ≡ Some e) × (aes_part e.key ≡ c) × (iv ≡ to_be_bytes w64 k)
-        × (k < 2 ^ 32) × (k ≤ halves.sent g x h) × (is_inbound x ≡ false)
+    × (k < 2 ^ 32) × (k ≤ halves.sent g x h) × (is_inbound x ≡ false)
 
 -- the half is gone for good
 abbrev pub Dead : List ℕ → List Act → Type 0

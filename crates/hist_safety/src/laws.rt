@@ -29,7 +29,8 @@ pub fn number_is_sent_once()
 
 /// A lawful history goes on by acts that may happen after it, and each of its beginnings is lawful.
 pub fn goes_on()
-    ensures on { (gateways : List Peer) (h more : List Act) → IsLawful gateways h → AllMayHappen gateways h more → IsLawful gateways (after h more) }
+    ensures on { (gateways : List Peer) (h more : List Act) → IsLawful gateways h → AllMayHappen gateways h more
+        → IsLawful gateways (after h more) }
     ensures back { (gateways : List Peer) (h more : List Act) → IsLawful gateways (after h more) → IsLawful gateways h }
 {}
 

@@ -41,7 +41,7 @@ peer-whole w p read = parts (slice_split is_equals w) read
         passed P (is_gateway name) _ faults.Header p is
         (λ spelled more. after P (or_fault faults.Header (address_of address)) _ p more
         (λ a found same. subst (λ (q : Peer). IsWhole q.address) (inside _ p same)
-            (address-whole address a (or-fault (address_of address) a found))))
+        (address-whole address a (or-fault (address_of address) a found))))
     parts (a ∷ b ∷ c ∷ ps) is = cc
 
 -- ## gateways that go together
@@ -125,7 +125,7 @@ gateways-read ws ps is =
     (λ _ more. after P (peers_of ws) _ ps more
     (λ qs read more2. passed P (all_go_together qs) (Ok qs) faults.Header ps more2
     (λ together same. let e : qs ≡ ps = cc in
-        subst GoTogether e (record { whole = each_has IsWholePeer peer_of peer-whole ws qs read; together = together }))))
+    subst GoTogether e (record { whole = each_has IsWholePeer peer_of peer-whole ws qs read; together = together }))))
 
 last-read : (w : List ℕ) (n : ℕ) → seq_last_of w ≡ Ok n → n < 2 ^ 32
 unfolding seq_last_of
@@ -134,7 +134,7 @@ last-read w n is =
     after P (or_fault faults.Header _) _ n is
     (λ m read more. passed P (nat_le 1 m) (Ok m) faults.Header n more
     (λ _ same. let e : m ≡ n = cc in let l = number_most faults.Header (2 ^ 32 - 1) w m read in
-        let t : n ≤ 2 ^ 32 - 1 = subst (λ z. z ≤ 2 ^ 32 - 1) e l in omega arith))
+    let t : n ≤ 2 ^ 32 - 1 = subst (λ z. z ≤ 2 ^ 32 - 1) e l in omega arith))
 
 words-read : (ws : List (List ℕ)) (h : Header) → header_in ws ≡ Ok h → IsHeader h
 unfolding header_in
@@ -148,8 +148,12 @@ words-read (world ∷ last ∷ number ∷ gateways) h is =
     (λ n low more2. after P (gateways_of gateways) _ h more2
     (λ ps read same.
     let k = gateways-read gateways ps read in
-    subst IsHeader (inside _ h same) (record { numbers = last-read number n low; named = named ps (names-apart ps k.together); family =
-        families ps k.whole k.together }))))
+    subst IsHeader (inside _ h same) (record {
+      numbers = last-read number n low;
+      named = named ps (names-apart ps k.together);
+      family =
+          families ps k.whole k.together;
+    }))))
 
 pub header-read : (line : List ℕ) (h : Header) → header_of line ≡ Ok h → IsHeader h
 unfolding header_of

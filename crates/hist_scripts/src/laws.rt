@@ -20,7 +20,8 @@ pub fn reads_headers()
 /// What a line is read as, as an event under a header, is an event of that header.
 pub fn reads_events()
     ensures one { (header : Header) (line : List ℕ) (e : Event) → event_of header.gateways line ≡ Ok e → IsEventOf header e }
-    ensures all { (header : Header) (lines : List (List ℕ)) (events : List Event) → AreLinesOf header lines events → AreEventsOf header events }
+    ensures all { (header : Header) (lines : List (List ℕ)) (events : List Event) → AreLinesOf header lines events
+        → AreEventsOf header events }
 {}
 
 /// The history of every script is safe in its five parts, and doesn't end with an arrival that must be given: whatever stands in

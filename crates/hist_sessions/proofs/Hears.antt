@@ -81,4 +81,4 @@ block-besides ps h c (Answers g a) names m i = answer-besides ps h c g a (queue 
 block-besides ps h c (Notices g t) names m i =
     let own : ControllerAct = Heard g (openings g c) t in
     if-besides ps h (is_open g c) (going c own) [] (λ e. going-besides ps h c own ((sym (openings-meet ps h c g names m i.0), i.1), tt))
-        (λ e. tt)
+    (λ e. tt)

@@ -99,7 +99,7 @@ hears-besides header p g None i k s e = tt
 hears-besides header p g (Some t) i k s e =
     let n : ℕ = peer_number g header.gateways in
     let next : next_notice (peer_name header.gateways n) (took p.world) ≡ Some t =
-        ap (λ (z : List ℕ). next_notice z (took p.world)) (name-number g header.gateways k) ∙ e in
+    ap (λ (z : List ℕ). next_notice z (took p.world)) (name-number g header.gateways k) ∙ e in
     block-besides header.gateways (took p.world) p.controller (controller.Notices n t) i.named (took-meet header p s) (k, next)
 
 answers-besides : (header : Header) (p : Past) (n : ℕ) (a : Option Answer) → IsHeader header → Stands header p
@@ -122,19 +122,19 @@ event-besides shows header p (events.ArriveSent g m) i k s =
     alone (took p.world) _ (gateway-besides (took p.world) _ (arrive-acts (took p.world) (sent_at m (took p.world)) (gateway_at header g)))
 event-besides shows header p (events.ArriveFlip g m offset bit) i k s =
     alone (took p.world) _ (gateway-besides (took p.world) _ (arrive-acts (took p.world) (flipped offset bit (sent_at m (took p.world)))
-        (gateway_at header g)))
+    (gateway_at header g)))
 event-besides shows header p (events.ArriveTtl g m ttl) i k s =
     alone (took p.world) _ (gateway-besides (took p.world) _ (arrive-acts (took p.world) (with_ttl ttl (sent_at m (took p.world)))
-        (gateway_at header g)))
+    (gateway_at header g)))
 event-besides shows header p (events.Now t) i k s =
     let w : List Act = took p.world in
     let a : Act = acts.Now (max t (clock w)) in
     alone w (clock_block header w t) (gateway-besides w (clock_block header w t) (raised-acts (Takes w) header (a ∷ w) (nat_lt (clock w) t)
-        (λ g. refl)))
+    (λ g. refl)))
 event-besides shows header p (events.Boot g) i k s = alone (took p.world) _ (boot-besides g (took p.world) (gateway_at header g))
 event-besides shows header p (events.Down g) i k s =
     alone (took p.world) _
-        (gateway-besides (took p.world) _ (down-acts (took p.world) (next_request g (took p.world)) (gateway_at header g)))
+    (gateway-besides (took p.world) _ (down-acts (took p.world) (next_request g (took p.world)) (gateway_at header g)))
 event-besides shows header p (events.Wire g lane) i k s = (tt, tt)
 event-besides shows header p (events.Open g) i k s = block-besides header.gateways (took p.world) p.controller
     (controller.Opens (peer_number g header.gateways)) i.named (took-meet header p s) k
@@ -155,7 +155,7 @@ next-is : (g : List ℕ) (s k : ℕ) (a : Answer) (h : List Act) → is_open g h
 next-is g s k a h o is n at =
     let one : answer_at g s (answered g s h + 1) h ≡ Some a = ap (λ (z : ℕ). answer_at g s z h) (sym n) ∙ at in
     let own : answer_at g (openings g h) (answered g (openings g h) h + 1) h ≡ Some a =
-        subst (λ (z : ℕ). answer_at g z (answered g z h + 1) h ≡ Some a) is one in
+    subst (λ (z : ℕ). answer_at g z (answered g z h + 1) h ≡ Some a) is one in
     where-open (is_open g h) o own where
       where-open : (b : Bool) → b ≡ true → answer_at g (openings g h) (answered g (openings g h) h + 1) h ≡ Some a
           → (if b then answer_at g (openings g h) (answered g (openings g h) h + 1) h else None) ≡ Some a
@@ -183,7 +183,7 @@ keep-block shows header p e i k s keeps =
     let xs : List Act = block shows header p e in
     let one = history-one shows header p e in
     let l : IsLawful header.gateways (after p.world xs) = subst (λ (z : List Act). IsLawful header.gateways (after p.world z)) one
-        (lawful-history shows header p (e ∷ []) i (k, tt) s) in
+    (lawful-history shows header p (e ∷ []) i (k, tt) s) in
     keep-more header.gateways p.world xs l (tt, event-besides shows header p e i k s) keeps
 
 pub keep-history : (shows : Shows) (header : Header) (p : Past) (es : List Event) → IsHeader header → AreEventsOf header es
@@ -192,12 +192,12 @@ pub keep-history : (shows : Shows) (header : Header) (p : Past) (es : List Event
 keep-history shows header p [] i k s keeps = keeps
 keep-history shows header p (e ∷ es) i k s keeps =
     by-forgery (is_forged_event header p e) refl (λ t. keep-history shows header (past_after shows header p e) es i k.1 t
-        (keep-block shows header p e i k.0 s keeps)) where
+    (keep-block shows header p e i k.0 s keeps)) where
       by-forgery : (b : Bool) → is_forged_event header p e ≡ b
           → (Stands header (past_after shows header p e)
-              → KeepsSessions (after (past_after shows header p e).world (history shows header (past_after shows header p e) es)))
+          → KeepsSessions (after (past_after shows header p e).world (history shows header (past_after shows header p e) es)))
           → KeepsSessions (after p.world (block shows header p e
-              ++ unless_forged b (history shows header (past_after shows header p e) es)))
+          ++ unless_forged b (history shows header (past_after shows header p e) es)))
       by-forgery true f ih =
           let xs : List Act = block shows header p e in
           subst (λ (z : List Act). KeepsSessions (after p.world z)) (sym (append-nil xs)) (keep-block shows header p e i k.0 s keeps)

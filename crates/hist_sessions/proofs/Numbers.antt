@@ -104,8 +104,11 @@ record IsFirst {A : Type 0} (heard given : List A) (n : ℕ) : Type 0 where
 
 given-more : {A : Type 0} (here : Bool) (heard given : List A) (x : A) (n : ℕ) → IsFirst heard given n
     → IsFirst heard (if here then given ++ x ∷ [] else given) n
-given-more true heard given x n p = record { is = p.is ∙ sym (take-more n given x p.few); few = (let q = length-append given (x ∷ []) in
-    let few = p.few in omega (arith, q, few)) }
+given-more true heard given x n p = record {
+  is = p.is ∙ sym (take-more n given x p.few);
+  few = (let q = length-append given (x ∷ []) in
+      let few = p.few in omega (arith, q, few));
+}
 given-more false heard given x n p = p
 
 heard-more : {A : Type 0} (here : Bool) (heard given : List A) (x : A) (n : ℕ) → (here ≡ true → slice_get given n ≡ Some x)
@@ -113,8 +116,11 @@ heard-more : {A : Type 0} (here : Bool) (heard given : List A) (x : A) (n : ℕ)
     → IsFirst (if here then heard ++ x ∷ [] else heard) given (if here then n + 1 else n)
 heard-more true heard given x n e p =
     let next : n + 1 ≡ suc n = omega arith in
-    record { is = ap (λ z. z ++ x ∷ []) p.is ∙ sym (take-next n given x (e refl)) ∙ ap (λ k. take k given) (sym next); few =
-        (let q = slice_get_within given n x (e refl) in omega (arith, q)) }
+    record {
+      is = ap (λ z. z ++ x ∷ []) p.is ∙ sym (take-next n given x (e refl)) ∙ ap (λ k. take k given) (sym next);
+      few =
+          (let q = slice_get_within given n x (e refl) in omega (arith, q));
+    }
 heard-more false heard given x n e p = p
 
 next-given : (f : List ℕ) (t : ℕ) (a : Answer) (h : List Act) → KeepsSessions h → t ≡ openings f h → next_answer f h ≡ Some a
@@ -122,7 +128,7 @@ next-given : (f : List ℕ) (t : ℕ) (a : Answer) (h : List Act) → KeepsSessi
 next-given f t a h l is e =
     let at = else_none (is_open f h) (answer_at f (openings f h) (answered f (openings f h) h + 1) h) a e in
     let own : answer_at f t (answered f t h + 1) h ≡ Some a = subst (λ (z : ℕ). answer_at f z (answered f z h + 1) h ≡ Some a) (sym is) at.1
-        in
+    in
     sym (answer-at f t (answered f t h) h l) ∙ own
 
 answers-first : (g : List ℕ) (s : ℕ) (h : List Act) → KeepsSessions h → IsFirst (answers_heard g s h) (answers_given g s h) (answered g s h)
@@ -132,7 +138,7 @@ answers-first g s (acts.Handled f t k a ∷ h) l = given-more (is_session f t g 
 answers-first g s (acts.Answered f t k a ∷ h) l =
     heard-more (is_session f t g s) (answers_heard g s h) (answers_given g s h) a (answered g s h)
     (λ e. there f t g s (λ n m. slice_get (answers_given n m h) (answered n m h) ≡ Some a) e (next-given f t a h l.1 l.0.0 l.0.2))
-        (answers-first g s h l.1)
+    (answers-first g s h l.1)
 answers-first g s (_ ∷ h) l = answers-first g s h l.1
 
 next-told : (f : List ℕ) (t : ℕ) (n : Notice) (h : List Act) → t ≡ openings f h → next_notice f h ≡ Some n
@@ -148,7 +154,7 @@ notices-first g s (acts.Notice f t n ∷ h) l = given-more (is_session f t g s) 
 notices-first g s (acts.Heard f t n ∷ h) l =
     heard-more (is_session f t g s) (told g s h) (notices g s h) n (notices_heard g s h)
     (λ e. there f t g s (λ a b. slice_get (notices a b h) (notices_heard a b h) ≡ Some n) e (next-told f t n h l.0.0 l.0.1))
-        (notices-first g s h l.1)
+    (notices-first g s h l.1)
 notices-first g s (_ ∷ h) l = notices-first g s h l.1
 
 pub answers-in-order : (g : List ℕ) (s : ℕ) (h : List Act) → KeepsSessions h

@@ -50,7 +50,7 @@ where-taken z xs ys e = ap (λ l. if z then [] else l) e
 
 pub down-is : (f : Order → List ℕ) (response : List Act → Answer → List ℕ) (line : List Act → Notice → List ℕ) (g : List ℕ) (h : List Act)
     → (pipe_of (λ w o. f o) response line g h).down ≡ (if session_taken g h == 0 then []
-        else map f (drop (handled g (session_taken g h) h) (orders_given g (session_taken g h) h)))
+    else map f (drop (handled g (session_taken g h) h) (orders_given g (session_taken g h) h)))
 down-is f response line g h =
     let s : ℕ = session_taken g h in
     where-taken (s == 0) (drop (handled g s h) (requests (λ w o. f o) g s h)) (map f (drop (handled g s h) (orders_given g s h)))

@@ -22,10 +22,25 @@ abbrev ended : List Act
 ended = acts.Cut a 1 ∷ acts.Policy a [] ∷ acts.Handled a 1 2 (plain 204) ∷ []
 
 shown-keeps : KeepsSessions (after (after [] session) ended)
-shown-keeps = ((refl, refl, (asks.Policy [], refl)),
-    (tt, ((refl, refl), ((refl, refl),
-    ((refl, refl, refl), (refl,
-    (refl, ((refl, refl, (asks.Read, refl)), ((refl, refl, refl), ((refl, refl, refl), ((refl, refl), tt)))))))))))
+shown-keeps = (
+  (refl, refl, (asks.Policy [], refl)),
+  (
+    tt,
+    (
+      (refl, refl),
+      (
+        (refl, refl),
+        (
+          (refl, refl, refl),
+          (
+            refl,
+            (refl, ((refl, refl, (asks.Read, refl)), ((refl, refl, refl), ((refl, refl, refl), ((refl, refl), tt))))),
+          ),
+        ),
+      ),
+    ),
+  ),
+)
 
 shown-given : answers_given a 1 (after (after [] session) ended) ≡ plain 200 ∷ plain 204 ∷ []
 shown-given = refl
@@ -41,13 +56,26 @@ abbrev calls : List Act → List Act → UnderWay → UnderWay
 calls h more p = piped (λ w o. 1 ∷ []) (λ w r. 2 ∷ []) (λ w n. 3 ∷ []) a h more p
 
 -- the second request and the second notice are under way
-shown-under-way : calls [] session no_session ≡ record { openings = 1; is_open = true; is_taken = true; down = (1 ∷ []) ∷ []; up = [];
-    note = (3 ∷ []) ∷ [] }
+shown-under-way : calls [] session no_session ≡ record {
+  openings = 1;
+  is_open = true;
+  is_taken = true;
+  down = (1 ∷ []) ∷ [];
+  up = [];
+  note = (3 ∷ []) ∷ [];
+}
 shown-under-way = refl
 
 -- after the cut nothing is heard any more
-shown-ended : calls (after [] session) ended (calls [] session no_session) ≡ record { openings = 1; is_open = false; is_taken = true; down =
-    []; up = []; note = [] }
+shown-ended : calls (after [] session) ended (calls [] session no_session) ≡ record {
+  openings = 1;
+  is_open = false;
+  is_taken = true;
+  down =
+      [];
+  up = [];
+  note = [];
+}
 shown-ended = refl
 
 shown-stands : pipe_of (λ w o. 1 ∷ []) (λ w r. 2 ∷ []) (λ w n. 3 ∷ []) a (after [] session) ≡ calls [] session no_session

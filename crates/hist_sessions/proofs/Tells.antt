@@ -88,14 +88,14 @@ goings-tell : (taken : List ℕ → ℕ) (g : List ℕ) (h : List Act) (es : Lis
 goings-tell taken g h [] = tt
 goings-tell taken g h (e ∷ es) =
     either taken (is_reached e.hard (counts g e.name h)) (acts.Gone g e.name gone.Hard ∷ goings g h es) (goings g h es)
-        (goings-tell taken g h es) (goings-tell taken g h es)
+    (goings-tell taken g h es) (goings-tell taken g h es)
 
 expiries-tell : (taken : List ℕ → ℕ) (g : List ℕ) (h : List Act) (es : List SadEntry) → Takes taken g h → AllTell taken (expiries g h es)
 expiries-tell taken g h [] e = tt
 expiries-tell taken g h (d ∷ es) e =
     let ns : List Notice = expiry d.name (counts g d.name h) (event_of g h d) in
     joined taken (given_by g (session_taken g h) ns) (expiries g h es) (given-tells taken g (session_taken g h) ns e)
-        (expiries-tell taken g h es e)
+    (expiries-tell taken g h es e)
 
 pub look-tells : (taken : List ℕ → ℕ) (g : List ℕ) (h : List Act) (es : List SadEntry) → Takes taken g h → AllTell taken (look g h es)
 look-tells taken g h es e = joined taken (goings g h es) (expiries g h es) (goings-tell taken g h es) (expiries-tell taken g h es e)
@@ -118,7 +118,7 @@ half-tells taken q g o h v p (Some d) e =
     let n : ℕ = sent g d.name h + 1 in
     let a : Act = acts.Sent g d.name n (datagram d n v o) in
     either taken (nat_le q (sent g d.name h)) (acts.Drop g why.SeqLimit
-        ∷ unless (was_overflow_given g d.name h) (tells g h (notices.SeqOverflow d.name))) (send_acts g h d n (datagram d n v o))
+    ∷ unless (was_overflow_given g d.name h) (tells g h (notices.SeqOverflow d.name))) (send_acts g h d n (datagram d n v o))
     (unless-tells taken (was_overflow_given g d.name h) (tells g h (notices.SeqOverflow d.name)) (e, tt))
     (look-tells taken g (a ∷ h) (d ∷ []) e)
 
@@ -162,14 +162,14 @@ inner-answer : (g : List ℕ) (d : SadEntry) (n next : ℕ) (p : List ℕ) (r : 
 inner-answer g d n next p (Err fault) = tt
 inner-answer g d n next p (Ok v) =
     answer-if (not (arrive.is_told_version next p)) (acts.Drop g why.Inner) (if holds_packet d.selector In v then acts.Gave g d.name n p
-        else acts.Drop g why.Selector) tt
+    else acts.Drop g why.Selector) tt
     (answer-if (holds_packet d.selector In v) (acts.Gave g d.name n p) (acts.Drop g why.Selector) tt tt)
 
 packet-answer : (g : List ℕ) (d : SadEntry) (n : ℕ) (p : Option esp.InnerPacket) → IsAnswer (arrive.by_packet g d n p)
 packet-answer g d n None = tt
 packet-answer g d n (Some p) =
     answer-if (p.next == 59) (acts.Drop g why.Dummy) (arrive.by_inner g d n p.next p.octets (view_of p.octets)) tt
-        (inner-answer g d n p.next p.octets (view_of p.octets))
+    (inner-answer g d n p.next p.octets (view_of p.octets))
 
 use-tells : (taken : List ℕ → ℕ) (g : List ℕ) (h : List Act) (d : SadEntry) (a : Act) → IsAnswer a → Takes taken g h
     → AllTell taken (arrive.use_acts g h d a)
@@ -201,7 +201,7 @@ found-tells taken g h b (Some d) e =
 esp-tells : (taken : List ℕ → ℕ) (g : List ℕ) (h : List Act) (b : List ℕ) → Takes taken g h → AllTell taken (arrive.esp_acts g h b)
 esp-tells taken g h b e =
     either taken (nat_lt (length b) 34) (arrive.drops g why.Short) (arrive.arrive_by_half g h b (by_spi (spi_of b) (live g h))) tt
-        (found-tells taken g h b (by_spi (spi_of b) (live g h)) e)
+    (found-tells taken g h b (by_spi (spi_of b) (live g h)) e)
 
 clear-action : (taken : List ℕ → ℕ) (g o : List ℕ) (a : Action) → AllTell taken (arrive.arrive_by_action g o a ∷ [])
 clear-action taken g o actions.Protect = tt
@@ -217,7 +217,7 @@ arrival-tells : (taken : List ℕ → ℕ) (g : List ℕ) (own : Addr) (h : List
 arrival-tells taken g own h o (Err fault) e = tt
 arrival-tells taken g own h o (Ok v) e =
     either taken (arrive.is_sealed_for own v) (arrive.esp_acts g h v.payload) (arrive.arrive_by_entry g o (first_entry (force g h) In v)
-        ∷ [])
+    ∷ [])
     (esp-tells taken g h v.payload e) (clear-tells taken g o (first_entry (force g h) In v))
 
 pub arrive-tells : (taken : List ℕ → ℕ) (g : List ℕ) (own : Addr) (h : List Act) (o : List ℕ) → Takes taken g h

@@ -22,7 +22,8 @@ ghost use Rattle.hist_sessions.specs.Pipes.{piped};
 /// Whatever events come, the acts of sessions stand where they may, block by block and at the end of every history, with a forged
 /// arrival or without.
 pub fn every_history_keeps_sessions()
-    ensures event { (shows : Shows) (header : Header) (p : Past) (e : Event) → IsHeader header → IsEventOf header e → Stands header p → KeepsSessions p.world
+    ensures event { (shows : Shows) (header : Header) (p : Past) (e : Event) → IsHeader header → IsEventOf header e → Stands header p
+        → KeepsSessions p.world
         → KeepsSessions (after p.world (block shows header p e)) }
     ensures history { (shows : Shows) (header : Header) (events : List Event) → IsHeader header → AreEventsOf header events
         → KeepsSessions (after [] (history shows header nothing events)) }
@@ -57,7 +58,8 @@ pub fn goes_by_numbers()
     ensures orders { (g : List ℕ) (s : ℕ) (h : List Act) → length (orders_given g s h) ≡ orders g s h }
     ensures answer { (g : List ℕ) (s k : ℕ) (h : List Act) → KeepsSessions h → answer_at g s (k + 1) h ≡ slice_get (answers_given g s h) k }
     ensures handled { (g : List ℕ) (s : ℕ) (h : List Act) → length (answers_given g s h) ≡ handled g s h }
-    ensures answers { (g : List ℕ) (s : ℕ) (h : List Act) → KeepsSessions h → answers_heard g s h ≡ take (answered g s h) (answers_given g s h) }
+    ensures answers { (g : List ℕ) (s : ℕ) (h : List Act) → KeepsSessions h
+        → answers_heard g s h ≡ take (answered g s h) (answers_given g s h) }
     ensures notices { (g : List ℕ) (s : ℕ) (h : List Act) → KeepsSessions h → told g s h ≡ take (notices_heard g s h) (notices g s h) }
     ensures few_answers { (g : List ℕ) (s : ℕ) (h : List Act) → KeepsSessions h → answered g s h ≤ handled g s h }
     ensures few_notices { (g : List ℕ) (s : ℕ) (h : List Act) → KeepsSessions h → notices_heard g s h ≤ length (notices g s h) }
@@ -67,12 +69,15 @@ pub fn goes_by_numbers()
 /// its orders, answers and notices. Its requests, where each is made from its order alone, are those of the orders given in the
 /// session that the gateway has and not handled.
 pub fn pipes_follow_histories()
-    ensures acts { (request : List Act → Order → List ℕ) (response : List Act → Answer → List ℕ) (line : List Act → Notice → List ℕ) (g : List ℕ) (h more : List Act)
+    ensures acts { (request : List Act → Order → List ℕ) (response : List Act → Answer → List ℕ) (line : List Act → Notice → List ℕ)
+        (g : List ℕ) (h more : List Act)
         → KeepsSessions (after h more) → piped request response line g h more (pipe_of request response line g h) ≡ pipe_of request response line g (after h more) }
-    ensures history { (shows : Shows) (header : Header) (events : List Event) (request : List Act → Order → List ℕ) (response : List Act → Answer → List ℕ) (line : List Act → Notice → List ℕ)
+    ensures history { (shows : Shows) (header : Header) (events : List Event) (request : List Act → Order → List ℕ) (response : List Act
+        → Answer → List ℕ) (line : List Act → Notice → List ℕ)
         (g : List ℕ) → IsHeader header → AreEventsOf header events
         → piped request response line g [] (history shows header nothing events) no_session ≡ pipe_of request response line g (after [] (history shows header nothing events)) }
-    ensures down { (request : Order → List ℕ) (response : List Act → Answer → List ℕ) (line : List Act → Notice → List ℕ) (g : List ℕ) (h : List Act)
+    ensures down { (request : Order → List ℕ) (response : List Act → Answer → List ℕ) (line : List Act → Notice → List ℕ) (g : List ℕ)
+        (h : List Act)
         → (pipe_of (λ w o. request o) response line g h).down
         ≡ (if session_taken g h == 0 then [] else map request (drop (handled g (session_taken g h) h) (orders_given g (session_taken g h) h))) }
 {}

@@ -33,8 +33,13 @@ next-day n y m d i less =
     let low = i.day.0 in
     let number = i.number in
     let moved = days_from_civil-day (pos y) m (d + 1) d (omega (arith, low)) low in
-    record { year = i.year; month = i.month; day = (omega (arith, low), omega (arith, less)); number =
-        omega (arith, signed_arith, number, moved) }
+    record {
+      year = i.year;
+      month = i.month;
+      day = (omega (arith, low), omega (arith, less));
+      number =
+          omega (arith, signed_arith, number, moved);
+    }
 
 next-month : (n y m d : ℕ) → IsDay n (record { year = y; month = m; day = d }) → d ≡ days_in_month (pos y) m → m < 12
     → IsDay (suc n) (record { year = y; month = m + 1; day = 1 })
@@ -43,8 +48,13 @@ next-month n y m d i last less =
     let number = i.number in
     let moved = days_from_civil-next_month (pos y) m d low last in
     let long = days_in_month_bounds (pos y) (m + 1) in
-    record { year = i.year; month = (omega (arith, low), omega (arith, less)); day = (omega arith, omega (arith, long)); number =
-        omega (arith, signed_arith, number, moved) }
+    record {
+      year = i.year;
+      month = (omega (arith, low), omega (arith, less));
+      day = (omega arith, omega (arith, long));
+      number =
+          omega (arith, signed_arith, number, moved);
+    }
 
 december : (y : ℕ) → days_in_month (pos y) 12 ≡ 31
 december y = refl
@@ -54,14 +64,19 @@ next-year : (n y m d : ℕ) → n < 2932896 → IsDay n (record { year = y; mont
 next-year n y m d few i last twelve =
     let day : d ≡ 31 = last ∙ ap (days_in_month (pos y)) twelve ∙ december y in
     let number : days_from_civil (pos y) 12 31 ≡ pos n =
-        sym (ap (λ z. days_from_civil (pos y) z d) twelve ∙ ap (days_from_civil (pos y) 12) day) ∙ i.number in
+    sym (ap (λ z. days_from_civil (pos y) z d) twelve ∙ ap (days_from_civil (pos y) 12) day) ∙ i.number in
     let top : y ≡ 9999 → pos n ≡ pos 2932896 = λ e. sym number ∙ ap (λ z. days_from_civil (pos z) 12 31) e ∙ days_from_civil-max in
     let year = i.year in
     let before : y < 9999 = below y (λ e. let t = top e in omega (arith, signed_arith, t, few)) year in
     let moved = days_from_civil-next_year (pos y) (pos (y + 1)) (omega (arith, signed_arith)) (omega (arith, signed_arith)) in
     let long = days_in_month_bounds (pos (y + 1)) 1 in
-    record { year = omega (arith, before); month = (omega arith, omega arith); day = (omega arith, omega (arith, long)); number =
-        omega (arith, signed_arith, number, moved) }
+    record {
+      year = omega (arith, before);
+      month = (omega arith, omega arith);
+      day = (omega arith, omega (arith, long));
+      number =
+          omega (arith, signed_arith, number, moved);
+    }
   where
     below : (y : ℕ) → (y ≡ 9999 → ⊥) → y ≤ 9999 → y < 9999
     below y not_top le = grind arith
@@ -75,7 +90,7 @@ less-is d k e = grind arith
 step : (n y m d : ℕ) → n < 2932896 → IsDay n (record { year = y; month = m; day = d }) → (b c : Bool)
     → nat_lt d (days_in_month (pos y) m) ≡ b → nat_lt m 12 ≡ c
     → IsDay (suc n) (if b then record { year = y; month = m; day = d + 1 } else if c then record { year = y; month = m + 1; day = 1 }
-        else record { year = y + 1; month = 1; day = 1 })
+    else record { year = y + 1; month = 1; day = 1 })
 step n y m d few i true c p q = next-day n y m d i (less-is d (days_in_month (pos y) m) p)
 step n y m d few i false true p q = next-month n y m d i (at-end d (days_in_month (pos y) m) p i.day.1) (less-is m 12 q)
 step n y m d few i false false p q = next-year n y m d few i (at-end d (days_in_month (pos y) m) p i.day.1) (at-end m 12 q i.month.1)
@@ -83,16 +98,28 @@ step n y m d few i false false p q = next-year n y m d few i (at-end d (days_in_
 -- up to the end of the year 9999
 pub is-day : (n : ℕ) → n ≤ 2932896 → IsDay n (civil n)
 unfolding civil
-is-day zero few = record { year = omega arith; month = (omega arith, omega arith); day =
-    (omega arith, let long = days_in_month_bounds (pos 1970) 1 in omega (arith, long)); number = first }
+is-day zero few = record {
+  year = omega arith;
+  month = (omega arith, omega arith);
+  day =
+      (omega arith, let long = days_in_month_bounds (pos 1970) 1 in omega (arith, long));
+  number = first;
+}
 is-day (suc n) few =
     let c : Civil = civil n in
     step n c.year c.month c.day (omega (arith, few)) (is-day n (omega (arith, few))) (nat_lt c.day (days_in_month (pos c.year) c.month))
-        (nat_lt c.month 12) refl refl
+    (nat_lt c.month 12) refl refl
 
 date-of : (n : ℕ) (c : Civil) → IsDay n c → Date
-date-of n c i = record { year = pos c.year; month = c.month; day = c.day; year_in = (let y = i.year in
-    (omega (arith, signed_arith), omega (arith, signed_arith, y))); month_in = i.month; day_in = i.day }
+date-of n c i = record {
+  year = pos c.year;
+  month = c.month;
+  day = c.day;
+  year_in = (let y = i.year in
+      (omega (arith, signed_arith), omega (arith, signed_arith, y)));
+  month_in = i.month;
+  day_in = i.day;
+}
 
 -- ---- the text
 
@@ -125,4 +152,4 @@ stamp-is seconds few =
 pub line-is : (n : Notice) (seconds : ℕ) (line : List ℕ) → seconds / 86400 ≤ 2932896 → IsLine n seconds line → line ≡ line_text n seconds
 line-is n seconds line few l =
     l.text ∙ ap (λ (z : List ℕ). compact_text (notice_data n z) ++ 10 ∷ [])
-        (one_stamp seconds l.stamp (stamp seconds) l.at (stamp-is seconds few))
+    (one_stamp seconds l.stamp (stamp seconds) l.at (stamp-is seconds few))

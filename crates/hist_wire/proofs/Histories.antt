@@ -25,14 +25,14 @@ are-blocks : (header : Header) (p : Past) (es : List Event) → AreBlocks header
 are-blocks header p [] = tt
 are-blocks header p (e ∷ es) =
     (refl, by-forgery (is_forged_event header p e) refl (are-blocks header (past_after (under_way header) header p e) es)) where
-  by-forgery : (b : Bool) → is_forged_event header p e ≡ b → AreBlocks header (past_after (under_way header) header p e) es
-      (blocks (under_way header) header (past_after (under_way header) header p e) es)
-      → ((is_forged_event header p e ≡ true)
+      by-forgery : (b : Bool) → is_forged_event header p e ≡ b → AreBlocks header (past_after (under_way header) header p e) es
+          (blocks (under_way header) header (past_after (under_way header) header p e) es)
+          → ((is_forged_event header p e ≡ true)
           × (unless_last b (blocks (under_way header) header (past_after (under_way header) header p e) es) ≡ []))
-      ⊎ ((is_forged_event header p e ≡ false) × AreBlocks header (past_after (under_way header) header p e) es
+          ⊎ ((is_forged_event header p e ≡ false) × AreBlocks header (past_after (under_way header) header p e) es
           (unless_last b (blocks (under_way header) header (past_after (under_way header) header p e) es)))
-  by-forgery true f ih = inl (f, refl)
-  by-forgery false f ih = inr (f, ih)
+      by-forgery true f ih = inl (f, refl)
+      by-forgery false f ih = inr (f, ih)
 
 only-blocks : (header : Header) (p : Past) (es : List Event) (bs : List (List Act)) → AreBlocks header p es bs
     → bs ≡ blocks (under_way header) header p es
@@ -47,7 +47,7 @@ only-blocks header p (e ∷ es) (b ∷ bs) a =
     rest : ((is_forged_event header p e ≡ true) × (bs ≡ []))
         ⊎ ((is_forged_event header p e ≡ false) × AreBlocks header (past_after (under_way header) header p e) es bs)
         → (AreBlocks header (past_after (under_way header) header p e) es bs
-            → bs ≡ blocks (under_way header) header (past_after (under_way header) header p e) es)
+        → bs ≡ blocks (under_way header) header (past_after (under_way header) header p e) es)
         → bs ≡ unless_last (is_forged_event header p e) (blocks (under_way header) header (past_after (under_way header) header p e) es)
     rest (inl q) ih = q.1 ∙ ap (λ b. unless_last b (blocks (under_way header) header (past_after (under_way header) header p e) es))
         (sym q.0)
@@ -57,8 +57,12 @@ only-blocks header p (e ∷ es) (b ∷ bs) a =
 -- ---- histories
 
 pub history-is : (header : Header) (es : List Event) → IsHistory header es (history (under_way header) header nothing es)
-history-is header es = record { blocks = blocks (under_way header) header nothing es; each = are-blocks header nothing es; all =
-    history-blocks (under_way header) header nothing es }
+history-is header es = record {
+  blocks = blocks (under_way header) header nothing es;
+  each = are-blocks header nothing es;
+  all =
+      history-blocks (under_way header) header nothing es;
+}
 
 pub only-history : (header : Header) (es : List Event) (h : List Act) → IsHistory header es h
     → h ≡ history (under_way header) header nothing es
@@ -84,9 +88,13 @@ pub front-history : (header : Header) (n : ℕ) (es : List Event) (h : List Act)
 front-history header n es h i =
     let s : Shows = under_way header in
     let same : take n i.blocks ≡ blocks s header nothing (take n es) = ap (take n) (only-blocks header nothing es i.blocks i.each)
-        ∙ sym (blocks-take s header nothing n es) in
-    record { blocks = take n i.blocks; each = subst (AreBlocks header nothing (take n es)) (sym same)
-        (are-blocks header nothing (take n es)); all = refl }
+    ∙ sym (blocks-take s header nothing n es) in
+    record {
+      blocks = take n i.blocks;
+      each = subst (AreBlocks header nothing (take n es)) (sym same)
+          (are-blocks header nothing (take n es));
+      all = refl;
+    }
 
 pub block-count : (header : Header) (es : List Event) (h : List Act) (i : IsHistory header es h) → NoneForged header es
     → length i.blocks ≡ length es
@@ -106,13 +114,13 @@ pub last-safe : (header : Header) (es : List Event) (h : List Act) → IsHeader 
     → IsLastSafe header.gateways (after [] h)
 last-safe header es h i k is =
     subst (λ (z : List Act). IsLastSafe header.gateways (after [] z)) (sym (only-history header es h is))
-        (last-history (under_way header) header nothing es i k (start header))
+    (last-history (under_way header) header nothing es i k (start header))
 
 pub keeps-history : (header : Header) (es : List Event) (h : List Act) → IsHeader header → AreEventsOf header es → IsHistory header es h
     → KeepsSessions (after [] h)
 keeps-history header es h i k is =
     subst (λ (z : List Act). KeepsSessions (after [] z)) (sym (only-history header es h is))
-        (keep-history (under_way header) header nothing es i k (start header) tt)
+    (keep-history (under_way header) header nothing es i k (start header) tt)
 
 -- ---- a forged arrival at the end
 

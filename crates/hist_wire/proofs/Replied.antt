@@ -65,7 +65,7 @@ followers-silent : (xs : List Act) → are_followers xs ≡ true → are_silent 
 followers-silent [] e = refl
 followers-silent (a ∷ xs) e =
     and_from (is_silent a) (are_silent xs) (follower-silent a (both-left (is_follower a) (are_followers xs) e))
-        (followers-silent xs (both-right (is_follower a) (are_followers xs) e))
+    (followers-silent xs (both-right (is_follower a) (are_followers xs) e))
 
 shaped-silent : (ok : Act → Type 0) (xs : List Act) → ((a : Act) → ok a → is_silent a ≡ true) → Shaped ok xs → are_silent xs ≡ true
 shaped-silent ok xs f s = ap are_silent s.parts ∙ and_from (is_silent s.first) (are_silent s.rest) (f s.first s.fits)
@@ -82,9 +82,11 @@ arrive-answer g a e = refl
 let-replies : (h : List Act) (o : List ℕ) (c : Option node.Gateway) → AllReplies h (at_gateway h (node.Let o) c)
 let-replies h o None = tt
 let-replies h o (Some c) =
-    let w : List Act = acts.Let c.name o ∷ h in
-    (tt, silent w (let_acts c.name c.seq_last w o) (shaped-silent (LetAnswer c.name) (let_acts c.name c.seq_last w o) (let-answer c.name)
-        (let-shape c.name o c.seq_last w)))
+    let w : List Act = acts.Let c.name o ∷ h in (
+      tt,
+      silent w (let_acts c.name c.seq_last w o) (shaped-silent (LetAnswer c.name) (let_acts c.name c.seq_last w o) (let-answer c.name)
+          (let-shape c.name o c.seq_last w)),
+    )
 
 arrive-replies : (h : List Act) (o : List ℕ) (c : Option node.Gateway) → AllReplies h (arrives_at h o c)
 arrive-replies h o None = tt
@@ -129,7 +131,7 @@ gateway-name header g c e = name-case header g c (find (λ p. bytes_eq p.name g)
 change-replies : (g : List ℕ) (s k n : ℕ) (o : Order) (h : List Act) → next_request g (acts.Took n ∷ h) ≡ Some o → (c : Change)
     → (reply (tree_of g (acts.Took n ∷ h)) (ask_of o)).change ≡ c
     → AllReplies (acts.Took n ∷ h) (change_acts g (reply (tree_of g (acts.Took n ∷ h)) (ask_of o)) c
-        ++ acts.Handled g s k (answer_of (reply (tree_of g (acts.Took n ∷ h)) (ask_of o))) ∷ [])
+    ++ acts.Handled g s k (answer_of (reply (tree_of g (acts.Took n ∷ h)) (ask_of o))) ∷ [])
 change-replies g s k n o h next changes.Nothing e = ((o, next, refl), tt)
 change-replies g s k n o h next changes.Spd e = (tt, ((o, next, refl), tt))
 change-replies g s k n o h next (changes.Put d) e = (tt, ((o, next, refl), tt))
@@ -149,7 +151,7 @@ down-replies : (header : Header) (g : List ℕ) (n : ℕ) (h : List Act) (o : Op
 down-replies header g n h None e = tt
 down-replies header g n h (Some o) e =
     request-replies n h o (gateway_at header g) (λ d at. ap (λ (z : List ℕ). next_request z (acts.Took n ∷ h)) (gateway-name header g d at)
-        ∙ e)
+    ∙ e)
 
 -- ---- each event
 
@@ -172,8 +174,11 @@ event-replies shows header p (events.ArriveTtl g m ttl) =
 event-replies shows header p (events.Now t) =
     let w : List Act = took p.world in
     let a : Act = acts.Now (max t (clock w)) in
-    alone w (clock_block header w t) (tt, silent (a ∷ w) (raised header (a ∷ w) (nat_lt (clock w) t))
-        (raised-silent header (a ∷ w) (nat_lt (clock w) t)))
+    alone w (clock_block header w t) (
+      tt,
+      silent (a ∷ w) (raised header (a ∷ w) (nat_lt (clock w) t))
+          (raised-silent header (a ∷ w) (nat_lt (clock w) t)),
+    )
 event-replies shows header p (events.Boot g) = alone (took p.world) _ (silent (took p.world) _ (boot-silent g (gateway_at header g)))
 event-replies shows header p (events.Down g) =
     alone (took p.world) _ (down-replies header g (events_taken p.world + 1) p.world (next_request g (took p.world)) refl)
@@ -203,7 +208,7 @@ pub history-replied : (shows : Shows) (header : Header) (p : Past) (es : List Ev
 history-replied shows header p [] l = l
 history-replied shows header p (e ∷ es) l =
     by-forgery (is_forged_event header p e) (history-replied shows header (past_after shows header p e) es
-        (block-replied shows header p e l)) where
+    (block-replied shows header p e l)) where
       by-forgery : (b : Bool)
           → AllReplied (after (past_after shows header p e).world (history shows header (past_after shows header p e) es))
           → AllReplied (after p.world (block shows header p e ++ unless_forged b (history shows header (past_after shows header p e) es)))

@@ -28,8 +28,14 @@ unfolding address_text digits
 host-is = refl
 
 abbrev message : List ℕ → HttpMessage
-message host = record { method = codes "GET"; target = order_target asks.Read; status = 0; fields =
-    fields_map (field (codes "Host") host ∷ []); body = [] }
+message host = record {
+  method = codes "GET";
+  target = order_target asks.Read;
+  status = 0;
+  fields =
+      fields_map (field (codes "Host") host ∷ []);
+  body = [];
+}
 
 text-is : request_text (message (codes "192.0.2.1")) ≡ request
 text-is = refl

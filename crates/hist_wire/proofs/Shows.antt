@@ -21,14 +21,14 @@ use Rattle.hist_wire.specs.Wire.{first_octets, line_at, pipe_at, request_at, res
 pub shows-pipe : (header : Header) (g : List ℕ) (c : node.Gateway) (lane : Lane) (h more : List Act) → gateway_at header g ≡ Some c
     → KeepsSessions (after h more)
     → under_way header g lane (after h more) ≡ first_octets lane (piped (request_at c.address) (response_at g) line_at g h more
-        (pipe_at g c.address h))
+    (pipe_at g c.address h))
 shows-pipe header g c lane h more at k =
     ap (shown_at g lane (after h more)) at
-        ∙ ap (first_octets lane) (sym (pipe-follows (request_at c.address) (response_at g) line_at g h more k))
+    ∙ ap (first_octets lane) (sym (pipe-follows (request_at c.address) (response_at g) line_at g h more k))
 
 pub shows-requests : (g : List ℕ) (host : Addr) (h : List Act)
     → (pipe_at g host h).down ≡ (if session_taken g h == 0 then [] else map (λ o. request_text (order_message host o))
-        (drop (handled g (session_taken g h) h) (orders_given g (session_taken g h) h)))
+    (drop (handled g (session_taken g h) h) (orders_given g (session_taken g h) h)))
 shows-requests g host h = down-is (λ (o : Order). request_text (order_message host o)) (response_at g) line_at g h
 
 few : (xs : List ℕ) → length (take 4096 xs) ≤ 4096

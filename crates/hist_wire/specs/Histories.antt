@@ -15,7 +15,7 @@ AreBlocks header p [] [] = Unit {0}
 AreBlocks header p (e ∷ es) (b ∷ bs) =
     (b ≡ block (under_way header) header p e)
     × (((is_forged_event header p e ≡ true) × (bs ≡ []))
-        ⊎ ((is_forged_event header p e ≡ false) × AreBlocks header (past_after (under_way header) header p e) es bs))
+    ⊎ ((is_forged_event header p e ≡ false) × AreBlocks header (past_after (under_way header) header p e) es bs))
 AreBlocks header p _ _ = ⊥
 
 -- These acts, in their order, are the history of the events under the header. There is one such list (`has_one_history`).

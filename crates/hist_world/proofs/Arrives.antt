@@ -89,7 +89,7 @@ esp-is o v e = ap payload_of e
 comes-to : (gs : List Peer) (g o : List ℕ) (h : List Act) (v : Packet) (e : SadEntry) → ToUs gs g o v
     → by_spi (spi_of v.payload) (live g h) ≡ Some e
     → verdict_over e.window (numbers_taken g e.name h) (number_of e (numbers_taken g e.name h) v.payload) ≡ verdicts.Fresh
-        → ComesTo gs g o e h
+    → ComesTo gs g o e h
 comes-to gs g o h v e t found fresh =
     let b = esp-is o v t.view in
     record {
@@ -131,20 +131,20 @@ genuine gs g o own h at no-forgery = λ half text c opens.
     let b = esp-is o c.packet c.view in
     let same : own ≡ c.packet.dst = let s : Some own ≡ Some c.packet.dst = sym at ∙ c.own in grind (arith, s) in
     let ours : is_sealed_for own c.packet ≡ true = and_from (c.packet.proto == 50) (is_same_address c.packet.dst own)
-        (grind (arith, c.proto)) (subst (λ (z : Addr). is_same_address z own ≡ true) same (own-address own)) in
+    (grind (arith, c.proto)) (subst (λ (z : Addr). is_same_address z own ≡ true) same (own-address own)) in
     let v1 : is_view_forged g own h (Ok c.packet) ≡ false = subst (λ (r : Result Packet NotPacket). is_view_forged g own h r ≡ false) c.view
-        no-forgery in
+    no-forgery in
     let v2 : is_esp_forged g h c.packet.payload ≡ false = subst (λ (t : Bool). (t && is_esp_forged g h c.packet.payload) ≡ false) ours v1 in
     let v3 : is_esp_forged g h (esp_of o) ≡ false = subst (λ (z : List ℕ). is_esp_forged g h z ≡ false) (sym b) v2 in
     let v4 : is_half_forged g h (esp_of o) (by_spi (spi_of (esp_of o)) (live g h)) ≡ false =
     subst (λ (t : Bool). (not t && is_half_forged g h (esp_of o) (by_spi (spi_of (esp_of o)) (live g h))) ≡ false) (long (esp_of o) opens.0)
-        v3 in
+    v3 in
     let v5 : is_half_forged g h (esp_of o) (Some half) ≡ false = subst (λ (z : Option SadEntry). is_half_forged g h (esp_of o) z ≡ false)
-        c.found v4 in
+    c.found v4 in
     let fresh : is_fresh (verdict_over half.window (numbers_taken g half.name h) (number_of half (numbers_taken g half.name h) (esp_of o)))
-        ≡ true = ap is_fresh c.fresh in
+    ≡ true = ap is_fresh c.fresh in
     let opens_here : does_open (esp.opened (keying half.spi half.key) (esp_of o)) ≡ true =
-        ap does_open (opened_finds (keying half.spi half.key) (esp_of o) text opens) in
+    ap does_open (opened_finds (keying half.spi half.key) (esp_of o) text opens) in
     genuine-of (is_fresh (verdict_over half.window (numbers_taken g half.name h) (number_of half (numbers_taken g half.name h) (esp_of o))))
     (does_open (esp.opened (keying half.spi half.key) (esp_of o))) (is_sealed (other_half half.name) (esp_of o) h) v5 fresh opens_here
 
@@ -260,7 +260,7 @@ half-shape : (g : List ℕ) (h : List Act) (b : List ℕ) (found : Option SadEnt
 half-shape g h b None =
     let told : List Act = tells g h (notices.BadSpi (spi_of b)) in
     shaped (ArriveAnswer g) (acts.Drop g why.BadSpi) (unless (does_bad_spi_stand g (spi_of b) h) told) refl
-        (unless-follows (does_bad_spi_stand g (spi_of b) h) told refl)
+    (unless-follows (does_bad_spi_stand g (spi_of b) h) told refl)
 half-shape g h b (Some e) =
     let n : ℕ = number_of e (numbers_taken g e.name h) b in
     verdict-shape g h b e n (verdict_over e.window (numbers_taken g e.name h) n)
@@ -285,7 +285,7 @@ view-shape g own h o (Err fault) = shaped (ArriveAnswer g) (acts.Drop g (fault_w
 view-shape g own h o (Ok v) =
     shaped-if (ArriveAnswer g) (is_sealed_for own v) (esp_acts g h v.payload) (arrive_by_entry g o (first_entry (force g h) In v) ∷ [])
     (esp-shape g h v.payload) (shaped (ArriveAnswer g) (arrive_by_entry g o (first_entry (force g h) In v)) []
-        (entry-shape g o (first_entry (force g h) In v)) refl)
+    (entry-shape g o (first_entry (force g h) In v)) refl)
 
 pub arrive-shape : (g : List ℕ) (own : Addr) (h : List Act) (o : List ℕ) → Shaped (ArriveAnswer g) (arrive_acts g own h o)
 unfolding arrive_acts
@@ -303,14 +303,14 @@ rest-is a b xs ys e = grind (arith, e)
 given-first : (gs : List Peer) (c : Gateway) (o x : List ℕ) (n : ℕ) (p : List ℕ) (h : List Act) (a : Act) (rest : List Act)
     → address_of gs c.name ≡ Some c.address
     → arrive_acts c.name c.address (acts.Arrived c.name o ∷ h) o ≡ a ∷ rest → Delivers gs c.name o x n p h → (m : ℕ) × (y : List ℕ)
-        × (a ≡ acts.Gave c.name y m p)
+    × (a ≡ acts.Gave c.name y m p)
 given-first gs c o x n p h a rest at parts d =
     let e : SadEntry = d.half in
     let m : ℕ = number_of e (numbers_taken c.name e.name h) d.comes.packet.payload in
     let g : Act = acts.Gave c.name e.name m p in
     let w = delivers-is c h o d.comes.packet d.packet e d.text p (next_header p) (to-delivery gs c o x n p h at d) in
     let after_it = rest-is (acts.Arrived c.name o) (acts.Arrived c.name o) (arrive_acts c.name c.address (acts.Arrived c.name o ∷ h) o)
-        (use_acts c.name (acts.Arrived c.name o ∷ h) e g) w in
+    (use_acts c.name (acts.Arrived c.name o ∷ h) e g) w in
     (m, e.name, first-is a g rest (look c.name (g ∷ acts.Arrived c.name o ∷ h) (e ∷ [])) (sym parts ∙ after_it))
 
 drop-not : (f g x : List ℕ) (w : DropWhy) (n : ℕ) (p : List ℕ) → acts.Drop f w ≡ acts.Gave g x n p → ⊥
@@ -327,23 +327,36 @@ opened-drop gs c o h false at m e = absurd (no e)
 answer-may : (gs : List Peer) (c : Gateway) (o : List ℕ) (h : List Act) (a : Act) (rest : List Act) → address_of gs c.name ≡ Some c.address
     → IsGenuine gs c.name o h
     → arrive_acts c.name c.address (acts.Arrived c.name o ∷ h) o ≡ a ∷ rest → ArriveAnswer c.name a
-        → GatewayMayAct c (acts.Arrived c.name o ∷ h) a
+    → GatewayMayAct c (acts.Arrived c.name o ∷ h) a
     → MayHappen gs a (acts.Arrived c.name o ∷ h) × (is_ready (a ∷ acts.Arrived c.name o ∷ h) ≡ true)
 answer-may gs c o h (acts.Gave f x n p) rest at real parts fits m =
     let m2 : IsOpenedArrival c (acts.Arrived c.name o ∷ h) c.name x n p =
-        subst (λ (z : List ℕ). IsOpenedArrival c (acts.Arrived c.name o ∷ h) z x n p) fits m in
+    subst (λ (z : List ℕ). IsOpenedArrival c (acts.Arrived c.name o ∷ h) z x n p) fits m in
     let P : List ℕ → Type 0 = λ z. (c.name ≡ z) × IsGenuine gs z o h × Delivers gs z o x n p h in
     (subst P (sym fits) (refl, real, gives gs c o x n p h at m2), refl)
 answer-may gs c o h (acts.Pass f q) rest at real parts fits m =
-    let P : List ℕ → Type 0 = λ z. (c.name ≡ z) × IsGenuine gs z o h × IsUndelivered gs z o h in
-    (subst P (sym fits) (refl, real, λ x n p d. let g = given-first gs c o x n p h (acts.Pass f q) rest at parts d in
-        pass-not f q c.name g.1 g.0 p g.2), refl)
+    let P : List ℕ → Type 0 = λ z. (c.name ≡ z) × IsGenuine gs z o h × IsUndelivered gs z o h in (
+      subst P (sym fits) (
+        refl,
+        real,
+        λ x n p d. let g = given-first gs c o x n p h (acts.Pass f q) rest at parts d in
+            pass-not f q c.name g.1 g.0 p g.2,
+      ),
+      refl,
+    )
 answer-may gs c o h (acts.Drop f w) rest at real parts fits m =
     let m2 : GatewayMayDrop c (acts.Arrived c.name o ∷ h) c.name (is_opened w) =
-        subst (λ (z : List ℕ). GatewayMayDrop c (acts.Arrived c.name o ∷ h) z (is_opened w)) fits m in
-    let P : List ℕ → Type 0 = λ z. (c.name ≡ z) × IsGenuine gs z o h × IsUndelivered gs z o h × (is_opened w ≡ true → IsOpened gs z o h) in
-    (subst P (sym fits) (refl, real, (λ x n p d. let g = given-first gs c o x n p h (acts.Drop f w) rest at parts d in
-        drop-not f c.name g.1 w g.0 p g.2), opened-drop gs c o h (is_opened w) at m2), refl)
+    subst (λ (z : List ℕ). GatewayMayDrop c (acts.Arrived c.name o ∷ h) z (is_opened w)) fits m in
+    let P : List ℕ → Type 0 = λ z. (c.name ≡ z) × IsGenuine gs z o h × IsUndelivered gs z o h × (is_opened w ≡ true → IsOpened gs z o h) in (
+      subst P (sym fits) (
+        refl,
+        real,
+        (λ x n p d. let g = given-first gs c o x n p h (acts.Drop f w) rest at parts d in
+            drop-not f c.name g.1 w g.0 p g.2),
+        opened-drop gs c o h (is_opened w) at m2,
+      ),
+      refl,
+    )
 answer-may gs c o h a rest at real parts fits m = absurd fits
 
 -- the answer to a datagram that isn't forged, and what follows it

@@ -51,7 +51,7 @@ policy-meet : (ps : List Peer) (w : List happened.Act.Act) (c : List ControllerA
 policy-meet ps w c g s k l names m i e =
     let name : List ℕ = peer_name ps g in
     list-told ps (numbered g s k c) l (sym (order-told ps c names m.fit g s k i) ∙ ap (order_at name s k) (sym m.part)
-        ∙ sym (order-at-part name s k w) ∙ e)
+    ∙ sym (order-at-part name s k w) ∙ e)
 
 placing : (ps : List Peer) (w : List happened.Act.Act) (c : List ControllerAct) (g : ℕ) → Named ps → Meet ps w c → g < length ps
     → Placing (peer_name ps g) (lists_accepted g c) (λ s k. list_place g s k c) w
@@ -65,7 +65,7 @@ pub between : (header : Header) (p : Past) → IsHeader header → Stands header
     → NeverBack (lists_accepted g p.controller) (put_in_force (peer_name header.gateways g) p.world)
 between header p i s g k =
     in-order header.gateways (peer_name header.gateways g) (lists_accepted g p.controller) (λ s k. list_place g s k p.controller) p.world
-        s.lawful
+    s.lawful
     (placing header.gateways p.world p.controller g i.named s.meet k)
 
 -- ---- the lists accepted in a block
@@ -100,7 +100,7 @@ name-known f (p ∷ ps) g i e = by (bytes_eq p.name f) refl (g == 0) refl i e (n
   by : (b : Bool) → bytes_eq p.name f ≡ b → (z : Bool) → (g == 0) ≡ z → g < suc (length ps)
       → bytes_eq f (if z then p.name else peer_name ps (g - 1)) ≡ true
       → (g - 1 < length ps → bytes_eq f (peer_name ps (g - 1)) ≡ true → peer_number f ps < length ps)
-          → (if b then 0 else peer_number f ps + 1) < suc (length ps)
+      → (if b then 0 else peer_number f ps + 1) < suc (length ps)
   by true w z u i e ih = omega arith
   by false w true u i e ih = absurd (no (sym w ∙ name-true p.name f (sym (name-is f p.name e))))
   by false w false u i e ih = let k : peer_number f ps < length ps = ih (grind (arith, u, i)) e in omega (arith, k)
@@ -113,24 +113,24 @@ not-less m n e i = grind (arith, common_steps, e, i)
 
 policy-lists : (ps : List Peer) (c : List ControllerAct) (f : List ℕ) (l : List SpdEntry) (g : ℕ) → Named ps → g < length ps
     → lists_accepted g (after c (by_refusal c (placed_command ps (commands.Policy f l))
-        (refusal (length ps) c (placed_command ps (commands.Policy f l))))) ≡ lists_accepted g c
-        ++ commanded (peer_name ps g) (events.Policy f l ∷ [])
+    (refusal (length ps) c (placed_command ps (commands.Policy f l))))) ≡ lists_accepted g c
+    ++ commanded (peer_name ps g) (events.Policy f l ∷ [])
 policy-lists ps c f l g names i = by (nat_lt (peer_number f ps) (length ps)) refl where
   by : (b : Bool) → nat_lt (peer_number f ps) (length ps) ≡ b
       → lists_accepted g (after c (by_refusal c (SetPolicy (peer_number f ps) l) (if b then None else Some refusals.UnknownGateway))) ≡
-          lists_accepted g c ++ (if bytes_eq f (peer_name ps g) then l ∷ [] else [])
+      lists_accepted g c ++ (if bytes_eq f (peer_name ps g) then l ∷ [] else [])
   by true e =
       let m : ℕ = peer_number f ps in
       let k : m < length ps = ltb-true m (length ps) e in
       let same : bytes_eq f (peer_name ps g) ≡ (g == m) = ap (λ (z : List ℕ). bytes_eq z (peer_name ps g)) (sym (name-number f ps k))
-          ∙ names m g k i in
+      ∙ names m g k i in
       going-lists g c (Accepted (SetPolicy m l))
-          ∙ ap (λ z. lists_accepted g c ++ z) (if-same (g == m) (bytes_eq f (peer_name ps g)) l (sym same))
+      ∙ ap (λ z. lists_accepted g c ++ z) (if-same (g == m) (bytes_eq f (peer_name ps g)) l (sym same))
   by false e =
       let unknown : bytes_eq f (peer_name ps g) ≡ false =
-          false_from_ne_true (bytes_eq f (peer_name ps g)) (λ q. not-less (peer_number f ps) (length ps) e (name-known f ps g i q)) in
+      false_from_ne_true (bytes_eq f (peer_name ps g)) (λ q. not-less (peer_number f ps) (length ps) e (name-known f ps g i q)) in
       sym (append-nil (lists_accepted g c))
-          ∙ ap (λ z. lists_accepted g c ++ z) (if-same false (bytes_eq f (peer_name ps g)) l (sym unknown))
+      ∙ ap (λ z. lists_accepted g c ++ z) (if-same false (bytes_eq f (peer_name ps g)) l (sym unknown))
 
 -- at one event of a script those accepted are those commanded
 none-new : {xs ys : List (List SpdEntry)} → xs ≡ ys → xs ≡ ys ++ []
@@ -149,7 +149,7 @@ heard-lists ps g c f (Some t) = if-lists g c (going c (Heard f (openings f c) t)
 
 event-lists : (header : Header) (p : Past) (e : Event) (g : ℕ) → IsHeader header → g < length header.gateways
     → lists_accepted g (after p.controller (controller_acts header p e)) ≡ lists_accepted g p.controller
-        ++ commanded (peer_name header.gateways g) (e ∷ [])
+    ++ commanded (peer_name header.gateways g) (e ∷ [])
 event-lists header p (events.Policy f l) g i k = policy-lists header.gateways p.controller f l g i.named k
 event-lists header p (events.Tunnel t) g i k =
     let x = placed_command header.gateways (commands.Tunnel t) in
@@ -164,12 +164,12 @@ event-lists header p (events.Open f) g i k =
     let c = p.controller in
     let n : ℕ = peer_number f header.gateways in
     none-new (if-lists g c [] (going c (Opened n (openings n c + 1))) (lists_accepted g c) (is_open n c) refl
-        (going-lists g c (Opened n (openings n c + 1))))
+    (going-lists g c (Opened n (openings n c + 1))))
 event-lists header p (events.Cut f) g i k =
     let c = p.controller in
     let n : ℕ = peer_number f header.gateways in
     none-new (if-lists g c (going c (Cut n (openings n c))) [] (lists_accepted g c) (is_open n c) (going-lists g c (Cut n (openings n c)))
-        refl)
+    refl)
 event-lists header p (events.Up f) g i k =
     none-new (answered-lists header.gateways g p.controller (peer_number f header.gateways) (next_answer f p.world))
 event-lists header p (events.Note f) g i k =
@@ -186,7 +186,7 @@ commanded-cons g e es = refl
 one-event : (shows : Shows) (header : Header) (p : Past) (e : Event) (es : List Event) (g : ℕ) → IsHeader header
     → g < length header.gateways
     → lists_accepted g (past_after shows header p e).controller ++ commanded (peer_name header.gateways g) es ≡ lists_accepted g
-        p.controller ++ commanded (peer_name header.gateways g) (e ∷ es)
+    p.controller ++ commanded (peer_name header.gateways g) (e ∷ es)
 one-event shows header p e es g i k =
     let name : List ℕ = peer_name header.gateways g in
     ap (λ z. z ++ commanded name es) (event-lists header p e g i k)
@@ -232,36 +232,36 @@ forged-lists shows header p a g e = absurd (no e)
 history-from : (shows : Shows) (header : Header) (p : Past) (es : List Event) (g : ℕ) → IsHeader header → AreEventsOf header es
     → Stands header p → g < length header.gateways
     → NeverBack (lists_accepted g p.controller ++ commanded (peer_name header.gateways g) es)
-        (put_in_force (peer_name header.gateways g) (world_past.after p.world (history shows header p es)))
+    (put_in_force (peer_name header.gateways g) (world_past.after p.world (history shows header p es)))
 history-from shows header p [] g i k s m = stand-more 0 (lists_accepted g p.controller) [] _ (between header p i s g m)
 history-from shows header p (e ∷ es) g i k s m =
     by (is_forged_event header p e) refl (λ t. history-from shows header (past_after shows header p e) es g i k.1 t m) where
-  name : List ℕ
-  name = peer_name header.gateways g
+      name : List ℕ
+      name = peer_name header.gateways g
 
-  by : (b : Bool) → is_forged_event header p e ≡ b
-      → (Stands header (past_after shows header p e) → NeverBack (lists_accepted g (past_after shows header p e).controller
+      by : (b : Bool) → is_forged_event header p e ≡ b
+          → (Stands header (past_after shows header p e) → NeverBack (lists_accepted g (past_after shows header p e).controller
           ++ commanded (peer_name header.gateways g) es)
-      (put_in_force (peer_name header.gateways g) (world_past.after (past_after shows header p e).world
+          (put_in_force (peer_name header.gateways g) (world_past.after (past_after shows header p e).world
           (history shows header (past_after shows header p e) es))))
-      → NeverBack (lists_accepted g p.controller ++ commanded (peer_name header.gateways g) (e ∷ es))
-      (put_in_force (peer_name header.gateways g)
+          → NeverBack (lists_accepted g p.controller ++ commanded (peer_name header.gateways g) (e ∷ es))
+          (put_in_force (peer_name header.gateways g)
           (world_past.after p.world (block shows header p e ++ unless_forged b (history shows header (past_after shows header p e) es))))
-  by true f ih =
-      let xs : List happened.Act.Act = block shows header p e in
-      let same = ap (λ z. put_in_force (peer_name header.gateways g) (world_past.after p.world z)) (append-nil xs)
+      by true f ih =
+          let xs : List happened.Act.Act = block shows header p e in
+          let same = ap (λ z. put_in_force (peer_name header.gateways g) (world_past.after p.world z)) (append-nil xs)
           ∙ forged-lists shows header p e (peer_name header.gateways g) f in
-      let all = lists_accepted g p.controller in
-      let more = commanded (peer_name header.gateways g) (e ∷ es) in
-      stand-more 0 all more _ (subst (λ z. StandFrom 0 all z) (sym same) (between header p i s g m))
-  by false f ih =
-      let xs : List happened.Act.Act = block shows header p e in
-      let more : List happened.Act.Act = history shows header (past_after shows header p e) es in
-      let same = ap (put_in_force (peer_name header.gateways g)) (after-append p.world xs more) in
-      let t = step shows header p e i k.0 s f in
-      let forced = put_in_force (peer_name header.gateways g) (world_past.after p.world (xs ++ more)) in
-      subst (λ z. NeverBack z forced) (one-event shows header p e es g i m)
-      (subst (λ z. NeverBack (lists_accepted g (past_after shows header p e).controller ++ commanded (peer_name header.gateways g) es) z)
+          let all = lists_accepted g p.controller in
+          let more = commanded (peer_name header.gateways g) (e ∷ es) in
+          stand-more 0 all more _ (subst (λ z. StandFrom 0 all z) (sym same) (between header p i s g m))
+      by false f ih =
+          let xs : List happened.Act.Act = block shows header p e in
+          let more : List happened.Act.Act = history shows header (past_after shows header p e) es in
+          let same = ap (put_in_force (peer_name header.gateways g)) (after-append p.world xs more) in
+          let t = step shows header p e i k.0 s f in
+          let forced = put_in_force (peer_name header.gateways g) (world_past.after p.world (xs ++ more)) in
+          subst (λ z. NeverBack z forced) (one-event shows header p e es g i m)
+          (subst (λ z. NeverBack (lists_accepted g (past_after shows header p e).controller ++ commanded (peer_name header.gateways g) es) z)
           (sym same) (ih t.stands))
 
 -- whatever comes, the lists put in force are lists commanded, in the order of the commands
@@ -271,5 +271,5 @@ pub never-back : (shows : Shows) (header : Header) (es : List Event) (g : List �
 never-back shows header es g i k s m =
     let n : ℕ = peer_number g header.gateways in
     subst (λ (z : List ℕ). NeverBack (commanded z es) (put_in_force z (world_past.after [] (history shows header whole.nothing es))))
-        (name-number g header.gateways m)
+    (name-number g header.gateways m)
     (history-from shows header whole.nothing es n i k s m)

@@ -123,13 +123,20 @@ order-goes : (ps : List Peer) (w : List happened.Act.Act) (c : List ControllerAc
 order-goes ps w c g s n o names family ready m f =
     let i = act-fits (length ps) c (Ordered g s n o) m.fit f tt in
     let may : law.OrderMayHappen (peer_name ps g) (order_told ps o) w =
-        order-part (peer_name ps g) (order_told ps o) w (subst (law.OrderMayHappen (peer_name ps g) (order_told ps o)) (sym m.part)
-        (order-may ps g s n o c (f, m.past) names m.fit family)) in
+    order-part (peer_name ps g) (order_told ps o) w (subst (law.OrderMayHappen (peer_name ps g) (order_told ps o)) (sym m.part)
+    (order-may ps g s n o c (f, m.past) names m.fit family)) in
     let q : s ≡ sessions.openings (peer_name ps g) w = f.0 ∙ sym (openings-meet ps w c g names m i) in
     let k : n ≡ sessions.orders (peer_name ps g) s w + 1 = f.1 ∙ ap (λ (z : ℕ). z + 1) (sym (orders-meet ps w c g names m i))
-        ∙ ap (λ (z : ℕ). sessions.orders (peer_name ps g) z w + 1) (sym f.0) in
-    (((ready, open-meet ps w c g names m i ∙ f.2, q, k, may), tt), refl, record { part =
-        ap (λ z. acts.Order (peer_name ps g) s n (order_told ps o) ∷ z) m.part; past = (f, m.past); fit = (i, m.fit) })
+    ∙ ap (λ (z : ℕ). sessions.orders (peer_name ps g) z w + 1) (sym f.0) in (
+      ((ready, open-meet ps w c g names m i ∙ f.2, q, k, may), tt),
+      refl,
+      record {
+        part =
+            ap (λ z. acts.Order (peer_name ps g) s n (order_told ps o) ∷ z) m.part;
+        past = (f, m.past);
+        fit = (i, m.fit);
+      },
+    )
 
 opened-goes : (ps : List Peer) (w : List happened.Act.Act) (c : List ControllerAct) (g s : ℕ) → Named ps → law.is_ready w ≡ true
     → Meet ps w c → g < length ps
@@ -142,9 +149,16 @@ cut-goes : (ps : List Peer) (w : List happened.Act.Act) (c : List ControllerAct)
     → ControllerMayAct (length ps) c (Cut g s) → Told_one ps w c (Cut g s)
 cut-goes ps w c g s names ready m f =
     let i = act-fits (length ps) c (Cut g s) m.fit f tt in
-    let q : s ≡ sessions.openings (peer_name ps g) w = f.1 ∙ sym (openings-meet ps w c g names m i) in
-    (((ready, open-meet ps w c g names m i ∙ f.0, q), tt), refl, record { part = ap (λ z. acts.Cut (peer_name ps g) s ∷ z) m.part; past =
-        (f, m.past); fit = (i, m.fit) })
+    let q : s ≡ sessions.openings (peer_name ps g) w = f.1 ∙ sym (openings-meet ps w c g names m i) in (
+      ((ready, open-meet ps w c g names m i ∙ f.0, q), tt),
+      refl,
+      record {
+        part = ap (λ z. acts.Cut (peer_name ps g) s ∷ z) m.part;
+        past =
+            (f, m.past);
+        fit = (i, m.fit);
+      },
+    )
 
 heard-goes : (ps : List Peer) (w : List happened.Act.Act) (c : List ControllerAct) (g s : ℕ) (t : Notice) → law.is_ready w ≡ true
     → Meet ps w c
@@ -169,14 +183,20 @@ refused-goes ps w c x ready m f =
 answered-goes : (ps : List Peer) (w : List happened.Act.Act) (c : List ControllerAct) (g s n : ℕ) (a : Answer) → Named ps
     → law.is_ready w ≡ true → Meet ps w c
     → sessions.is_open (peer_name ps g) w ≡ true → sessions.answer_at (peer_name ps g) s n w ≡ Some a
-        → ControllerMayAct (length ps) c (Answered g s n a) → Told_one ps w c (Answered g s n a)
+    → ControllerMayAct (length ps) c (Answered g s n a) → Told_one ps w c (Answered g s n a)
 answered-goes ps w c g s n a names ready m is_up at f =
     let i = act-fits (length ps) c (Answered g s n a) m.fit f tt in
     let q : s ≡ sessions.openings (peer_name ps g) w = f.2 ∙ sym (openings-meet ps w c g names m i) in
     let k : n ≡ sessions.answered (peer_name ps g) s w + 1 = f.3 ∙ ap (λ (z : ℕ). z + 1) (sym (answered-meet ps w c g names m i))
-        ∙ ap (λ (z : ℕ). sessions.answered (peer_name ps g) z w + 1) (sym f.2) in
-    (((ready, is_up, q, k, at), tt), refl, record { part = ap (λ z. acts.Answered (peer_name ps g) s n a ∷ z) m.part; past = (f, m.past);
-        fit = (i, m.fit) })
+    ∙ ap (λ (z : ℕ). sessions.answered (peer_name ps g) z w + 1) (sym f.2) in (
+      ((ready, is_up, q, k, at), tt),
+      refl,
+      record {
+        part = ap (λ z. acts.Answered (peer_name ps g) s n a ∷ z) m.part;
+        past = (f, m.past);
+        fit = (i, m.fit);
+      },
+    )
 
 -- ---- blocks
 
@@ -207,7 +227,7 @@ orders-go ps w c [] names family ready m p f = (tt, ready, m)
 orders-go ps w c (Ordered g s n o ∷ xs) names family ready m p f =
     let a = order-goes ps w c g s n o names family ready m f.0 in
     one-more ps w c (Ordered g s n o) xs a (orders-go ps (world_past.after w (told ps (Ordered g s n o))) (Ordered g s n o ∷ c) xs names
-        family a.1 a.2 p f.1)
+    family a.1 a.2 p f.1)
 orders-go ps w c (Opened g s ∷ xs) names family ready m p f = absurd (no p)
 orders-go ps w c (Cut g s ∷ xs) names family ready m p f = absurd (no p)
 orders-go ps w c (Answered g s n a ∷ xs) names family ready m p f = absurd (no p)
@@ -220,7 +240,7 @@ going-goes : (ps : List Peer) (w : List happened.Act.Act) (c : List ControllerAc
 going-goes ps w c a names family p f =
     one-more ps w c a (asked_then (a ∷ c) (asked (a ∷ c) a)) p
     (orders-go ps (world_past.after w (told ps a)) (a ∷ c) (asked_then (a ∷ c) (asked (a ∷ c) a)) names family p.1 p.2 (then-orders c a)
-        f.1)
+    f.1)
 
 -- what an answer needs of the world: the gateway's next answer is this one
 abbrev pub AnswerFits : List Peer → List happened.Act.Act → ControllerEvent → Type 0
@@ -256,11 +276,11 @@ by-refusal-goes ps w c x (Some r) names family ready m f = let a = refused-goes 
 answer-goes : (ps : List Peer) (w : List happened.Act.Act) (c : List ControllerAct) (g : ℕ) (a : Answer) (os : List ControllerOrder)
     → Named ps → Family ps → law.is_ready w ≡ true → Meet ps w c → g < length ps
     → sessions.next_answer (peer_name ps g) w ≡ Some a → ControllerMayActAll (length ps) c (by_answer c g a os)
-        → Told_all ps w c (by_answer c g a os)
+    → Told_all ps w c (by_answer c g a os)
 answer-goes ps w c g a [] names family ready m i next f = (tt, ready, m)
 answer-goes ps w c g a (o ∷ os) names family ready m i next f =
     let b = next-open (sessions.is_open (peer_name ps g) w) (sessions.answer_at (peer_name ps g) (sessions.openings (peer_name ps g) w)
-        (sessions.answered (peer_name ps g) (sessions.openings (peer_name ps g) w) w + 1) w) a next in
+    (sessions.answered (peer_name ps g) (sessions.openings (peer_name ps g) w) w + 1) w) a next in
     let q = openings-meet ps w c g names m i in
     let k = answered-meet ps w c g names m i in
     let at1 : sessions.answer_at (peer_name ps g) (openings g c) (sessions.answered (peer_name ps g) (openings g c) w + 1) w ≡ Some a =
@@ -275,19 +295,19 @@ pub block-goes : (ps : List Peer) (w : List happened.Act.Act) (c : List Controll
     → Told_all ps w c (block ps c e)
 block-goes ps w c (Told x) names family ready m i next =
     by-refusal-goes ps w c (placed_command ps x) (refusal (length ps) c (placed_command ps x)) names family ready m
-        (may-block ps c (Told x))
+    (may-block ps c (Told x))
 block-goes ps w c (Opens g) names family ready m i next =
     let own : ControllerAct = Opened g (openings g c + 1) in
     let f = may-block ps c (Opens g) in
     if-told ps w c (is_open g c) [] (going c own) (λ e. (tt, ready, m))
     (λ e. let f2 = may-false (length ps) c (is_open g c) [] (going c own) f e in
-        going-goes ps w c own names family (opened-goes ps w c g (openings g c + 1) names ready m i f2.0) f2)
+    going-goes ps w c own names family (opened-goes ps w c g (openings g c + 1) names ready m i f2.0) f2)
 block-goes ps w c (Cuts g) names family ready m i next =
     let own : ControllerAct = Cut g (openings g c) in
     let f = may-block ps c (Cuts g) in
     if-told ps w c (is_open g c) (going c own) []
     (λ e. let f2 = may-true (length ps) c (is_open g c) (going c own) [] f e in
-        going-goes ps w c own names family (cut-goes ps w c g (openings g c) names ready m f2.0) f2)
+    going-goes ps w c own names family (cut-goes ps w c g (openings g c) names ready m f2.0) f2)
     (λ e. (tt, ready, m))
 block-goes ps w c (Answers g a) names family ready m i next = answer-goes ps w c g a (queue g c) names family ready m i next
     (may-block ps c (Answers g a))
@@ -296,5 +316,5 @@ block-goes ps w c (Notices g t) names family ready m i next =
     let f = may-block ps c (Notices g t) in
     if-told ps w c (is_open g c) (going c own) []
     (λ e. let f2 = may-true (length ps) c (is_open g c) (going c own) [] f e in
-        going-goes ps w c own names family (heard-goes ps w c g (openings g c) t ready m f2.0) f2)
+    going-goes ps w c own names family (heard-goes ps w c g (openings g c) t ready m f2.0) f2)
     (λ e. (tt, ready, m))

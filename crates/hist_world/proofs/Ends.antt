@@ -49,15 +49,15 @@ not-forged gs g o t p half own h l m =
     let b = esp-is o d.comes.packet d.comes.view in
     let e : SadEntry = d.half in
     let v5 : is_half_forged g h (esp_of o) (Some e) ≡ false =
-        sent-not true (is_fresh (verdict_over e.window (numbers_taken g e.name h) (number_of e (numbers_taken g e.name h) (esp_of o))))
-        (does_open (opened (keying e.spi e.key) (esp_of o))) (is_sealed (other_half e.name) (esp_of o) h) sealed in
+    sent-not true (is_fresh (verdict_over e.window (numbers_taken g e.name h) (number_of e (numbers_taken g e.name h) (esp_of o))))
+    (does_open (opened (keying e.spi e.key) (esp_of o))) (is_sealed (other_half e.name) (esp_of o) h) sealed in
     let v4 : is_half_forged g h (esp_of o) (by_spi (spi_of (esp_of o)) (live g h)) ≡ false =
-        subst (λ (z : Option SadEntry). is_half_forged g h (esp_of o) z ≡ false) (sym d.comes.found) v5 in
+    subst (λ (z : Option SadEntry). is_half_forged g h (esp_of o) z ≡ false) (sym d.comes.found) v5 in
     let v3 : is_esp_forged g h (esp_of o) ≡ false =
-        and_right (not (nat_lt (length (esp_of o)) 34)) (is_half_forged g h (esp_of o) (by_spi (spi_of (esp_of o)) (live g h))) v4 in
+    and_right (not (nat_lt (length (esp_of o)) 34)) (is_half_forged g h (esp_of o) (by_spi (spi_of (esp_of o)) (live g h))) v4 in
     let v2 : is_esp_forged g h d.comes.packet.payload ≡ false = subst (λ (z : List ℕ). is_esp_forged g h z ≡ false) b v3 in
     let v1 : is_view_forged g own h (Ok d.comes.packet) ≡ false =
-        and_right (is_sealed_for own d.comes.packet) (is_esp_forged g h d.comes.packet.payload) v2 in
+    and_right (is_sealed_for own d.comes.packet) (is_esp_forged g h d.comes.packet.payload) v2 in
     subst (λ (r : Result Packet NotPacket). is_view_forged g own h r ≡ false) (sym d.comes.view) v1
 
 -- where no question is open, none is at the end
@@ -97,15 +97,15 @@ pub last-history : (shows : Shows) (header : Header) (p : Past) (es : List Event
 last-history shows header p [] i k s = ready-last header.gateways p.world s.ready
 last-history shows header p (e ∷ es) i k s =
     last-case (is_forged_event header p e) refl (λ t. last-history shows header (past_after shows header p e) es i k.1 t) where
-  last-case : (b : Bool) → is_forged_event header p e ≡ b
-      → (Stands header (past_after shows header p e)
+      last-case : (b : Bool) → is_forged_event header p e ≡ b
+          → (Stands header (past_after shows header p e)
           → IsLastSafe header.gateways (after (past_after shows header p e).world (history shows header (past_after shows header p e) es)))
-      → IsLastSafe header.gateways
+          → IsLastSafe header.gateways
           (after p.world (block shows header p e ++ unless_forged b (history shows header (past_after shows header p e) es)))
-  last-case true f ih =
-      subst (λ z. IsLastSafe header.gateways (after p.world z)) (sym (append-nil (block shows header p e)))
+      last-case true f ih =
+          subst (λ z. IsLastSafe header.gateways (after p.world z)) (sym (append-nil (block shows header p e)))
           (forged-block shows header p e s f)
-  last-case false f ih =
-      subst (IsLastSafe header.gateways)
+      last-case false f ih =
+          subst (IsLastSafe header.gateways)
           (sym (after-append p.world (block shows header p e) (history shows header (past_after shows header p e) es)))
           (ih (step shows header p e i k.0 s f).stands)

@@ -65,14 +65,14 @@ goings-follow : (g : List ℕ) (h : List Act) (es : List SadEntry) → are_follo
 goings-follow g h [] = refl
 goings-follow g h (e ∷ es) =
     either (is_reached e.hard (counts g e.name h)) (acts.Gone g e.name gone.Hard ∷ goings g h es) (goings g h es) (goings-follow g h es)
-        (goings-follow g h es)
+    (goings-follow g h es)
 
 expiries-follow : (g : List ℕ) (h : List Act) (es : List SadEntry) → are_followers (expiries g h es) ≡ true
 expiries-follow g h [] = refl
 expiries-follow g h (e ∷ es) =
     let ns : List Notice = expiry e.name (counts g e.name h) (event_of g h e) in
     joined (given_by g (sessions.session_taken g h) ns) (expiries g h es) (given-follows g (sessions.session_taken g h) ns)
-        (expiries-follow g h es)
+    (expiries-follow g h es)
 
 pub look-follows : (g : List ℕ) (h : List Act) (es : List SadEntry) → are_followers (look g h es) ≡ true
 look-follows g h es = joined (goings g h es) (expiries g h es) (goings-follow g h es) (expiries-follow g h es)

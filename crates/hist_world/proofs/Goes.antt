@@ -81,7 +81,7 @@ pub ends : {shows : Shows} {header : Header} {p q : Past} {es : List Event} {xs 
 ends {shows = shows} {header = header} {p = p} {q = q} {es = es} {xs = xs} e fs ys a f w =
     let more : List Act = history shows header (past_after shows header q e) fs in
     let last : history shows header q (e ∷ fs) ≡ ys = ap (λ b. block shows header q e ++ unless_forged b more) f
-        ∙ append-nil (block shows header q e) ∙ w in
+    ∙ append-nil (block shows header q e) ∙ w in
     history-more shows header p es (e ∷ fs) a.genuine ∙ ap (λ z. z ++ history shows header (past_at shows header p es) (e ∷ fs)) a.acts
     ∙ ap (λ z. xs ++ history shows header z (e ∷ fs)) a.past ∙ ap (λ z. xs ++ z) last
 
@@ -110,7 +110,7 @@ arrives shows header p e c o xs m f w =
     let first : gateway_acts shows header h e ≡ xs = m.acts ∙ by-genuine h o c xs f w in
     let all : gateway_acts shows header h e ++ all_told header.gateways (controller_acts header p e) ≡ xs =
     ap (λ z. z ++ all_told header.gateways (controller_acts header p e)) first ∙ ap (λ z. xs ++ all_told header.gateways z) m.none
-        ∙ append-nil xs in
+    ∙ append-nil xs in
     let own : block shows header p e ≡ acts.Took (events_taken p.world + 1) ∷ xs = ap (λ z. acts.Took (events_taken p.world + 1) ∷ z) all in
     record {
       acts = ap (λ b. block shows header p e ++ unless_forged b []) genuine ∙ append-nil (block shows header p e) ∙ own;
@@ -129,7 +129,7 @@ pub genuine-no-half : (g : List ℕ) (own : Addr) (h : List Act) (o : List ℕ) 
 genuine-no-half g own h o v e n =
     let b : List ℕ = v.payload in
     forged-view g own h o v e (and_right (not (nat_lt (length b) 34)) (is_half_forged g h b (by_spi (spi_of b) (live g h)))
-        (ap (is_half_forged g h b) n))
+    (ap (is_half_forged g h b) n))
 
 -- or its octets were sent
 pub genuine-sent : (g : List ℕ) (own : Addr) (h : List Act) (o : List ℕ) (v : Packet) (d : SadEntry) → view_of o ≡ Ok v
@@ -141,9 +141,9 @@ genuine-sent g own h o v d e n s =
     let opens : Bool = does_open (opened (keying d.spi d.key) b) in
     let last : (fresh && (opens && not (is_sealed (other_half d.name) b h))) ≡ false =
     and_right fresh (opens && not (is_sealed (other_half d.name) b h)) (and_right opens (not (is_sealed (other_half d.name) b h))
-        (ap (λ (z : Bool). not z) s)) in
+    (ap (λ (z : Bool). not z) s)) in
     forged-view g own h o v e (and_right (not (nat_lt (length b) 34)) (is_half_forged g h b (by_spi (spi_of b) (live g h)))
-        (ap (is_half_forged g h b) n ∙ last))
+    (ap (is_half_forged g h b) n ∙ last))
 
 -- or they don't open
 pub genuine-closed : (g : List ℕ) (own : Addr) (h : List Act) (o : List ℕ) (v : Packet) (d : SadEntry) → view_of o ≡ Ok v
@@ -156,14 +156,14 @@ genuine-closed g own h o v d e n s =
     let last : (fresh && (does_open (opened (keying d.spi d.key) b) && after_opening)) ≡ false =
     and_right fresh (does_open (opened (keying d.spi d.key) b) && after_opening) (ap (λ z. does_open z && after_opening) s) in
     forged-view g own h o v e (and_right (not (nat_lt (length b) 34)) (is_half_forged g h b (by_spi (spi_of b) (live g h)))
-        (ap (is_half_forged g h b) n ∙ last))
+    (ap (is_half_forged g h b) n ∙ last))
 
 -- ---- what answers it
 
 pub answers-text : (g : List ℕ) (own : Addr) (h : List Act) (o : List ℕ) (v : Packet) (d : SadEntry) (n : ℕ) (text : Option (List ℕ))
     → view_of o ≡ Ok v → is_sealed_for own v ≡ true → nat_lt (length v.payload) 34 ≡ false
     → by_spi (spi_of v.payload) (live g h) ≡ Some d → seq_of v.payload ≡ n → verdict_over d.window (numbers_taken g d.name h) n ≡ Fresh
-        → opened (keying d.spi d.key) v.payload ≡ text → arrive_acts g own h o ≡ by_text g h d n text
+    → opened (keying d.spi d.key) v.payload ≡ text → arrive_acts g own h o ≡ by_text g h d n text
 unfolding arrive_acts
 answers-text g own h o v d n text e own_is long found number fresh opens =
     let b : List ℕ = v.payload in
@@ -178,7 +178,7 @@ answers-text g own h o v d n text e own_is long found number fresh opens =
 pub answers-seen : (g : List ℕ) (own : Addr) (h : List Act) (o : List ℕ) (v : Packet) (d : SadEntry) (n : ℕ) → view_of o ≡ Ok v
     → is_sealed_for own v ≡ true → nat_lt (length v.payload) 34 ≡ false
     → by_spi (spi_of v.payload) (live g h) ≡ Some d → seq_of v.payload ≡ n → verdict_over d.window (numbers_taken g d.name h) n ≡ Seen
-        → arrive_acts g own h o ≡ drops g why.Seen
+    → arrive_acts g own h o ≡ drops g why.Seen
 unfolding arrive_acts
 answers-seen g own h o v d n e own_is long found number seen =
     let b : List ℕ = v.payload in
@@ -192,7 +192,7 @@ answers-seen g own h o v d n e own_is long found number seen =
 pub answers-no-half : (g : List ℕ) (own : Addr) (h : List Act) (o : List ℕ) (v : Packet) (spi : ℕ) (xs : List Act) → view_of o ≡ Ok v
     → is_sealed_for own v ≡ true → nat_lt (length v.payload) 34 ≡ false
     → spi_of v.payload ≡ spi → by_spi spi (live g h) ≡ None → acts.Drop g why.BadSpi
-        ∷ unless (does_bad_spi_stand g spi h) (tells g h (notices.BadSpi spi)) ≡ xs → arrive_acts g own h o ≡ xs
+    ∷ unless (does_bad_spi_stand g spi h) (tells g h (notices.BadSpi spi)) ≡ xs → arrive_acts g own h o ≡ xs
 unfolding arrive_acts
 answers-no-half g own h o v spi xs e own_is long named found w =
     let b : List ℕ = v.payload in
@@ -221,6 +221,8 @@ quiet-one header p e q = refl
 
 pub quiet : (shows : Shows) (header : Header) (p : Past) (es : List Event) → list_all is_quiet es ≡ true → AreGenuine shows header p es
 quiet shows header p [] q = tt
-quiet shows header p (e ∷ es) q =
-    (quiet-one header p e (both-left (is_quiet e) (list_all is_quiet es) q), quiet shows header (past_after shows header p e) es
-        (both-right (is_quiet e) (list_all is_quiet es) q))
+quiet shows header p (e ∷ es) q = (
+  quiet-one header p e (both-left (is_quiet e) (list_all is_quiet es) q),
+  quiet shows header (past_after shows header p e) es
+      (both-right (is_quiet e) (list_all is_quiet es) q),
+)

@@ -43,7 +43,7 @@ idle : (gs : List Peer) (g : List ℕ) (h : List Act) → IsLawful gs h → hand
 idle gs g [] l = refl
 idle gs g (acts.Handled f t k a ∷ h) l =
     let some : t ≡ 0 → ⊥ = λ z. no-request (session_taken f h) (order_at f (session_taken f h) (handled f (session_taken f h) h + 1) h)
-        l.0.2.0 (sym l.0.0 ∙ z) l.0.2.1 in
+    l.0.2.0 (sym l.0.0 ∙ z) l.0.2.1 in
     plus-if (is_session f t g 0) (handled g 0 h) (idle-not (bytes_eq f g) (t == 0) (λ e. some (eq-nat t 0 e))) (idle gs g h l.1)
 idle gs g (a ∷ h) l = idle gs g h l.1
 
@@ -119,7 +119,7 @@ handle-goes gs g s k n (asks.Remove x) h i = remove-goes gs g s k n x h i
 pub handle-may : (gs : List Peer) (g : List ℕ) (n : ℕ) (o : Order) (h : List Act) → IsLawful gs (acts.Took n ∷ h)
     → next_request g (acts.Took n ∷ h) ≡ Some o
     → Goes gs (acts.Took n ∷ h) (handle_acts g (session_taken g (acts.Took n ∷ h)) (requests g (acts.Took n ∷ h) + 1) (acts.Took n ∷ h)
-        (Ok (ask_of o)))
+    (Ok (ask_of o)))
 handle-may gs g n o h l next =
     let w : List Act = acts.Took n ∷ h in
     let m : requests g w + 1 ≡ handled g (session_taken g w) w + 1 = ap (λ (z : ℕ). z + 1) (requests-are g w (numbered gs g w l)) in

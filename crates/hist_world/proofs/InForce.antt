@@ -24,7 +24,7 @@ order-stays : (gs : List Peer) (g : List ℕ) (s k : ℕ) (o : Order) (a : Act) 
     → order_at g s k (a ∷ h) ≡ Some o
 order-stays gs g s k o (acts.Order f t j r) h l e =
     let new = not-new (is_session f t g s && (j == k)) k (orders g s h) (count-at orders f t j g s k h l.0.3)
-        (order-bound gs g s k o h l.1 e) in
+    (order-bound gs g s k o h l.1 e) in
     if-old (is_session f t g s && (j == k)) (Some r) (order_at g s k h) new ∙ e
 order-stays gs g s k o a h l e = e
 
@@ -187,7 +187,7 @@ new-list gs g all at list h l ready next p q =
     let m : ℕ = handled g t h + 1 in
     let order : order_at g t m h ≡ Some (asks.Policy list) = next-is g (asks.Policy list) h next in
     let last : t ≡ openings g h = taken-is t (openings g h) (taken-last gs g h l) (some-session t (order_at g t m h) (asks.Policy list)
-        next) in
+    next) in
     let stands = p.stands t m list order in
     record {
       session = t;
@@ -208,22 +208,22 @@ new-list gs g all at list h l ready next p q =
           let m : ℕ = handled g t h + 1 in
           let order : order_at g t m h ≡ Some (asks.Policy list) = next-is g (asks.Policy list) h next in
           let last : t ≡ openings g h =
-              taken-is t (openings g h) (taken-last gs g h l) (some-session t (order_at g t m h) (asks.Policy list) next) in
+          taken-is t (openings g h) (taken-last gs g h l) (some-session t (order_at g t m h) (asks.Policy list) next) in
           let low = ready-behind g q.session q.number h ready q.behind in
           let late = lower q.session (openings g h) q.number m t q.opened last
           (λ e. let same : handled g q.session h ≡ handled g t h = ap (λ (z : ℕ). handled g z h) e in omega (arith, low, same)) in
           between-more 0 (at q.session q.number) (at t m) all (put_in_force g h) list q.stand
-              (p.rises q.session q.number t m q.list list q.order order late) w
+          (p.rises q.session q.number t m q.list list q.order order late) w
 
 new-case : (gs : List Peer) (g : List ℕ) (all : List (List SpdEntry)) (at : ℕ → ℕ → ℕ) (f : List ℕ) (list : List SpdEntry) (h : List Act)
     (b : Bool) → bytes_eq f g ≡ b → IsLawful gs (acts.Policy f list ∷ h)
     → Placing g all at h → Ordered g all at h (put_in_force g h) → Ordered g all at (acts.Policy f list ∷ h) (if b then put_in_force g h
-        ++ list ∷ [] else put_in_force g h)
+    ++ list ∷ [] else put_in_force g h)
 new-case gs g all at f list h true e l p q =
     let same = name-is f g e in
     let next : next_request g h ≡ Some (asks.Policy list) = ap (λ (z : List ℕ). next_request z h) (sym same) ∙ l.0.1 in
     subst (λ (z : List ℕ). Ordered g all at (acts.Policy z list ∷ h) (put_in_force g h ++ list ∷ [])) (sym same)
-        (inr (new-list gs g all at list h l.1 l.0.0 next p q))
+    (inr (new-list gs g all at list h l.1 l.0.0 next p q))
 new-case gs g all at f list h false e l p q = ordered-more gs g all at (acts.Policy f list) h (put_in_force g h) l q
 
 ordered : (gs : List Peer) (g : List ℕ) (all : List (List SpdEntry)) (at : ℕ → ℕ → ℕ) (h : List Act) → IsLawful gs h → Placing g all at h

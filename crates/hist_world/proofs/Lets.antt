@@ -137,17 +137,17 @@ let-half : (g o : List ℕ) (q : ℕ) (h : List Act) (v : Packet) (p : SpdEntry)
 let-half g o q h v p None =
     let told : List Act = tells g h (notices.Acquire p.name (flow_of v)) in
     shaped (LetAnswer g) (acts.Drop g why.NoSa) (unless (does_acquire_stand g p.name h) told) refl
-        (unless-follows (does_acquire_stand g p.name h) told refl)
+    (unless-follows (does_acquire_stand g p.name h) told refl)
 let-half g o q h v p (Some e) =
     let told : List Act = tells g h (notices.SeqOverflow e.name) in
     let n : ℕ = sent g e.name h + 1 in
     let d : List ℕ = datagram e n v o in
     shaped-if (LetAnswer g) (nat_le q (sent g e.name h)) (acts.Drop g why.SeqLimit ∷ unless (was_overflow_given g e.name h) told)
-        (send_acts g h e n d)
+    (send_acts g h e n d)
     (shaped (LetAnswer g) (acts.Drop g why.SeqLimit) (unless (was_overflow_given g e.name h) told) refl
-        (unless-follows (was_overflow_given g e.name h) told refl))
+    (unless-follows (was_overflow_given g e.name h) told refl))
     (shaped (LetAnswer g) (acts.Sent g e.name n d) (look g (acts.Sent g e.name n d ∷ h) (e ∷ [])) refl
-        (look-follows g (acts.Sent g e.name n d ∷ h) (e ∷ [])))
+    (look-follows g (acts.Sent g e.name n d ∷ h) (e ∷ [])))
 
 let-action : (g o : List ℕ) (q : ℕ) (h : List Act) (v : Packet) (p : SpdEntry) (a : Action)
     → Shaped (LetAnswer g) (let_by_action g q h o v p a)
@@ -164,7 +164,7 @@ let-view : (g o : List ℕ) (q : ℕ) (h : List Act) (r : Result Packet NotPacke
 let-view g o q h (Err fault) = shaped (LetAnswer g) (acts.Drop g (fault_why fault)) [] refl refl
 let-view g o q h (Ok v) =
     shaped-if (LetAnswer g) (nat_lt 65000 (length o)) (acts.Drop g why.TooLong ∷ [])
-        (let_by_entry g q h o v (first_entry (force g h) Out v))
+    (let_by_entry g q h o v (first_entry (force g h) Out v))
     (shaped (LetAnswer g) (acts.Drop g why.TooLong) [] refl refl) (let-entry g o q h v (first_entry (force g h) Out v))
 
 pub let-shape : (g o : List ℕ) (q : ℕ) (h : List Act) → Shaped (LetAnswer g) (let_acts g q h o)
@@ -175,8 +175,14 @@ clear-may : (h : List Act) (f o : List ℕ) → IsLetOut h f o → ClearIsLet h 
 clear-may h f o s = record {
   older = s.let_before.older;
   let_before = s.let_before.before;
-  bypass = record { packet = s.packet; entry = s.entry; view = s.let_before.view; first = s.let_before.first; action =
-      s.let_before.action };
+  bypass = record {
+    packet = s.packet;
+    entry = s.entry;
+    view = s.let_before.view;
+    first = s.let_before.first;
+    action =
+        s.let_before.action;
+  };
 }
 
 answer-may : (gs : List Peer) (c : Gateway) (g o : List ℕ) (h : List Act) (a : Act) → IsLawful gs h → c.seq_last < 2 ^ 32
@@ -192,7 +198,7 @@ answer-may gs c g o h a l low fits m = absurd fits
 pub let-may : (gs : List Peer) (c : Gateway) (g o : List ℕ) (h : List Act) → IsLawful gs h → c.seq_last < 2 ^ 32
     → GatewayMayActAll c (acts.Let g o ∷ h) (let_acts g c.seq_last (acts.Let g o ∷ h) o)
     → AllMayHappen gs (acts.Let g o ∷ h) (let_acts g c.seq_last (acts.Let g o ∷ h) o)
-        × (is_ready (after (acts.Let g o ∷ h) (let_acts g c.seq_last (acts.Let g o ∷ h) o)) ≡ true)
+    × (is_ready (after (acts.Let g o ∷ h) (let_acts g c.seq_last (acts.Let g o ∷ h) o)) ≡ true)
 let-may gs c g o h l low all =
     let w : List Act = acts.Let g o ∷ h in
     let s = let-shape g o c.seq_last w in

@@ -31,9 +31,12 @@ IsLater s n t m = (s < t) ⊎ ((s ≡ t) × (n < m))
 
 spot-is : (g s n f t k : ℕ) → is_spot g s n f t k ≡ true → (g ≡ f) × (s ≡ t) × (n ≡ k)
 spot-is g s n f t k e =
-    let two = both-left ((g == f) && (s == t)) (n == k) e in
-    (eq-nat g f (both-left (g == f) (s == t) two), eq-nat s t (both-right (g == f) (s == t) two), eq-nat n k
-        (both-right ((g == f) && (s == t)) (n == k) e))
+    let two = both-left ((g == f) && (s == t)) (n == k) e in (
+      eq-nat g f (both-left (g == f) (s == t) two),
+      eq-nat s t (both-right (g == f) (s == t) two),
+      eq-nat n k
+          (both-right ((g == f) && (s == t)) (n == k) e),
+    )
 
 -- ---- places
 
@@ -105,9 +108,12 @@ old p g s n o (Opened f t ∷ h) l e =
     record { opened = w.0; given = w.1 }
 old p g s n o (Ordered f t k r ∷ h) l e =
     let new : is_spot g s n f t k ≡ true → ((g == f) ≡ true) × (s ≡ openings g h) × (n ≡ orders g h + 1) = λ z.
-    let q = spot-is g s n f t k z in
-    (both-left (g == f) (s == t) (both-left ((g == f) && (s == t)) (n == k) z), q.1 ∙ l.0.0 ∙ ap (λ (x : ℕ). openings x h) (sym q.0), q.2
-        ∙ l.0.1 ∙ ap (λ (x : ℕ). orders x h + 1) (sym q.0)) in
+    let q = spot-is g s n f t k z in (
+      both-left (g == f) (s == t) (both-left ((g == f) && (s == t)) (n == k) z),
+      q.1 ∙ l.0.0 ∙ ap (λ (x : ℕ). openings x h) (sym q.0),
+      q.2
+          ∙ l.0.1 ∙ ap (λ (x : ℕ). orders x h + 1) (sym q.0),
+    ) in
     let w = old-ordered (is_spot g s n f t k) (g == f) s n (openings g h) (orders g h) r (numbered g s n h) o new
     (λ z. let q = old p g s n o h l.1 z in (q.opened, q.given)) e in
     record { opened = w.0; given = w.1 }
@@ -142,7 +148,7 @@ pub place-rises : (p g s n t m : ℕ) (o r : ControllerOrder) (h : List Controll
 place-rises p g s n t m o r [] l e f i = cc
 place-rises p g s n t m o r (Ordered x u k q ∷ h) l e f i =
     rise-case (is_spot g s n x u k) (is_spot g t m x u k) (length (lists_accepted g h) - 1) (list_place g s n h) (list_place g t m h) q q
-        (numbered g s n h) (numbered g t m h) o r
+    (numbered g s n h) (numbered g t m h) o r
     (place-low g s n h)
     (λ b z. not-later g s n t m x u k h i (spot-is g s n x u k b) l.0.0 l.0.1 (old p g t m r h l.1 z))
     (λ a z. place-rises p g s n t m o r h l.1 a z i) e f

@@ -126,7 +126,7 @@ put-made : (ps : List Peer) (w : List happened.Act.Act) (c : List ControllerAct)
     → next_request g w ≡ Some (asks.Put e) → (reply (tree_of g w) (ask_of (asks.Put e))).status ≡ 201
 put-made ps w c g e l m names all r next =
     made-reply (tree_of g w) e (row-is-live g e.name w ∙ name-free ps g g e w l r next) (spi-free ps g e w l r next)
-        (room ps w c g e l m names (plain ps w c l m names all) r next)
+    (room ps w c g e l m names (plain ps w c l m names all) r next)
 
 -- the answer to the next request, whatever it is
 pub next-made : (ps : List Peer) (w : List happened.Act.Act) (c : List ControllerAct) (g : List ℕ) (o : tree.Order.Order) → IsLawful ps w

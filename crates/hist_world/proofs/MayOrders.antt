@@ -78,11 +78,11 @@ uses-key ps p part (Ordered g s k (Policy list) ∷ h) l e = uses-older part g s
 uses-key ps p part (Ordered g s k (PutIn y) ∷ h) l e =
     uses-case {A = UsesKey part (Ordered g s k (PutIn y) ∷ h)} (bytes_eq (aes_part y.key) part) (world.is_key_used part (past_told ps h))
     (λ q. (y, inl (refl, sym l.0.3.at), name-is (aes_part y.key) part q))
-        (λ q. uses-older part g s k (PutIn y) h (uses-key ps p part h l.1 q)) e
+    (λ q. uses-older part g s k (PutIn y) h (uses-key ps p part h l.1 q)) e
 uses-key ps p part (Ordered g s k (PutOut y) ∷ h) l e =
     uses-case {A = UsesKey part (Ordered g s k (PutOut y) ∷ h)} (bytes_eq (aes_part y.key) part) (world.is_key_used part (past_told ps h))
     (λ q. (y, (out-home p (Ordered g s k (PutOut y) ∷ h) l g y (inl (refl, refl))).1, name-is (aes_part y.key) part q))
-        (λ q. uses-older part g s k (PutOut y) h (uses-key ps p part h l.1 q)) e
+    (λ q. uses-older part g s k (PutOut y) h (uses-key ps p part h l.1 q)) e
 uses-key ps p part (Ordered g s k (RemoveIn m) ∷ h) l e = uses-older part g s k (RemoveIn m) h (uses-key ps p part h l.1 e)
 uses-key ps p part (Ordered g s k (RemoveOut m) ∷ h) l e = uses-older part g s k (RemoveOut m) h (uses-key ps p part h l.1 e)
 
@@ -192,11 +192,11 @@ may-put-out ps g s k x h l names f =
     let b = before (length ps) h g (PutOut x) l.1 l.0.3 in
     let w = placings (length ps) h l.1 x.way (in-home (length ps) h l.1 x.way.receiver x put).known in
     let e = not-ended (is_ended x h) (not (has_answer PuttingOut x.serial h)) (not (is_out_ordered x.serial h))
-        (has_answer PuttingIn x.serial h) (is_read l.0.3.way.sender h) (is_read l.0.3.way.receiver h) l.0.3.may in
+    (has_answer PuttingIn x.serial h) (is_read l.0.3.way.sender h) (is_read l.0.3.way.receiver h) l.0.3.may in
     let i = in-half x.serial in
     let far : bytes_eq (peer_name ps x.way.receiver) (peer_name ps g) ≡ false =
     ap (λ (z : ℕ). bytes_eq (peer_name ps x.way.receiver) (peer_name ps z)) out.0 ∙ names x.way.receiver x.way.sender w.receiver w.sender
-        ∙ w.apart in
+    ∙ w.apart in
     record {
       serial = decimal x.serial;
       name = out-half x.serial;
@@ -229,11 +229,11 @@ may-remove-in ps g s k n h l names f =
     let low : n < 2 ^ 64 = subst (λ (z : ℕ). z < 2 ^ 64) (sym r.1) low0 in
     let o = in-order ps (length ps) x h low0 l.1 there in
     let order : world.was_order_given (in_name n) t ≡ true = in-ordered ps (length ps) n h low l.1
-        ∙ ap (λ (z : ℕ). was_ordered PuttingIn z h) r.1 ∙ given-in g x h put in
+    ∙ ap (λ (z : ℕ). was_ordered PuttingIn z h) r.1 ∙ given-in g x h put in
     let here : peer_name ps g ≡ world.site (in_name n) t = ap (peer_name ps) at ∙ sym o.site
-        ∙ ap (λ (z : ℕ). world.site (in_name z) t) (sym r.1) in
+    ∙ ap (λ (z : ℕ). world.site (in_name z) t) (sym r.1) in
     let Q : Type 0 = (world.was_order_given (out_half (decimal n)) t ≡ false) ⊎ (world.is_removal_answered (out_half (decimal n)) t ≡ true)
-        in
+    in
     let last : Q = elim (before (length ps) h g (RemoveIn n) l.1 l.0.3) as (λ z. Q) [
       | inl a ↦ inl (ap (λ (z : List ℕ). world.was_order_given z t) (sym (out-half n)) ∙ out-ordered ps (length ps) n h low l.1 ∙ a)
       | inr a ↦ inr (ap (λ (z : List ℕ). world.is_removal_answered z t) (sym (out-half n)) ∙ left-told ps (length ps) n h low l.1 names f a)
@@ -252,9 +252,9 @@ may-remove-out ps g s k n h l =
     let low0 = inbound-given ps (length ps) x h l.1 home.1 in
     let low : n < 2 ^ 64 = subst (λ (z : ℕ). z < 2 ^ 64) (sym r.1) low0 in
     let order : world.was_order_given (out_name n) t ≡ true = out-ordered ps (length ps) n h low l.1
-        ∙ ap (λ (z : ℕ). was_ordered PuttingOut z h) r.1 ∙ given-out g x h put in
+    ∙ ap (λ (z : ℕ). was_ordered PuttingOut z h) r.1 ∙ given-out g x h put in
     let here : peer_name ps g ≡ world.site (out_name n) t = sym (out-site ps (length ps) g x h low0 l.1 put)
-        ∙ ap (λ (z : ℕ). world.site (out_name z) t) (sym r.1) in
+    ∙ ap (λ (z : ℕ). world.site (out_name z) t) (sym r.1) in
     record { serial = decimal n; name = out-half n; order = order; here = here }
 
 -- each order may be given after the controller's acts as a transcript tells them

@@ -56,14 +56,14 @@ owner ps p x e (Ordered g s k Read ∷ h) l q = older ps e g s k Read h (owner p
 owner ps p x e (Ordered g s k (Policy list) ∷ h) l q = older ps e g s k (Policy list) h (owner ps p x e h l.1 q)
 owner ps p x e (Ordered g s k (PutIn y) ∷ h) l q =
     elim (if-cases (bytes_eq (in_name y.serial) x) (in_entry ps y) e (world.order_of x (past_told ps h)) q) as
-        (λ z. Owned ps e (Ordered g s k (PutIn y) ∷ h)) [
+    (λ z. Owned ps e (Ordered g s k (PutIn y) ∷ h)) [
       | inl r ↦ (y, inl (sym r.1, inl (refl, sym l.0.3.at)))
       | inr r ↦ older ps e g s k (PutIn y) h (owner ps p x e h l.1 r)
     ]
 owner ps p x e (Ordered g s k (PutOut y) ∷ h) l q =
     let home = out-home p (Ordered g s k (PutOut y) ∷ h) l g y (inl (refl, refl)) in
     elim (if-cases (bytes_eq (out_name y.serial) x) (out_entry ps y) e (world.order_of x (past_told ps h)) q) as
-        (λ z. Owned ps e (Ordered g s k (PutOut y) ∷ h)) [
+    (λ z. Owned ps e (Ordered g s k (PutOut y) ∷ h)) [
       | inl r ↦ (y, inr (sym r.1, inl (refl, sym home.0)))
       | inr r ↦ older ps e g s k (PutOut y) h (owner ps p x e h l.1 r)
     ]
@@ -92,10 +92,10 @@ given-made p x (Accepted c ∷ h) l i =
     let known = (in-home p h l.1 x.way.receiver x i).known in
     let low : x.way.id < 0 + length (directions h) = upto 0 (directions h) x.way (rising h) known in
     if-kept (is_made_by c (length (directions h)) x.way) x (made x.way h) (made-no c (length (directions h)) x.way (omega (arith, low)))
-        (given-made p x h l.1 i)
+    (given-made p x h l.1 i)
 given-made p x (Ordered g s k o ∷ h) l (inl e) =
     right-in x (made x.way h) (inbound_put x.way o) (subst (λ (z : ControllerOrder). Has x (inbound_put x.way z)) e.0
-        (if-one (x.way.id == x.way.id) x (self x.way.id)))
+    (if-one (x.way.id == x.way.id) x (self x.way.id)))
 given-made p x (Ordered g s k o ∷ h) l (inr i) = has-left x (made x.way h) (inbound_put x.way o) (given-made p x h l.1 i)
 
 pub left-or-gone : (p : ℕ) (x : Association) (h : List ControllerAct) → IsControllerPast p h → WasOrdered (PutIn x) x.way.receiver h
@@ -125,7 +125,7 @@ in-left-told ps p n (Answered g s k a ∷ h) i l names f q =
     let t = told-at ps p g s k a h l names f.1 f.0 in
     let m : Bool = world.is_removal (in_name n) (sessions.order_at (peer_name ps g) s k (past_told ps h)) in
     or-split {A = (m || world.is_removal_answered (in_name n) (past_told ps h)) ≡ true} (is_answer_to RemovingIn n (oldest (queue g h)))
-        (has_answer RemovingIn n h)
+    (has_answer RemovingIn n h)
     (λ w. or_left m (world.is_removal_answered (in_name n) (past_told ps h))
     (subst (λ (z : Option tree.Order.Order). world.is_removal (in_name n) z ≡ true) (sym t) (is-gone ps n (oldest (queue g h)) i w)))
     (λ w. or_right m (world.is_removal_answered (in_name n) (past_told ps h)) (in-left-told ps p n h i l.1 names f.1 w)) q

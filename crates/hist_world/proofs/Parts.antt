@@ -126,12 +126,22 @@ last-part serial h (inl a) = inl (ordered-part (out_half serial) h ∙ a)
 last-part serial h (inr a) = inr (left-part (out_half serial) h ∙ a)
 
 remove-in-part : (g x : List ℕ) (h : List Act) → RemoveInMayHappen g x (controllers_part h) → RemoveInMayHappen g x h
-remove-in-part g x h m = record { serial = m.serial; name = m.name; order = ordered-part x h ∙ m.order; here = m.here ∙ sym (site-part x h);
-    last = last-part m.serial h m.last }
+remove-in-part g x h m = record {
+  serial = m.serial;
+  name = m.name;
+  order = ordered-part x h ∙ m.order;
+  here = m.here ∙ sym (site-part x h);
+  last = last-part m.serial h m.last;
+}
 
 remove-out-part : (g x : List ℕ) (h : List Act) → RemoveOutMayHappen g x (controllers_part h) → RemoveOutMayHappen g x h
-remove-out-part g x h m = record { serial = m.serial; name = m.name; order = ordered-part x h ∙ m.order; here = m.here
-    ∙ sym (site-part x h) }
+remove-out-part g x h m = record {
+  serial = m.serial;
+  name = m.name;
+  order = ordered-part x h ∙ m.order;
+  here = m.here
+      ∙ sym (site-part x h);
+}
 
 put-part : (g : List ℕ) (e : SadEntry) (h : List Act) → PutInMayHappen e (controllers_part h) ⊎ PutOutMayHappen g e (controllers_part h)
     → PutInMayHappen e h ⊎ PutOutMayHappen g e h

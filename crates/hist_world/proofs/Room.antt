@@ -62,7 +62,7 @@ names-count : (g : ℕ) (h : List ControllerAct) (ds : List Way) → length (nam
 names-count g h [] = refl
 names-count g h (d ∷ ds) =
     count-if (is_at_gateway g d) (map (half_at g d) (left d h)) (names_at g h ds) (length (left d h)) (half_count g h ds)
-        (length-map (half_at g d) (left d h)) (names-count g h ds)
+    (length-map (half_at g d) (left d h)) (names-count g h ds)
 
 has-map : {A B : Type 0} (f : A → B) (x : A) (xs : List A) → Has x xs → Has (f x) (map f xs)
 has-map f x [] i = absurd i
@@ -82,7 +82,7 @@ names-has : (g : ℕ) (h : List ControllerAct) (ds : List Way) (d : Way) (x : As
 names-has g h [] d x i t j = absurd i
 names-has g h (c ∷ ds) d x (inl e) t j =
     names-new (is_at_gateway g c) (half_at g d x) (map (half_at g c) (left c h)) (names_at g h ds)
-        (subst (λ (z : Way). is_at_gateway g z ≡ true) e t)
+    (subst (λ (z : Way). is_at_gateway g z ≡ true) e t)
     (subst (λ (z : Way). Has (half_at g d x) (map (half_at g z) (left z h))) e (has-map (half_at g d) x (left d h) j))
 names-has g h (c ∷ ds) d x (inr i) t j = names-old (is_at_gateway g c) (half_at g d x) (map (half_at g c) (left c h)) (names_at g h ds)
     (names-has g h ds d x i t j)
@@ -108,7 +108,7 @@ gone-dead ps w c x l m names put e =
     let low = inbound-given ps (length ps) x c m.past put in
     let told = in-left-told ps (length ps) x.serial c low m.past names m.fit e in
     off-dead ps (in_name x.serial) w l (left-off ps (in_name x.serial) w l (left-part (in_name x.serial) w
-        ∙ ap (world.is_removal_answered (in_name x.serial)) m.part ∙ told))
+    ∙ ap (world.is_removal_answered (in_name x.serial)) m.part ∙ told))
 
 in-spot : (ps : List Peer) (w : List happened.Act.Act) (c : List ControllerAct) (x : Association) → IsLawful ps w → Meet ps w c → Named ps
     → WasOrdered (PutIn x) x.way.receiver c
@@ -120,7 +120,7 @@ in-spot ps w c x l m names put q =
     let known = (in-home (length ps) c m.past g x put).known in
     let o = in-order ps (length ps) x c low m.past put in
     let kept : Has x (left x.way c) = still-left (has_answer RemovingIn x.serial c) (λ e. q (gone-dead ps w c x l m names put e))
-        (left-or-gone (length ps) x c m.past put) in
+    (left-or-gone (length ps) x c m.past put) in
     let one = self g in
     let there = names-has g c (directions c) x.way x known (or_right (x.way.sender == g) (g == g) one) kept in
     record {
@@ -137,7 +137,7 @@ out-gone : (ps : List Peer) (w : List happened.Act.Act) (n : ℕ) → IsLawful p
     → (Dead (out_name n) w → ⊥) → Dead (in_name n) w → ⊥
 out-gone ps w n l o q d =
     let doomed : world.is_removal_ordered (in_half (decimal n)) w ≡ true = subst (λ (z : List ℕ). world.is_removal_ordered z w ≡ true)
-        (in-half n) d.0 in
+    (in-half n) d.0 in
     elim (last ps (decimal n) w l doomed) as (λ z. ⊥) [
       | inl e ↦ no (sym e ∙ subst (λ (z : List ℕ). world.was_order_given z w ≡ true) (out-half n) o)
       | inr e ↦ q (off-dead ps (out_name n) w l (subst (λ (z : List ℕ). world.is_removal_handled z w ≡ true) (sym (out-half n)) e))
@@ -155,7 +155,7 @@ out-spot ps w c x l m names sent order q =
     let place = placings (length ps) c m.past x.way known in
     let kept : Has x (left x.way c) =
     still-left (has_answer RemovingIn x.serial c) (λ e. out-gone ps w x.serial l order q (gone-dead ps w c x l m names put e))
-        (left-or-gone (length ps) x c m.past put) in
+    (left-or-gone (length ps) x c m.past put) in
     let there = names-has g c (directions c) x.way x known (or_left (g == g) (x.way.receiver == g) (self g)) kept in
     record {
       number = g;
@@ -175,14 +175,14 @@ spot-of ps w c e x l m names o q (inr i) =
     let y : e.name ≡ out_name x.serial = ap (λ (z : SadEntry). z.name) i.0 in
     subst (λ (z : List ℕ). Spot ps z w c) (sym y)
     (out-spot ps w c x l m names i.1 (subst (λ (z : List ℕ). world.was_order_given z w ≡ true) y o)
-        (λ d. q (subst (λ (z : List ℕ). Dead z w) (sym y) d)))
+    (λ d. q (subst (λ (z : List ℕ). Dead z w) (sym y) d)))
 
 spot : (ps : List Peer) (w : List happened.Act.Act) (c : List ControllerAct) (e : SadEntry) → IsLawful ps w → Meet ps w c → Named ps
     → world.order_of e.name w ≡ Some e
     → (Dead e.name w → ⊥) → Spot ps e.name w c
 spot ps w c e l m names o q =
     let told : world.order_of e.name (past_told ps c) ≡ Some e = ap (world.order_of e.name) (sym m.part) ∙ sym (order-of-part e.name w)
-        ∙ o in
+    ∙ o in
     let h = owner ps (length ps) e.name e c m.past told in
     spot-of ps w c e h.0 l m names (order-ordered e.name e w o) q h.1
 
@@ -219,7 +219,7 @@ fit (e ∷ es) ys a f =
     let t = others e.name ys (f e (inl refl)) in
     let new : has_half e.name es ≡ false = not-true (has_half e.name es) (both-left (not (has_half e.name es)) (are_apart es) a) in
     let more : (d : SadEntry) → IsOneOf d es → Has d.name t.0 =
-        λ d j. t.2 d.name (f d (inr j)) (λ q. no (sym new ∙ has-half d e.name es j q)) in
+    λ d j. t.2 d.name (f d (inr j)) (λ q. no (sym new ∙ has-half d e.name es j q)) in
     let i = fit es t.0 (both-right (not (has_half e.name es)) (are_apart es) a) more in
     let n = t.1 in
     grind (arith, i, n)
@@ -267,7 +267,7 @@ few-of ps w c g (d ∷ es) l m names plain e =
     let ys : List (List ℕ) = names_at s.number c (directions c) in
     let apart : are_apart (d ∷ es) ≡ true = subst (λ (z : List SadEntry). are_apart z ≡ true) e (live-apart ps g w l) in
     let each : (x : SadEntry) → IsOneOf x (d ∷ es) → Has x.name ys = λ x i. live-has ps w c g s.number x l m names s.known name
-        (subst (IsOneOf x) (sym e) i) in
+    (subst (IsOneOf x) (sym e) i) in
     at-most (fit (d ∷ es) ys apart each) (few-names (length ps) c s.number m.past plain) where
       at-most : {k n : ℕ} → k ≤ n → n ≤ 4096 → k ≤ 4096
       at-most p q = omega arith
@@ -284,15 +284,18 @@ pub room : (ps : List Peer) (w : List happened.Act.Act) (c : List ControllerAct)
 room ps w c g e l m names plain r next =
     let p = place ps g (session_taken g w) (handled g (session_taken g w) w + 1) e w l (next-is g (asks.Put e) w next) in
     let open_session : session_taken (world.site e.name w) w ≡ world.session_of e.name w = ap (λ (z : List ℕ). session_taken z w) p.1
-        ∙ sym p.2 in
+    ∙ sym p.2 in
     let s = spot ps w c e l m names p.4 (λ q. too-far g e.name (session_taken g w) w p.1 p.2 p.3 (q.1 open_session)) in
     let name : peer_name ps s.number ≡ g = sym s.site ∙ p.1 in
     let ys : List (List ℕ) = names_at s.number c (directions c) in
     let each : (d : SadEntry) → IsOneOf d (e ∷ live g w) → Has d.name ys = λ d i.
-    elim i as (λ z. Has d.name ys) [ inl q ↦ subst (λ (z : SadEntry). Has z.name ys) q s.has | inr j ↦ live-has ps w c g s.number d l m
-        names s.known name j ] in
+    elim i as (λ z. Has d.name ys) [
+      | inl q ↦ subst (λ (z : SadEntry). Has z.name ys) q s.has
+      | inr j ↦ live-has ps w c g s.number d l m
+          names s.known name j
+    ] in
     let new : not (has_half e.name (live g w)) ≡ true = ap not (live-is g e.name w ∙ name-free ps g g e w l r next) in
     let apart : are_apart (e ∷ live g w) ≡ true = and_from (not (has_half e.name (live g w))) (are_apart (live g w)) new
-        (live-apart ps g w l) in
+    (live-apart ps g w l) in
     full-not (length (map (row_of g w) (live g w))) (length (live g w)) (length ys) (length-map (row_of g w) (live g w))
-        (fit (e ∷ live g w) ys apart each) (few-names (length ps) c s.number m.past plain)
+    (fit (e ∷ live g w) ys apart each) (few-names (length ps) c s.number m.past plain)

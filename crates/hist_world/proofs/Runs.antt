@@ -54,9 +54,12 @@ gateway-case : (header : Header) (g : List ℕ) (c : node.Gateway) (p : Option P
     × (address_in p ≡ Some c.address) × (c.seq_last ≡ header.seq_last)
 gateway-case header g c None e = cc
 gateway-case header g c (Some p) e =
-    let w : record { name = g; address = p.address; seq_last = header.seq_last } ≡ c = some-is _ c e in
-    (sym (ap (λ (z : node.Gateway). z.name) w), ap Some (ap (λ (z : node.Gateway). z.address) w), sym
-        (ap (λ (z : node.Gateway). z.seq_last) w))
+    let w : record { name = g; address = p.address; seq_last = header.seq_last } ≡ c = some-is _ c e in (
+      sym (ap (λ (z : node.Gateway). z.name) w),
+      ap Some (ap (λ (z : node.Gateway). z.address) w),
+      sym
+          (ap (λ (z : node.Gateway). z.seq_last) w),
+    )
 
 gateway-is : (header : Header) (g : List ℕ) (c : node.Gateway) → gateway_at header g ≡ Some c → IsGateway header g c
 gateway-is header g c e = let q = gateway-case header g c (find (λ p. bytes_eq p.name g) header.gateways) e in
@@ -150,7 +153,7 @@ of-gateways header p xs s f =
     let e = append-nil xs in
     let may : AllMayHappen header.gateways w (xs ++ []) = subst (AllMayHappen header.gateways w) (sym e) f.may in
     let part : controllers_part (after w (xs ++ [])) ≡ controllers_part w = ap (λ z. controllers_part (after w z)) e
-        ∙ own-part w xs f.own in
+    ∙ own-part w xs f.own in
     record {
       may = (s.ready, may);
       stands = record {
@@ -164,7 +167,7 @@ of-gateways header p xs s f =
 of-controller : (header : Header) (p : Past) (e : controller.ControllerEvent) → IsHeader header → Stands header p
     → Told_all header.gateways (took p.world) p.controller (by_event header.gateways p.controller (Some e))
     → Step header p (acts.Took (events_taken p.world + 1) ∷ all_told header.gateways (by_event header.gateways p.controller (Some e)))
-        (by_event header.gateways p.controller (Some e))
+    (by_event header.gateways p.controller (Some e))
 of-controller header p e i s t = record {
   may = (s.ready, t.0);
   stands = record {
@@ -202,32 +205,32 @@ name-number g (p ∷ ps) i = name-case (bytes_eq p.name g) g p ps (name-is p.nam
 answer-event : (header : Header) (p : Past) (g : List ℕ) (a : Option Answer) → IsHeader header → IsKnown header g → Stands header p
     → next_answer g p.world ≡ a
     → Step header p (acts.Took (events_taken p.world + 1)
-        ∷ all_told header.gateways
-        (by_event header.gateways p.controller (Rattle.hist_world.specs.Block.answer_event (peer_number g header.gateways) a)))
-        (by_event header.gateways p.controller (Rattle.hist_world.specs.Block.answer_event (peer_number g header.gateways) a))
+    ∷ all_told header.gateways
+    (by_event header.gateways p.controller (Rattle.hist_world.specs.Block.answer_event (peer_number g header.gateways) a)))
+    (by_event header.gateways p.controller (Rattle.hist_world.specs.Block.answer_event (peer_number g header.gateways) a))
 answer-event header p g None i k s e = nothing-done header p s
 answer-event header p g (Some a) i k s e =
     let n : ℕ = peer_number g header.gateways in
     let next : next_answer (peer_name header.gateways n) (took p.world) ≡ Some a =
-        ap (λ (z : List ℕ). next_answer z p.world) (name-number g header.gateways k) ∙ e in
+    ap (λ (z : List ℕ). next_answer z p.world) (name-number g header.gateways k) ∙ e in
     of-controller header p (controller.Answers n a) i s (block-goes header.gateways (took p.world) p.controller (controller.Answers n a)
-        i.named i.family refl (took-meet header p s) k next)
+    i.named i.family refl (took-meet header p s) k next)
 
 notice-event : (header : Header) (p : Past) (g : List ℕ) (t : Option Notice) → IsHeader header → IsKnown header g → Stands header p
     → Step header p (acts.Took (events_taken p.world + 1)
-        ∷ all_told header.gateways
-        (by_event header.gateways p.controller (Rattle.hist_world.specs.Block.hears (peer_number g header.gateways) t)))
-        (by_event header.gateways p.controller (Rattle.hist_world.specs.Block.hears (peer_number g header.gateways) t))
+    ∷ all_told header.gateways
+    (by_event header.gateways p.controller (Rattle.hist_world.specs.Block.hears (peer_number g header.gateways) t)))
+    (by_event header.gateways p.controller (Rattle.hist_world.specs.Block.hears (peer_number g header.gateways) t))
 notice-event header p g None i k s = nothing-done header p s
 notice-event header p g (Some t) i k s =
     let n : ℕ = peer_number g header.gateways in
     of-controller header p (controller.Notices n t) i s (block-goes header.gateways (took p.world) p.controller (controller.Notices n t)
-        i.named i.family refl (took-meet header p s) k tt)
+    i.named i.family refl (took-meet header p s) k tt)
 
 told-event : (header : Header) (p : Past) (c : _) → IsHeader header → Stands header p
     → Step header p (acts.Took (events_taken p.world + 1)
-        ∷ all_told header.gateways (by_event header.gateways p.controller (Some (controller.Told c))))
-        (by_event header.gateways p.controller (Some (controller.Told c)))
+    ∷ all_told header.gateways (by_event header.gateways p.controller (Some (controller.Told c))))
+    (by_event header.gateways p.controller (Some (controller.Told c)))
 told-event header p c i s = of-controller header p (controller.Told c) i s (block-goes header.gateways (took p.world) p.controller
     (controller.Told c) i.named i.family refl (took-meet header p s) tt tt)
 
@@ -258,11 +261,11 @@ step shows header p (events.Wire g lane) i k s n =
 step shows header p (events.Open g) i k s n =
     let m : ℕ = peer_number g header.gateways in
     of-controller header p (controller.Opens m) i s (block-goes header.gateways (took p.world) p.controller (controller.Opens m) i.named
-        i.family refl (took-meet header p s) k tt)
+    i.family refl (took-meet header p s) k tt)
 step shows header p (events.Cut g) i k s n =
     let m : ℕ = peer_number g header.gateways in
     of-controller header p (controller.Cuts m) i s (block-goes header.gateways (took p.world) p.controller (controller.Cuts m) i.named
-        i.family refl (took-meet header p s) k tt)
+    i.family refl (took-meet header p s) k tt)
 step shows header p (events.Up g) i k s n = answer-event header p g (next_answer g p.world) i k s refl
 step shows header p (events.Note g) i k s n = notice-event header p g (next_notice g p.world) i k s
 step shows header p (events.Policy g list) i k s n = told-event header p (commands.Policy g list) i s
@@ -315,19 +318,19 @@ pub lawful-history : (shows : Shows) (header : Header) (p : Past) (es : List Eve
 lawful-history shows header p [] i k s = s.lawful
 lawful-history shows header p (e ∷ es) i k s =
     lawful-case (is_forged_event header p e) refl (λ t. lawful-history shows header (past_after shows header p e) es i k.1 t) where
-  lawful-case : (b : Bool) → is_forged_event header p e ≡ b
-      → (Stands header (past_after shows header p e)
+      lawful-case : (b : Bool) → is_forged_event header p e ≡ b
+          → (Stands header (past_after shows header p e)
           → IsLawful header.gateways (after (past_after shows header p e).world (history shows header (past_after shows header p e) es)))
-      → IsLawful header.gateways
+          → IsLawful header.gateways
           (after p.world (block shows header p e ++ unless_forged b (history shows header (past_after shows header p e) es)))
-  lawful-case true f ih =
-      let xs : List Act = block shows header p e in
-      let l = lawful-after header.gateways p.world xs s.lawful (forged-step shows header p e s f) in
-      subst (λ z. IsLawful header.gateways (after p.world z)) (sym (append-nil xs)) l
-  lawful-case false f ih =
-      let xs : List Act = block shows header p e in
-      let t = step shows header p e i k.0 s f in
-      subst (IsLawful header.gateways) (sym (after-append p.world xs (history shows header (past_after shows header p e) es))) (ih t.stands)
+      lawful-case true f ih =
+          let xs : List Act = block shows header p e in
+          let l = lawful-after header.gateways p.world xs s.lawful (forged-step shows header p e s f) in
+          subst (λ z. IsLawful header.gateways (after p.world z)) (sym (append-nil xs)) l
+      lawful-case false f ih =
+          let xs : List Act = block shows header p e in
+          let t = step shows header p e i k.0 s f in
+          subst (IsLawful header.gateways) (sym (after-append p.world xs (history shows header (past_after shows header p e) es))) (ih t.stands)
 
 pub stands-at : (shows : Shows) (header : Header) (p : Past) (es : List Event) → IsHeader header → AreEventsOf header es
     → AreGenuine shows header p es → Stands header p
@@ -343,4 +346,4 @@ history-at shows header p (e ∷ es) g =
     let xs : List Act = block shows header p e in
     let more : List Act = history shows header (past_after shows header p e) es in
     ap (λ b. after p.world (xs ++ unless_forged b more)) g.0 ∙ after-append p.world xs more
-        ∙ history-at shows header (past_after shows header p e) es g.1
+    ∙ history-at shows header (past_after shows header p e) es g.1

@@ -41,20 +41,35 @@ two last = record { seq_last = last; gateways = peer_a ∷ peer_b ∷ [] }
 
 -- 2001:db8:1::/48 behind a, 2001:db8:2::/48 behind b
 unfoldable pub behind_a : Prefix
-behind_a = record { addr = V6 (32 ∷ 1 ∷ 13 ∷ 184 ∷ 0 ∷ 1 ∷ 0 ∷ 0 ∷ 0 ∷ 0 ∷ 0 ∷ 0 ∷ 0 ∷ 0 ∷ 0 ∷ 0 ∷ []); len = 48; in_range = lit≤ tt;
-    cleared = refl }
+behind_a = record {
+  addr = V6 (32 ∷ 1 ∷ 13 ∷ 184 ∷ 0 ∷ 1 ∷ 0 ∷ 0 ∷ 0 ∷ 0 ∷ 0 ∷ 0 ∷ 0 ∷ 0 ∷ 0 ∷ 0 ∷ []);
+  len = 48;
+  in_range = lit≤ tt;
+  cleared = refl;
+}
 
 unfoldable pub behind_b : Prefix
-behind_b = record { addr = V6 (32 ∷ 1 ∷ 13 ∷ 184 ∷ 0 ∷ 2 ∷ 0 ∷ 0 ∷ 0 ∷ 0 ∷ 0 ∷ 0 ∷ 0 ∷ 0 ∷ 0 ∷ 0 ∷ []); len = 48; in_range = lit≤ tt;
-    cleared = refl }
+behind_b = record {
+  addr = V6 (32 ∷ 1 ∷ 13 ∷ 184 ∷ 0 ∷ 2 ∷ 0 ∷ 0 ∷ 0 ∷ 0 ∷ 0 ∷ 0 ∷ 0 ∷ 0 ∷ 0 ∷ 0 ∷ []);
+  len = 48;
+  in_range = lit≤ tt;
+  cleared = refl;
+}
 
 abbrev pub between : Prefix → Prefix → Selector
 between own other = record { local = own; remote = other; proto = None; local_ports = []; remote_ports = [] }
 
 -- what leaves one of them for the other one is protected
 abbrev pub protects : Prefix → Prefix → List SpdEntry
-protects own other = record { name = codes "o1"; direction = directions.Out; reqid = 10; window = 64; selector = between own other; action =
-    actions.Protect } ∷ []
+protects own other = record {
+  name = codes "o1";
+  direction = directions.Out;
+  reqid = 10;
+  window = 64;
+  selector = between own other;
+  action =
+      actions.Protect;
+} ∷ []
 
 abbrev pub list_a : List SpdEntry
 list_a = protects behind_a behind_b
@@ -67,8 +82,18 @@ limits time bytes packets idle = record { time = time; bytes = bytes; packets = 
 
 -- a tunnel with keys at once, and new ones after an hour
 abbrev pub tunnel : TunnelSpec
-tunnel = record { reqid = 10; now = true; first = a; second = b; first_prefix = behind_a; second_prefix = behind_b; window = 64; hard =
-    limits 0 0 0 0; soft = limits 3600 0 0 0 }
+tunnel = record {
+  reqid = 10;
+  now = true;
+  first = a;
+  second = b;
+  first_prefix = behind_a;
+  second_prefix = behind_b;
+  window = 64;
+  hard =
+      limits 0 0 0 0;
+  soft = limits 3600 0 0 0;
+}
 
 abbrev pub placed : PlacedTunnel
 placed = record { spec = tunnel; first = 0; second = 1 }

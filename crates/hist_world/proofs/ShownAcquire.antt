@@ -37,8 +37,15 @@ packet_4 = 69 ∷ 0 ∷ 0 ∷ 32 ∷ 0 ∷ 0 ∷ 64 ∷ 0 ∷ 64 ∷ 17 ∷ 38 �
     ∷ 98 ∷ 99 ∷ 100 ∷ []
 
 abbrev pub view_4 : Packet
-view_4 = record { src = V4 (10 ∷ 1 ∷ 0 ∷ 5 ∷ []); dst = V4 (10 ∷ 2 ∷ 0 ∷ 9 ∷ []); proto = 17; ports = Some (4660, 53); df = true; payload =
-    18 ∷ 52 ∷ 0 ∷ 53 ∷ 0 ∷ 12 ∷ 0 ∷ 0 ∷ 97 ∷ 98 ∷ 99 ∷ 100 ∷ [] }
+view_4 = record {
+  src = V4 (10 ∷ 1 ∷ 0 ∷ 5 ∷ []);
+  dst = V4 (10 ∷ 2 ∷ 0 ∷ 9 ∷ []);
+  proto = 17;
+  ports = Some (4660, 53);
+  df = true;
+  payload =
+      18 ∷ 52 ∷ 0 ∷ 53 ∷ 0 ∷ 12 ∷ 0 ∷ 0 ∷ 97 ∷ 98 ∷ 99 ∷ 100 ∷ [];
+}
 
 -- what the acquire tells of it: 10.1.0.5/32, 10.2.0.9/32, UDP, and the two ports
 abbrev pub flow : Selector

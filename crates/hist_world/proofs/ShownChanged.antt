@@ -60,7 +60,7 @@ unfolding esp sealed tag_of keying packet_6
 closed =
     opened_none keying1 octets_changed (λ x o.
     bit-differs (slice_index (tag_of keying1.cipher (keying1.salt ++ iv_of octets_changed) (aad_of octets_changed) (text_of octets_changed))
-        15)
+    15)
     (ap (λ (l : List ℕ). slice_index l 15) o.1.1))
 
 changed_view : view_of tag_changed ≡ Ok (carrier octets_changed)
@@ -96,9 +96,9 @@ refused_tag-goes shows =
     let found : by_spi (spi_of octets_changed) (live b h) ≡ Some in1 = ap (λ (z : ℕ). by_spi z (live b h)) changed_spi in
     let genuine = genuine-closed b own_b h tag_changed (carrier octets_changed) in1 changed_view found closed in
     let answer = answers-text b own_b (acts.Arrived b tag_changed ∷ h) tag_changed (carrier octets_changed) in1 1 None changed_view refl
-        changed_long found changed_number refl closed in
+    changed_long found changed_number refl closed in
     arrives shows (two greatest) after_let_in (events.ArriveFlip b 1 107 0) gateway_b tag_changed (acts.Arrived b tag_changed
-        ∷ acts.Drop b why.Auth ∷ []) (record { acts = refl; none = refl; test = refl }) genuine
+    ∷ acts.Drop b why.Auth ∷ []) (record { acts = refl; none = refl; test = refl }) genuine
     (ap (λ z. acts.Arrived b tag_changed ∷ z) answer)
 
 -- so it is given when it comes as it was
@@ -116,9 +116,13 @@ pub given_then-goes : (shows : Shows) → Goes shows (two greatest) after_refuse
 unfolding view_of upper_of holds_packet inner_packet packet_6 behind_a behind_b
 given_then-goes shows =
     gives shows after_refused_tag (events.ArriveSent b 1) (sent out1 1) out1 in1 1 (acts.Gave b (codes "in/1") 1 packet_6 ∷ [])
-        (record { acts = refl; none = refl; test = refl }) carries1
-    (record { found = refl; key = refl; sealed = was-sealed out1 1 1 (sent out1 1) (codes "out/1") a (acts.Let a packet_6 ∷ acts.Took 24
-        ∷ after_second_outbound.world) carries1 }) refl refl
+    (record { acts = refl; none = refl; test = refl }) carries1
+    (record {
+      found = refl;
+      key = refl;
+      sealed = was-sealed out1 1 1 (sent out1 1) (codes "out/1") a (acts.Let a packet_6 ∷ acts.Took 24
+          ∷ after_second_outbound.world) carries1;
+    }) refl refl
 
 -- and dropped when it comes once more
 abbrev pub seen_then : List Event
@@ -134,9 +138,13 @@ after_seen_then = record { world = after after_given_then.world seen_then_acts; 
 pub seen_then-goes : (shows : Shows) → Goes shows (two greatest) after_given_then seen_then seen_then_acts after_seen_then
 seen_then-goes shows =
     repeats shows after_given_then (events.ArriveSent b 1) (sent out1 1) out1 in1 1 (record { acts = refl; none = refl; test = refl })
-        carries1
-    (record { found = refl; key = refl; sealed = was-sealed out1 1 1 (sent out1 1) (codes "out/1") a (acts.Let a packet_6 ∷ acts.Took 24
-        ∷ after_second_outbound.world) carries1 }) refl
+    carries1
+    (record {
+      found = refl;
+      key = refl;
+      sealed = was-sealed out1 1 1 (sent out1 1) (codes "out/1") a (acts.Let a packet_6 ∷ acts.Took 24
+          ∷ after_second_outbound.world) carries1;
+    }) refl
 
 abbrev pub repeated : List Event
 repeated = carried ++ refused_tag ++ given_then ++ seen_then
@@ -170,9 +178,13 @@ pub routed-goes : (shows : Shows) → Goes shows (two greatest) after_let_in rou
 unfolding with_ttl view_of datagram outer_header esp sealed tag_of keying packet_6 upper_of holds_packet inner_packet behind_a behind_b
 routed-goes shows =
     gives shows after_let_in (events.ArriveTtl b 1 61) routed_on out1 in1 1 (acts.Gave b (codes "in/1") 1 packet_6 ∷ [])
-        (record { acts = refl; none = refl; test = refl }) (record { view = refl; long = refl; spi = refl; number = refl })
-    (record { found = refl; key = refl; sealed = was-sealed out1 1 1 (sent out1 1) (codes "out/1") a (acts.Let a packet_6 ∷ acts.Took 24
-        ∷ after_second_outbound.world) carries1 }) refl refl
+    (record { acts = refl; none = refl; test = refl }) (record { view = refl; long = refl; spi = refl; number = refl })
+    (record {
+      found = refl;
+      key = refl;
+      sealed = was-sealed out1 1 1 (sent out1 1) (codes "out/1") a (acts.Let a packet_6 ∷ acts.Took 24
+          ∷ after_second_outbound.world) carries1;
+    }) refl refl
 
 abbrev pub on_the_way : List Event
 on_the_way = carried ++ routed

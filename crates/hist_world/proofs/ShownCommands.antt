@@ -25,8 +25,18 @@ odd_key = 0 ∷ 0 ∷ 0 ∷ 0 ∷ 0 ∷ 0 ∷ 0 ∷ 0 ∷ 0 ∷ 0 ∷ 0 ∷ 0 �
 
 -- a tunnel from a gateway to itself
 abbrev pub looped : TunnelSpec
-looped = record { reqid = 10; now = true; first = a; second = a; first_prefix = ten_one; second_prefix = ten_two; window = 64; hard =
-    limits 0 0 0 0; soft = limits 0 0 0 0 }
+looped = record {
+  reqid = 10;
+  now = true;
+  first = a;
+  second = a;
+  first_prefix = ten_one;
+  second_prefix = ten_two;
+  window = 64;
+  hard =
+      limits 0 0 0 0;
+  soft = limits 0 0 0 0;
+}
 
 abbrev pub wrong : List Event
 wrong =

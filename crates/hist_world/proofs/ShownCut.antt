@@ -52,8 +52,11 @@ cut_late_own =
     ∷ own.Answered 1 1 5 (plain 204) ∷ own.Ordered 1 1 6 (own.PutIn association3) ∷ []
 
 abbrev pub after_cut_late : Past
-after_cut_late = record { world = after after_first_outbound.world cut_late_acts; controller =
-    after after_first_outbound.controller cut_late_own }
+after_cut_late = record {
+  world = after after_first_outbound.world cut_late_acts;
+  controller =
+      after after_first_outbound.controller cut_late_own;
+}
 
 pub cut_late-goes : (shows : Shows) → Goes shows (two greatest) after_first_outbound cut_late cut_late_acts after_cut_late
 unfolding reply in_name out_name digits key1 key2 key3
@@ -101,8 +104,11 @@ cut_under_way_own =
     ∷ own.Answered 0 2 3 (plain 204) ∷ own.Ordered 1 1 5 (own.RemoveIn 1) ∷ []
 
 abbrev pub after_cut_under_way : Past
-after_cut_under_way = record { world = after after_inbound.world cut_under_way_acts; controller =
-    after after_inbound.controller cut_under_way_own }
+after_cut_under_way = record {
+  world = after after_inbound.world cut_under_way_acts;
+  controller =
+      after after_inbound.controller cut_under_way_own;
+}
 
 pub cut_under_way-goes : (shows : Shows) → Goes shows (two greatest) after_inbound cut_under_way cut_under_way_acts after_cut_under_way
 unfolding reply in_name out_name digits key1 key2 key3

@@ -117,15 +117,15 @@ opens-at e d n k = ap (λ (z : Keying). opened z (octets e n)) k ∙ opened_find
 pub gives : (shows : Shows) (p : Past) (v : Event) (o : List ℕ) (e d : SadEntry) (n : ℕ) (xs : List Act)
     → Comes shows (two greatest) p v gateway_b o → Carries o e n → At e d n (took p.world)
     → verdict_over d.window (numbers_taken b d.name (acts.Arrived b o ∷ took p.world)) n ≡ Fresh
-        → by_text b (acts.Arrived b o ∷ took p.world) d n (Some text) ≡ xs
+    → by_text b (acts.Arrived b o ∷ took p.world) d n (Some text) ≡ xs
     → Goes shows (two greatest) p (v ∷ []) (acts.Took (events_taken p.world + 1) ∷ acts.Arrived b o ∷ xs)
-        (arrived p (acts.Arrived b o ∷ xs))
+    (arrived p (acts.Arrived b o ∷ xs))
 gives shows p v o e d n xs m c i fresh w =
     let h : List Act = took p.world in
     let found = found-at e d n o h c i.found in
     let genuine = genuine-sent b own_b h o (carrier (octets e n)) d c.view found i.sealed in
     let answer = answers-text b own_b (acts.Arrived b o ∷ h) o (carrier (octets e n)) d n (Some text) c.view refl c.long found c.number
-        fresh (opens-at e d n i.key) in
+    fresh (opens-at e d n i.key) in
     arrives shows (two greatest) p v gateway_b o (acts.Arrived b o ∷ xs) m genuine (ap (λ z. acts.Arrived b o ∷ z) (answer ∙ w))
 
 -- its number was taken
@@ -133,23 +133,23 @@ pub repeats : (shows : Shows) (p : Past) (v : Event) (o : List ℕ) (e d : SadEn
     → Carries o e n → At e d n (took p.world)
     → verdict_over d.window (numbers_taken b d.name (acts.Arrived b o ∷ took p.world)) n ≡ Seen
     → Goes shows (two greatest) p (v ∷ []) (acts.Took (events_taken p.world + 1) ∷ acts.Arrived b o ∷ acts.Drop b why.Seen ∷ [])
-        (arrived p (acts.Arrived b o ∷ acts.Drop b why.Seen ∷ []))
+    (arrived p (acts.Arrived b o ∷ acts.Drop b why.Seen ∷ []))
 repeats shows p v o e d n m c i seen =
     let h : List Act = took p.world in
     let found = found-at e d n o h c i.found in
     let genuine = genuine-sent b own_b h o (carrier (octets e n)) d c.view found i.sealed in
     let answer = answers-seen b own_b (acts.Arrived b o ∷ h) o (carrier (octets e n)) d n c.view refl c.long found c.number seen in
     arrives shows (two greatest) p v gateway_b o (acts.Arrived b o ∷ acts.Drop b why.Seen ∷ []) m genuine
-        (ap (λ z. acts.Arrived b o ∷ z) answer)
+    (ap (λ z. acts.Arrived b o ∷ z) answer)
 
 -- no half has its SPI
 pub comes-to-none : (shows : Shows) (p : Past) (v : Event) (o : List ℕ) (e : SadEntry) (n : ℕ) (xs : List Act)
     → Comes shows (two greatest) p v gateway_b o → Carries o e n
     → by_spi e.spi (live b (took p.world)) ≡ None
     → acts.Drop b why.BadSpi ∷ unless (does_bad_spi_stand b e.spi (acts.Arrived b o ∷ took p.world))
-        (tells b (acts.Arrived b o ∷ took p.world) (notices.BadSpi e.spi)) ≡ xs
+    (tells b (acts.Arrived b o ∷ took p.world) (notices.BadSpi e.spi)) ≡ xs
     → Goes shows (two greatest) p (v ∷ []) (acts.Took (events_taken p.world + 1) ∷ acts.Arrived b o ∷ xs)
-        (arrived p (acts.Arrived b o ∷ xs))
+    (arrived p (acts.Arrived b o ∷ xs))
 comes-to-none shows p v o e n xs m c f w =
     let h : List Act = took p.world in
     let found : by_spi (spi_of (octets e n)) (live b h) ≡ None = ap (λ (z : ℕ). by_spi z (live b h)) c.spi ∙ f in

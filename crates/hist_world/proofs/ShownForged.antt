@@ -37,7 +37,7 @@ forged =
     ∙ ap (λ (z : Bool). not z && is_half_forged b h o (by_spi (spi_of o) (live b h))) carries1.long
     ∙ ap (is_half_forged b h o) (found-at out1 in1 1 (sent out1 1) h carries1 refl)
     ∙ ap (λ (z : ℕ). is_fresh (verdict_over 64 [] z) && (does_open (opened (keying in1.spi in1.key) o) && true)) (number-field in1 0 o
-        ∙ carries1.number)
+    ∙ carries1.number)
     ∙ ap (λ z. does_open z && true) (opens-at out1 in1 1 refl)
 
 abbrev pub invented : Event

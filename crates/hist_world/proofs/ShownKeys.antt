@@ -45,8 +45,11 @@ both_expired_own =
     ∷ own.Accepted (own.Keys key4) ∷ own.Ordered 0 1 5 (own.PutIn association4) ∷ []
 
 abbrev pub after_both_expired : Past
-after_both_expired = record { world = after after_given.world both_expired_acts; controller =
-    after after_given.controller both_expired_own }
+after_both_expired = record {
+  world = after after_given.world both_expired_acts;
+  controller =
+      after after_given.controller both_expired_own;
+}
 
 pub both_expired-goes : (shows : Shows) → Goes shows (two greatest) after_given both_expired both_expired_acts after_both_expired
 unfolding reply in_name out_name digits key1 key2 key3 key4 view_of datagram outer_header esp sealed tag_of keying packet_6

@@ -27,12 +27,26 @@ abbrev pub any_4 : Prefix
 any_4 = record { addr = V4 (0 ∷ 0 ∷ 0 ∷ 0 ∷ []); len = 0; in_range = lit≤ tt; cleared = refl }
 
 abbrev pub discarding : SpdEntry
-discarding = record { name = codes "d1"; direction = directions.Out; reqid = 0; window = 64; selector = between ten_one any_4; action =
-    actions.Discard }
+discarding = record {
+  name = codes "d1";
+  direction = directions.Out;
+  reqid = 0;
+  window = 64;
+  selector = between ten_one any_4;
+  action =
+      actions.Discard;
+}
 
 abbrev pub bypassing : SpdEntry
-bypassing = record { name = codes "p1"; direction = directions.Out; reqid = 1; window = 64; selector = between ten_one ten_two; action =
-    actions.Bypass }
+bypassing = record {
+  name = codes "p1";
+  direction = directions.Out;
+  reqid = 1;
+  window = 64;
+  selector = between ten_one ten_two;
+  action =
+      actions.Bypass;
+}
 
 abbrev pub bypasses : List SpdEntry
 bypasses = bypassing ∷ []

@@ -47,9 +47,13 @@ pub given-goes : (shows : Shows) → Goes shows (two greatest) after_let_in give
 unfolding view_of upper_of holds_packet inner_packet packet_6 behind_a behind_b
 given-goes shows =
     gives shows after_let_in (events.ArriveSent b 1) (sent out1 1) out1 in1 1 (acts.Gave b (codes "in/1") 1 packet_6 ∷ [])
-        (record { acts = refl; none = refl; test = refl }) carries1
-    (record { found = refl; key = refl; sealed = was-sealed out1 1 1 (sent out1 1) (codes "out/1") a (acts.Let a packet_6 ∷ acts.Took 24
-        ∷ after_second_outbound.world) carries1 }) refl refl
+    (record { acts = refl; none = refl; test = refl }) carries1
+    (record {
+      found = refl;
+      key = refl;
+      sealed = was-sealed out1 1 1 (sent out1 1) (codes "out/1") a (acts.Let a packet_6 ∷ acts.Took 24
+          ∷ after_second_outbound.world) carries1;
+    }) refl refl
 
 -- ---- up to the packet, and up to its arrival
 abbrev pub carried : List Event

@@ -138,9 +138,13 @@ pub new_given-goes : (shows : Shows) → Goes shows (two greatest) after_retired
 unfolding view_of upper_of holds_packet inner_packet packet_6 behind_a behind_b
 new_given-goes shows =
     gives shows after_retired (events.ArriveSent b 3) (sent out3 1) out3 in3 1 (acts.Gave b (codes "in/3") 1 packet_6 ∷ [])
-        (record { acts = refl; none = refl; test = refl }) carries3
-    (record { found = refl; key = refl; sealed = was-sealed out3 1 1 (sent out3 1) (codes "out/3") a (acts.Let a packet_6 ∷ acts.Took 33
-        ∷ after_renewed.world) carries3 }) refl refl
+    (record { acts = refl; none = refl; test = refl }) carries3
+    (record {
+      found = refl;
+      key = refl;
+      sealed = was-sealed out3 1 1 (sent out3 1) (codes "out/3") a (acts.Let a packet_6 ∷ acts.Took 33
+          ∷ after_renewed.world) carries3;
+    }) refl refl
 
 abbrev pub old_given : List Event
 old_given = events.ArriveSent b 2 ∷ []
@@ -156,9 +160,13 @@ pub old_given-goes : (shows : Shows) → Goes shows (two greatest) after_new_giv
 unfolding view_of upper_of holds_packet inner_packet packet_6 behind_a behind_b
 old_given-goes shows =
     gives shows after_new_given (events.ArriveSent b 2) (sent out1 2) out1 in1 2 (acts.Gave b (codes "in/1") 2 packet_6 ∷ [])
-        (record { acts = refl; none = refl; test = refl }) carries2
-    (record { found = refl; key = refl; sealed = was-sealed out1 2 2 (sent out1 2) (codes "out/1") a (acts.Let a packet_6 ∷ acts.Took 31
-        ∷ after_expired.world) carries2 }) refl refl
+    (record { acts = refl; none = refl; test = refl }) carries2
+    (record {
+      found = refl;
+      key = refl;
+      sealed = was-sealed out1 2 2 (sent out1 2) (codes "out/1") a (acts.Let a packet_6 ∷ acts.Took 31
+          ∷ after_expired.world) carries2;
+    }) refl refl
 
 -- the old halves are removed, the outbound one first
 abbrev pub removed : List Event

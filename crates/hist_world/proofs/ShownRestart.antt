@@ -104,8 +104,11 @@ recovered_own =
     ∷ own.Heard 1 2 (notices.BadSpi 257) ∷ own.Ordered 1 2 4 own.Read ∷ []
 
 abbrev pub after_recovered : Past
-after_recovered = record { world = after after_lost_again.world recovered_acts; controller =
-    after after_lost_again.controller recovered_own }
+after_recovered = record {
+  world = after after_lost_again.world recovered_acts;
+  controller =
+      after after_lost_again.controller recovered_own;
+}
 
 pub recovered-goes : (shows : Shows) → Goes shows (two greatest) after_lost_again recovered recovered_acts after_recovered
 unfolding reply in_name out_name digits

@@ -118,14 +118,21 @@ second_outbound_own =
     ∷ own.Answered 1 1 4 (plain 201) ∷ []
 
 abbrev pub after_second_outbound : Past
-after_second_outbound = record { world = after after_first_outbound.world second_outbound_acts; controller =
-    after after_first_outbound.controller second_outbound_own }
+after_second_outbound = record {
+  world = after after_first_outbound.world second_outbound_acts;
+  controller =
+      after after_first_outbound.controller second_outbound_own;
+}
 
 pub second_outbound-goes : (shows : Shows) (last : ℕ) → Goes shows (two last) after_first_outbound second_outbound second_outbound_acts
     after_second_outbound
 unfolding reply in_name out_name digits
-second_outbound-goes shows last = record { acts = refl; past = refl; genuine = quiet shows (two last) after_first_outbound second_outbound
-    refl }
+second_outbound-goes shows last = record {
+  acts = refl;
+  past = refl;
+  genuine = quiet shows (two last) after_first_outbound second_outbound
+      refl;
+}
 
 -- ---- up to the orders of the outbound halves, up to the first of them, and up to both
 abbrev pub ordered : List Event

@@ -90,11 +90,11 @@ in-ordered ps p n (Ordered g s k Read ∷ h) i l = in-ordered ps p n h i l.1
 in-ordered ps p n (Ordered g s k (Policy list) ∷ h) i l = in-ordered ps p n h i l.1
 in-ordered ps p n (Ordered g s k (PutIn x) ∷ h) i l =
     or-both (bytes_eq (in_name x.serial) (in_name n)) (n == x.serial) (world.was_order_given (in_name n) (past_told ps h))
-        (was_ordered PuttingIn n h)
+    (was_ordered PuttingIn n h)
     (same-in (n == x.serial) x.serial n refl (in-small p h g x l.1 l.0.3) i) (in-ordered ps p n h i l.1)
 in-ordered ps p n (Ordered g s k (PutOut x) ∷ h) i l =
     or-none (bytes_eq (out_name x.serial) (in_name n)) (world.was_order_given (in_name n) (past_told ps h)) (was_ordered PuttingIn n h)
-        (out-not-in x.serial n) (in-ordered ps p n h i l.1)
+    (out-not-in x.serial n) (in-ordered ps p n h i l.1)
 in-ordered ps p n (Ordered g s k (RemoveIn m) ∷ h) i l = in-ordered ps p n h i l.1
 in-ordered ps p n (Ordered g s k (RemoveOut m) ∷ h) i l = in-ordered ps p n h i l.1
 in-ordered ps p n (a ∷ h) i l = in-ordered ps p n h i l.1
@@ -106,10 +106,10 @@ out-ordered ps p n (Ordered g s k Read ∷ h) i l = out-ordered ps p n h i l.1
 out-ordered ps p n (Ordered g s k (Policy list) ∷ h) i l = out-ordered ps p n h i l.1
 out-ordered ps p n (Ordered g s k (PutIn x) ∷ h) i l =
     or-none (bytes_eq (in_name x.serial) (out_name n)) (world.was_order_given (out_name n) (past_told ps h)) (was_ordered PuttingOut n h)
-        (in-not-out x.serial n) (out-ordered ps p n h i l.1)
+    (in-not-out x.serial n) (out-ordered ps p n h i l.1)
 out-ordered ps p n (Ordered g s k (PutOut x) ∷ h) i l =
     or-both (bytes_eq (out_name x.serial) (out_name n)) (n == x.serial) (world.was_order_given (out_name n) (past_told ps h))
-        (was_ordered PuttingOut n h)
+    (was_ordered PuttingOut n h)
     (same-out (n == x.serial) x.serial n refl (out-small p h g x l.1 l.0.3) i) (out-ordered ps p n h i l.1)
 out-ordered ps p n (Ordered g s k (RemoveIn m) ∷ h) i l = out-ordered ps p n h i l.1
 out-ordered ps p n (Ordered g s k (RemoveOut m) ∷ h) i l = out-ordered ps p n h i l.1
@@ -127,7 +127,7 @@ in-doomed ps p n (Ordered g s k (RemoveIn m) ∷ h) i l =
     (same-in (n == m) m n refl (in-gone-small p h g m l.1 l.0.3) i) (in-doomed ps p n h i l.1)
 in-doomed ps p n (Ordered g s k (RemoveOut m) ∷ h) i l =
     or-none (bytes_eq (out_name m) (in_name n)) (world.is_removal_ordered (in_name n) (past_told ps h)) (was_ordered RemovingIn n h)
-        (out-not-in m n) (in-doomed ps p n h i l.1)
+    (out-not-in m n) (in-doomed ps p n h i l.1)
 in-doomed ps p n (a ∷ h) i l = in-doomed ps p n h i l.1
 
 -- ---- how many, and what was ordered where
@@ -194,15 +194,15 @@ in-order ps p x (Ordered g s k (PutIn y) ∷ h) i l e =
     let at : MayOrderInPut h g y = l.0.3 in
     let new : WasOrdered (PutIn y) y.way.receiver (Ordered g s k (PutIn y) ∷ h) = inl (refl, sym at.at) in
     let same : b ≡ true → x ≡ y = λ q. one-put p (Ordered g s k (PutIn y) ∷ h) l x.way.receiver y.way.receiver x y e new
-        (eq-nat x.serial y.serial (sym w ∙ q)) in
+    (eq-nat x.serial y.serial (sym w ∙ q)) in
     let old : b ≡ false → WasOrdered (PutIn x) x.way.receiver h =
-        λ q. in-older p h g s k x y e (not-eq (x.serial == y.serial) y.serial x.serial refl (sym w ∙ q)) in
+    λ q. in-older p h g s k x y e (not-eq (x.serial == y.serial) y.serial x.serial refl (sym w ∙ q)) in
     record {
       order = some-in b (in_entry ps y) (in_entry ps x) (world.order_of (in_name x.serial) (past_told ps h))
           (λ q. ap (in_entry ps) (sym (same q))) (λ q. (in-order ps p x h i l.1 (old q)).order);
       site = site-in b (peer_name ps g) (peer_name ps x.way.receiver) (world.site (in_name x.serial) (past_told ps h))
           (λ q. ap (peer_name ps) at.at ∙ ap (λ (z : Association). peer_name ps z.way.receiver) (sym (same q)))
-              (λ q. (in-order ps p x h i l.1 (old q)).site);
+          (λ q. (in-order ps p x h i l.1 (old q)).site);
     }
 in-order ps p x (Ordered g s k (PutOut y) ∷ h) i l (inl e) = let r : PutIn x ≡ PutOut y = e.0 in absurd (grind (arith, r))
 in-order ps p x (Ordered g s k (PutOut y) ∷ h) i l (inr e) =
@@ -242,13 +242,13 @@ out-site ps p g x (Ordered f s k (PutOut y) ∷ h) i l e =
     let w : b ≡ (x.serial == y.serial) = same-out (x.serial == y.serial) y.serial x.serial refl (out-small p h f y l.1 l.0.3) i in
     let all : List ControllerAct = Ordered f s k (PutOut y) ∷ h in
     let old : b ≡ false → WasOrdered (PutOut x) g h =
-        λ q. out-older h f s k g x y e (not-eq (x.serial == y.serial) y.serial x.serial refl (sym w ∙ q)) in
+    λ q. out-older h f s k g x y e (not-eq (x.serial == y.serial) y.serial x.serial refl (sym w ∙ q)) in
     let hx = out-home p all l g x e in
     let hy = out-home p all l f y (inl (refl, refl)) in
     let same : b ≡ true → x ≡ y = λ q. one-put p all l x.way.receiver y.way.receiver x y hx.1 hy.1 (eq-nat x.serial y.serial (sym w ∙ q)) in
     site-in b (peer_name ps f) (peer_name ps g) (world.site (out_name x.serial) (past_told ps h))
     (λ q. ap (peer_name ps) (hy.0 ∙ ap (λ (z : Association). z.way.sender) (sym (same q)) ∙ sym hx.0))
-        (λ q. out-site ps p g x h i l.1 (old q))
+    (λ q. out-site ps p g x h i l.1 (old q))
 out-site ps p g x (Ordered f s k (RemoveIn m) ∷ h) i l (inl e) = let r : PutOut x ≡ RemoveIn m = e.0 in absurd (grind (arith, r))
 out-site ps p g x (Ordered f s k (RemoveIn m) ∷ h) i l (inr e) = out-site ps p g x h i l.1 e
 out-site ps p g x (Ordered f s k (RemoveOut m) ∷ h) i l (inl e) = let r : PutOut x ≡ RemoveOut m = e.0 in absurd (grind (arith, r))
@@ -278,7 +278,7 @@ is-made ps n x g a (Some (PutIn y)) done sent i e q r =
     let same : n ≡ y.serial = eq-nat n y.serial q in
     let w : bytes_eq (in_name y.serial) (in_name n) ≡ true = same-in true y.serial n q (subst (λ (z : ℕ). z < 2 ^ 64) same i) i in
     let good : nat_lt a.status 400 ≡ true = low-status (x.serial == y.serial) a.status (subst (λ (z : ℕ). (z == y.serial) ≡ true) (sym e) q)
-        r in
+    r in
     rw (w, good) refl
 is-made ps n x g a (Some (PutOut y)) done sent i e q r = absurd (no q)
 is-made ps n x g a (Some (RemoveIn m)) done sent i e q r = absurd (no q)
@@ -301,19 +301,19 @@ made-told ps p n x (Opened g s ∷ h) i e l names f q r = made-told ps p n x h i
 made-told ps p n x (Cut g s ∷ h) i e l names f q r = made-told ps p n x h i e l.1 names f.1 q (or_parts _ (is_ended x h) r).1
 made-told ps p n x (Answered g s k a ∷ h) i e l names f q r =
     let d = or_parts (is_spoiled x g (oldest (queue g h)) a (has_answer PuttingIn x.serial h) (is_out_ordered x.serial h)) (is_ended x h) r
-        in
+    in
     let t = told-at ps p g s k a h l names f.1 f.0 in
     let m : Bool = world.is_put (in_name n) (sessions.order_at (peer_name ps g) s k (past_told ps h)) && nat_lt a.status 400 in
     or-case (is_answer_to PuttingIn n (oldest (queue g h))) (has_answer PuttingIn n h) (m
-        || world.is_put_accepted (in_name n) (past_told ps h))
+    || world.is_put_accepted (in_name n) (past_told ps h))
     (λ w. or_left m (world.is_put_accepted (in_name n) (past_told ps h))
     (subst (λ (z : Option tree.Order.Order). (world.is_put (in_name n) z && nat_lt a.status 400) ≡ true) (sym t)
-        (is-made ps n x g a (oldest (queue g h)) (has_answer PuttingIn x.serial h) (is_out_ordered x.serial h) i e w d.0)))
+    (is-made ps n x g a (oldest (queue g h)) (has_answer PuttingIn x.serial h) (is_out_ordered x.serial h) i e w d.0)))
     (λ w. or_right m (world.is_put_accepted (in_name n) (past_told ps h)) (made-told ps p n x h i e l.1 names f.1 w d.1)) q
 made-told ps p n x (Heard g s t ∷ h) i e l names f q r = made-told ps p n x h i e l.1 names f.1 q r
 made-told ps p n x (Ordered g s k o ∷ h) i e l names f q r =
     let r2 : (not (is_kind PuttingIn n o) && is_ended x h) ≡ false =
-        subst (λ (z : ℕ). (not (is_kind PuttingIn z o) && is_ended x h) ≡ false) e r in
+    subst (λ (z : ℕ). (not (is_kind PuttingIn z o) && is_ended x h) ≡ false) e r in
     let b = kept-both (is_kind PuttingIn n o) (has_answer PuttingIn n h) (is_ended x h) q r2 in
     made-told ps p n x h i e l.1 names f.1 b.0 b.1
 made-told ps p n x (Accepted c ∷ h) i e l names f q r = made-told ps p n x h i e l.1 names f.1 q (or_parts _ (is_ended x h) r).1
@@ -346,7 +346,7 @@ left-told ps p n (Answered g s k a ∷ h) i l names f q =
     let t = told-at ps p g s k a h l names f.1 f.0 in
     let m : Bool = world.is_removal (out_name n) (sessions.order_at (peer_name ps g) s k (past_told ps h)) in
     or-case (is_answer_to RemovingOut n (oldest (queue g h))) (has_answer RemovingOut n h) (m
-        || world.is_removal_answered (out_name n) (past_told ps h))
+    || world.is_removal_answered (out_name n) (past_told ps h))
     (λ w. or_left m (world.is_removal_answered (out_name n) (past_told ps h))
     (subst (λ (z : Option tree.Order.Order). world.is_removal (out_name n) z ≡ true) (sym t) (is-gone ps n (oldest (queue g h)) i w)))
     (λ w. or_right m (world.is_removal_answered (out_name n) (past_told ps h)) (left-told ps p n h i l.1 names f.1 w)) q

@@ -72,7 +72,7 @@ followers-silent : (xs : List Act) → are_followers xs ≡ true → are_silent 
 followers-silent [] e = refl
 followers-silent (a ∷ xs) e =
     and_from (is_silent a) (are_silent xs) (follower-silent a (both-left (is_follower a) (are_followers xs) e))
-        (followers-silent xs (both-right (is_follower a) (are_followers xs) e))
+    (followers-silent xs (both-right (is_follower a) (are_followers xs) e))
 
 let-silent : (g : List ℕ) (a : Act) → LetAnswer g a → is_silent a ≡ true
 let-silent g (acts.Handled f s k a) e = absurd e
@@ -96,7 +96,7 @@ forged-silent : (c : node.Gateway) (w : List Act) (o : List ℕ) (b : Bool)
 forged-silent c w o true = refl
 forged-silent c w o false =
     shaped-silent (ArriveAnswer c.name) (arrive_acts c.name c.address (acts.Arrived c.name o ∷ w) o) (arrive-silent c.name)
-        (arrive-shape c.name c.address (acts.Arrived c.name o ∷ w) o)
+    (arrive-shape c.name c.address (acts.Arrived c.name o ∷ w) o)
 
 arrives-silent : (w : List Act) (o : List ℕ) (c : Option node.Gateway) → are_silent (arrives_at w o c) ≡ true
 arrives-silent w o None = refl
@@ -144,8 +144,12 @@ handles-made header p g (Some o) None i s m e = m
 handles-made header p g (Some o) (Some x) i s m e =
     let w : List Act = took p.world in
     let r = reply (tree_of g w) (ask_of o) in
-    let made = next-made header.gateways w p.controller g o (s.ready, s.lawful) (record { part = s.meet.part; past = s.meet.past; fit =
-        s.meet.fit }) i.named m refl e in
+    let made = next-made header.gateways w p.controller g o (s.ready, s.lawful) (record {
+      part = s.meet.part;
+      past = s.meet.past;
+      fit =
+          s.meet.fit;
+    }) i.named m refl e in
     reply-made g (session_taken g w) (requests g w + 1) r (answer_of r) r.change w made m
 
 down-made : (shows : Shows) (header : Header) (p : Past) (g : List ℕ) → IsHeader header → Stands header p → AllCreated p.world
@@ -154,7 +158,7 @@ down-made shows header p g i s m =
     let w : List Act = took p.world in
     let xs : List Act = handles_at w (gateway_at header g) (next_request g w) in
     subst (λ (z : List Act). AllCreated (after w z)) (sym (append-nil xs))
-        (handles-made header p g (next_request g w) (find (λ x. bytes_eq x.name g) header.gateways) i s m refl)
+    (handles-made header p g (next_request g w) (find (λ x. bytes_eq x.name g) header.gateways) i s m refl)
 
 step-made : (shows : Shows) (header : Header) (p : Past) (e : Event) → IsHeader header → Stands header p → AllCreated p.world
     → AllCreated (after p.world (block shows header p e))
@@ -163,7 +167,7 @@ step-made shows header p (events.Let g o) i s m =
     silent-block shows header p (events.Let g o) (lets-silent o (took p.world) (gateway_at header g)) m
 step-made shows header p (events.Now t) i s m =
     silent-block shows header p (events.Now t) (raised-silent header (acts.Now (max t (clock (took p.world))) ∷ took p.world)
-        (nat_lt (clock (took p.world)) t)) m
+    (nat_lt (clock (took p.world)) t)) m
 step-made shows header p (events.Boot g) i s m = silent-block shows header p (events.Boot g) (boots-silent g (gateway_at header g)) m
 step-made shows header p (events.Wire g lane) i s m = silent-block shows header p (events.Wire g lane) refl m
 step-made shows header p e i s m = silent-block shows header p e (arrival-silent header (took p.world) (arrival_of (took p.world) e)) m
@@ -177,21 +181,21 @@ made-history shows header p [] i k s m = m
 made-history shows header p (e ∷ es) i k s m =
     made-case (is_forged_event header p e) refl (λ t. made-history shows header (past_after shows header p e) es i k.1 t
     (step-made shows header p e i s m)) where
-  made-case : (b : Bool) → is_forged_event header p e ≡ b
-      → (Stands header (past_after shows header p e)
+      made-case : (b : Bool) → is_forged_event header p e ≡ b
+          → (Stands header (past_after shows header p e)
           → AllCreated (after (past_after shows header p e).world (history shows header (past_after shows header p e) es)))
-      → AllCreated (after p.world (block shows header p e ++ unless_forged b (history shows header (past_after shows header p e) es)))
-  made-case true f ih = subst (λ (z : List Act). AllCreated (after p.world z)) (sym (append-nil (block shows header p e)))
-      (step-made shows header p e i s m)
-  made-case false f ih =
-      subst AllCreated (sym (after-append p.world (block shows header p e) (history shows header (past_after shows header p e) es)))
-      (ih (step shows header p e i k.0 s f).stands)
+          → AllCreated (after p.world (block shows header p e ++ unless_forged b (history shows header (past_after shows header p e) es)))
+      made-case true f ih = subst (λ (z : List Act). AllCreated (after p.world z)) (sym (append-nil (block shows header p e)))
+          (step-made shows header p e i s m)
+      made-case false f ih =
+          subst AllCreated (sym (after-append p.world (block shows header p e) (history shows header (past_after shows header p e) es)))
+          (ih (step shows header p e i k.0 s f).stands)
 
 pub unrefused : (shows : Shows) (header : Header) (es : List Event) → IsHeader header → AreEventsOf header es
     → NoneRefused (after [] (history shows header nothing es))
 unrefused shows header es i k =
     none-refused header.gateways (after [] (history shows header nothing es)) (lawful-history shows header nothing es i k (start header))
-        (made-history shows header nothing es i k (start header) tt)
+    (made-history shows header nothing es i k (start header) tt)
 
 -- ---- so few halves are live
 
@@ -203,7 +207,7 @@ plain-at shows header es i k g =
     let p : Past = past_at shows header nothing es in
     let s = stands-at shows header nothing es i k g (start header) in
     plain header.gateways p.world p.controller s.lawful s.meet i.named (subst AllCreated (history-at shows header nothing es g)
-        (made-history shows header nothing es i k (start header) tt))
+    (made-history shows header nothing es i k (start header) tt))
 
 pub left-at : (shows : Shows) (header : Header) (es : List Event) → IsHeader header → AreEventsOf header es
     → AreGenuine shows header nothing es

@@ -74,6 +74,7 @@ pub fn lists_never_go_back()
         → NeverBack (lists_accepted g p.controller) (put_in_force (peer_name header.gateways g) p.world) }
     ensures accepted { (shows : Shows) (header : Header) (events : List Event) → IsHeader header → (g : ℕ) → g < length header.gateways
         → lists_accepted g (past_at shows header nothing events).controller ≡ commanded (peer_name header.gateways g) events }
-    ensures history { (shows : Shows) (header : Header) (events : List Event) → IsHeader header → AreEventsOf header events → (g : List ℕ) → IsKnown header g
+    ensures history { (shows : Shows) (header : Header) (events : List Event) → IsHeader header → AreEventsOf header events → (g : List ℕ)
+        → IsKnown header g
         → NeverBack (commanded g events) (put_in_force g (after [] (history shows header nothing events))) }
 {}

@@ -18,10 +18,10 @@ same_made : (a : Addr) (n : ℕ) (fits : n ≤ bits_of a) (clear : IsTrue (is_cl
     (fits' : m ≤ bits_of b) (clear' : IsTrue (is_clear_from m b)) → made a n fits clear ≡ made b m fits' clear'
 same_made a n fits clear b e m f =
     let P : Addr → Type 0 = λ b. (fits' : m ≤ bits_of b) (clear' : IsTrue (is_clear_from m b)) → made a n fits clear ≡ made b m fits' clear'
-        in
+    in
     let Q : ℕ → Type 0 = λ m. (fits' : m ≤ bits_of a) (clear' : IsTrue (is_clear_from m a)) → made a n fits clear ≡ made a m fits' clear' in
     subst P e (subst Q f (λ fits' clear'. ap (λ x. made a n x clear) (fits_once a n fits fits')
-        ∙ ap (λ x. made a n fits' x) (clear_once a n clear clear')))
+    ∙ ap (λ x. made a n fits' x) (clear_once a n clear clear')))
 
 -- a prefix is its address and its length
 pub same_prefix : (p q : Prefix) → p.addr ≡ q.addr → p.len ≡ q.len → p ≡ q

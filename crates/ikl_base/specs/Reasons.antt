@@ -8,7 +8,7 @@ use Rattle.ikl_base.specs.declared.status.LineFault.TheVariants as faults
 abbrev pub all_reasons : List LineFault
 all_reasons =
     faults.Long ∷ faults.End ∷ faults.Octet ∷ faults.Header ∷ faults.Word ∷ faults.Count ∷ faults.Gateway ∷ faults.Number ∷ faults.Hex
-        ∷ faults.Prefix ∷ faults.Limits ∷ faults.Entry ∷ faults.Mode ∷ []
+    ∷ faults.Prefix ∷ faults.Limits ∷ faults.Entry ∷ faults.Mode ∷ []
 
 -- the word that stands for a reason where a refused line is reported
 abbrev pub reason_text : LineFault → List ℕ

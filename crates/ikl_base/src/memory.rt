@@ -232,7 +232,8 @@ impl Sink for FaultySink<'_> {
         ensures calls { self.new.calls ≡ min (self.old.calls + 1) (2 ^ 64 - 1) }
         ensures fails { self.new.fails ≡ self.old.fails }
         ensures listed { list_any (λ k. k == self.new.calls) self.old.fails.now ≡ true → IsErr result }
-        ensures fits { list_any (λ k. k == self.new.calls) self.old.fails.now ≡ false → (IsOk result ↔ HasRoom self.old.sink (length buf.now)) }
+        ensures fits { list_any (λ k. k == self.new.calls) self.old.fails.now ≡ false
+            → (IsOk result ↔ HasRoom self.old.sink (length buf.now)) }
         ensures whole { OnOk result (self.new.sink.octets.items ≡ self.old.sink.octets.items ++ buf.now) }
         ensures size { IfOk result (λ n. n ≡ length buf.now) }
         ensures none { OnErr result (self.new.sink.octets.items ≡ self.old.sink.octets.items) }

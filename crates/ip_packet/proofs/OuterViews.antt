@@ -106,7 +106,7 @@ sealed-6 o src dst payload ls ld told =
     let whole : is_payload_wrong all ≡ false = grind (arith, nat_tests) in
     let behind : drop 40 all ≡ payload = drop_at (src ++ dst) payload 32 both in
     let upper : upper_of 50 (drop 40 all) ≡ Ok (50, payload) = ap (upper_of 50) behind ∙ upper_of-end 50 payload refl (no_fragment 50 refl)
-        in
+    in
     let says : packet_6 all 50 payload ≡ packet_of_6 src dst payload =
     ap (λ x. packet_of_6 x (take 16 (drop 16 rest)) payload) (take-first src dst payload 16 ls)
     ∙ ap (λ x. packet_of_6 src x payload) (take-second src dst payload 16 16 ls ld) in
@@ -114,8 +114,15 @@ sealed-6 o src dst payload ls ld told =
 
 -- a header between these addresses, and what it says with its payload
 pub sealed : (o : Outer) (src dst : Addr) (payload : List ℕ) → AreOneFamily src dst → length payload ≡ o.payload
-    → view_of (header_between o src dst ++ payload) ≡ Ok (record { src = src; dst = dst; proto = 50; ports = None; df =
-    keeps_whole src o.df; payload = payload })
+    → view_of (header_between o src dst ++ payload) ≡ Ok (record {
+      src = src;
+      dst = dst;
+      proto = 50;
+      ports = None;
+      df =
+          keeps_whole src o.df;
+      payload = payload;
+    })
 sealed o (V4 src) (V4 dst) payload are told = sealed-4 o src dst payload are.0 are.1 told
 sealed o (V4 src) (V6 dst) payload are told = absurd are
 sealed o (V6 src) (V4 dst) payload are told = absurd are

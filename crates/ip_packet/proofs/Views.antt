@@ -85,9 +85,9 @@ view_of_4-with_ttl ttl (a ∷ b ∷ c ∷ d ∷ e ∷ f ∷ g ∷ h ∷ i ∷ j 
     let tail : List ℕ = take (size - 12) rest in
     let enough : 12 ≤ size = omega arith in
     let empty : take size (without_sum ttl old) ≡ a ∷ b ∷ c ∷ d ∷ e ∷ f ∷ g ∷ h ∷ ttl ∷ j ∷ 0 ∷ 0 ∷ tail =
-        take-behind size (a ∷ b ∷ c ∷ d ∷ e ∷ f ∷ g ∷ h ∷ ttl ∷ j ∷ 0 ∷ 0 ∷ []) rest enough in
+    take-behind size (a ∷ b ∷ c ∷ d ∷ e ∷ f ∷ g ∷ h ∷ ttl ∷ j ∷ 0 ∷ 0 ∷ []) rest enough in
     let header : take size new ≡ a ∷ b ∷ c ∷ d ∷ e ∷ f ∷ g ∷ h ∷ ttl ∷ j ∷ (sum / 256) ∷ (sum % 256) ∷ tail =
-        take-behind size (a ∷ b ∷ c ∷ d ∷ e ∷ f ∷ g ∷ h ∷ ttl ∷ j ∷ (sum / 256) ∷ (sum % 256) ∷ []) rest enough in
+    take-behind size (a ∷ b ∷ c ∷ d ∷ e ∷ f ∷ g ∷ h ∷ ttl ∷ j ∷ (sum / 256) ∷ (sum % 256) ∷ []) rest enough in
     let complete : words_sum (take size new) % 65535 ≡ 0 =
     ap (λ x. words_sum x % 65535) header
     ∙ ap (λ s. words_sum (a ∷ b ∷ c ∷ d ∷ e ∷ f ∷ g ∷ h ∷ ttl ∷ j ∷ (s / 256) ∷ (s % 256) ∷ tail) % 65535) (ap sum_for empty)

@@ -14,7 +14,8 @@ fn is_passed_over(next: u8) -> bool
 
 // The protocol of the upper layer and its octets, behind the extension headers.
 fn upper_layer(first: u8, octets: &[u8]) -> Result<(u8, &[u8]), NotPacket>
-    ensures upper { MatchResult result (λ upper. upper_of first octets.now ≡ Ok (upper.0, upper.1.now)) (λ e. upper_of first octets.now ≡ Err e) }
+    ensures upper { MatchResult result (λ upper. upper_of first octets.now ≡ Ok (upper.0, upper.1.now))
+        (λ e. upper_of first octets.now ≡ Err e) }
     ensures shorter { IfOk result (λ upper. length upper.1.now ≤ length octets.now) }
 {
     let mut next = first;

@@ -11,7 +11,8 @@ ghost use Rattle.ip_packet.specs.View.{view_of};
 
 /// What the header before sealed octets says with them.
 pub fn sealed_view()
-    ensures view { (o : Outer) (payload : List ℕ) → AreOneFamily o.src o.dst → length payload ≡ o.payload → view_of (outer_header o ++ payload) ≡ Ok (outer_view o payload) }
+    ensures view { (o : Outer) (payload : List ℕ) → AreOneFamily o.src o.dst → length payload ≡ o.payload
+        → view_of (outer_header o ++ payload) ≡ Ok (outer_view o payload) }
     ensures size { (o : Outer) → AreOneFamily o.src o.dst → length (outer_header o) ≡ header_size o.src }
     ensures id { (o : Outer) (src dst payload : List ℕ) → o.src ≡ V4 src → o.dst ≡ V4 dst → number_at (outer_header o ++ payload) 4 ≡ o.id }
 {}

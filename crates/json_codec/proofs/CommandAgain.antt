@@ -28,11 +28,11 @@ abbrev tunnel_where : (h s : Bool) → TunnelSpec → Data
 tunnel_where h s t =
     let soft = if s then no_members else put (codes "soft") (object (limits_members t.soft)) no_members in
     let second = put (codes "reqid") (wide t.reqid)
-        (put (codes "second") (string t.second) (put (codes "second-prefix") (string (prefix_text t.second_prefix)) soft)) in
+    (put (codes "second") (string t.second) (put (codes "second-prefix") (string (prefix_text t.second_prefix)) soft)) in
     let mode = put (codes "mode") (word (mode_text t.now)) second in
     let hard = if h then mode else put (codes "hard") (object (limits_members t.hard)) mode in
     object (put (codes "anti-replay-window-size") (count t.window)
-        (put (codes "first") (string t.first) (put (codes "first-prefix") (string (prefix_text t.first_prefix)) hard)))
+    (put (codes "first") (string t.first) (put (codes "first-prefix") (string (prefix_text t.first_prefix)) hard)))
 
 tunnel_by : (h s : Bool) (t : TunnelSpec) → IsTypedTunnel t → is_gateway t.first ≡ true → is_gateway t.second ≡ true
     → is_window t.window ≡ true → has_no_limits t.hard ≡ h → has_no_limits t.soft ≡ s → IsTunnelInput t (tunnel_where h s t)

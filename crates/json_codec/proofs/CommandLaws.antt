@@ -171,11 +171,25 @@ tunnel_command_back : (t : TunnelSpec) (d : Data) → IsTunnelInput t d → tunn
 unfolding tunnel_command tunnel_input_shape
 tunnel_command_back t d h =
     let lacking : list_any (lacks d) tunnel_needs ≡ false =
-    rw (there _ _ h.window, there _ _ h.first, there _ _ h.first_prefix, there _ _ h.mode, there _ _ h.reqid, there _ _ h.second, there _ _
-        h.second_prefix) refl in
+    rw (
+      there _ _ h.window,
+      there _ _ h.first,
+      there _ _ h.first_prefix,
+      there _ _ h.mode,
+      there _ _ h.reqid,
+      there _ _ h.second,
+      there _ _
+          h.second_prefix,
+    ) refl in
     let first = first_back (first_of t) d (record { window = h.window; name = h.first; prefix = h.first_prefix; hard = h.hard }) in
-    let second = second_back (second_of t) d (record { mode = h.mode; reqid = h.reqid; name = h.second; prefix = h.second_prefix; soft =
-        h.soft }) in
+    let second = second_back (second_of t) d (record {
+      mode = h.mode;
+      reqid = h.reqid;
+      name = h.second;
+      prefix = h.second_prefix;
+      soft =
+          h.soft;
+    }) in
     rw (shape_of (codes "hard" ∷ codes "soft" ∷ tunnel_needs) tunnel_needs d h.members lacking, first, second) refl
 
 -- ---- numbers and keys
@@ -223,7 +237,7 @@ last_by p q r s t h a b c e = let k : (p || q || r || s || t) ≡ t = rw (a, b, 
 input_by : (op : List ℕ) (c : Command) (d : Data) (p q r s : Bool) → is_operation op ≡ true →
     bytes_eq op (codes "policy") ≡ p → bytes_eq op (codes "tunnel") ≡ q → bytes_eq op (codes "end") ≡ r → bytes_eq op (codes "rekey") ≡ s →
     (if p then list_command d else if q then tunnel_command d else if r then end_command d else if s then rekey_command d
-        else keys_command d) ≡ Ok c → IsInput op c d
+    else keys_command d) ≡ Ok c → IsInput op c d
 input_by op c d true q r s lawful a b e f h = list_command_ok op c d ((bytes_eq-Decides op (codes "policy")).0 a) h
 input_by op c d false true r s lawful a b e f h = tunnel_command_ok op c d ((bytes_eq-Decides op (codes "tunnel")).0 b) h
 input_by op c d false false true s lawful a b e f h = end_ok op c d ((bytes_eq-Decides op (codes "end")).0 e) h
@@ -256,5 +270,5 @@ pub command_back : (op : List ℕ) (c : Command) (d : Data) → IsCommand op c d
 unfolding command_in inputs_in
 command_back op c d h none =
     let inputs : inputs_in op d ≡ Ok c = only_of (codes "ikl-control:input") (input_in op) (IsInput op c) c d (λ e k. input_back op c e k) h
-        in
+    in
     rw (inputs, none) refl

@@ -104,7 +104,7 @@ flat_policy : (e : SpdEntry) → IsFlat 4 (policy_data e)
 unfolding policy_data
 flat_policy e = flat_object 3 _ (flat_put 3 (codes "anti-replay-window-size") _ _ (flat_count 3 e.window)
     (flat_put 3 (codes "processing-info") _ _ (flat_action _) (flat_put 3 (codes "traffic-selector") _ _ (flat_selector e.selector)
-        (flat_none 3))))
+    (flat_none 3))))
 
 flat_spd_entry : (e : SpdEntry) → IsFlat 5 (spd_entry_data e)
 unfolding spd_entry_data

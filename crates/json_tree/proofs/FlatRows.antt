@@ -39,7 +39,7 @@ flat_soft l ms m =
     let inner : Members = put (codes "action") (string (codes "replace")) (limits_members l) in
     flat_if 3 (has_no_limits l) _ _ m (flat_put 3 (codes "sa-lifetime-soft") (object inner) ms
     (deeper inner (flat_object 1 inner (flat_put 1 (codes "action") _ (limits_members l) (flat_string 1 (codes "replace"))
-        (flat_limits l)))) m)
+    (flat_limits l)))) m)
   where
     deeper : (inner : Members) → IsFlat 2 (object inner) → IsFlat 3 (object inner)
     deeper inner f = let shallow = f.shallow in record { plain = f.plain; shallow = omega arith }

@@ -45,62 +45,170 @@ record AreTests (t p i b : Bool) (l : Limits) : Type 0 where
   bytes : (l.bytes == 0) ≡ b
 
 limits_by : (t p i b : Bool) (l : Limits) → IsTypedLimits l → AreTests t p i b l → IsLimits l (object (limits_where t p i b l))
-limits_by true true true true l typed e =
-    (refl, record { bytes = zero_is l.bytes e.bytes; idle = zero_is l.idle e.idle; packets = zero_is l.packets e.packets; time =
-    zero_is l.time e.time })
-limits_by true true true false l typed e =
-    (refl, record { bytes = wide_again l.bytes typed.bytes; idle = zero_is l.idle e.idle; packets = zero_is l.packets e.packets; time =
-    zero_is l.time e.time })
-limits_by true true false true l typed e =
-    (refl, record { bytes = zero_is l.bytes e.bytes; idle = number_again 0 (2 ^ 32 - 1) l.idle (omega arith) (small l.idle typed.idle);
-    packets = zero_is l.packets e.packets; time = zero_is l.time e.time })
-limits_by true true false false l typed e =
-    (refl, record { bytes = wide_again l.bytes typed.bytes; idle =
-    number_again 0 (2 ^ 32 - 1) l.idle (omega arith) (small l.idle typed.idle); packets = zero_is l.packets e.packets; time =
-    zero_is l.time e.time })
-limits_by true false true true l typed e =
-    (refl, record { bytes = zero_is l.bytes e.bytes; idle = zero_is l.idle e.idle; packets =
-    number_again 0 (2 ^ 32 - 1) l.packets (omega arith) (small l.packets typed.packets); time = zero_is l.time e.time })
-limits_by true false true false l typed e =
-    (refl, record { bytes = wide_again l.bytes typed.bytes; idle = zero_is l.idle e.idle; packets =
-    number_again 0 (2 ^ 32 - 1) l.packets (omega arith) (small l.packets typed.packets); time = zero_is l.time e.time })
-limits_by true false false true l typed e =
-    (refl, record { bytes = zero_is l.bytes e.bytes; idle = number_again 0 (2 ^ 32 - 1) l.idle (omega arith) (small l.idle typed.idle);
-    packets = number_again 0 (2 ^ 32 - 1) l.packets (omega arith) (small l.packets typed.packets); time = zero_is l.time e.time })
-limits_by true false false false l typed e =
-    (refl, record { bytes = wide_again l.bytes typed.bytes; idle =
-    number_again 0 (2 ^ 32 - 1) l.idle (omega arith) (small l.idle typed.idle); packets =
-    number_again 0 (2 ^ 32 - 1) l.packets (omega arith) (small l.packets typed.packets); time = zero_is l.time e.time })
-limits_by false true true true l typed e =
-    (refl, record { bytes = zero_is l.bytes e.bytes; idle = zero_is l.idle e.idle; packets = zero_is l.packets e.packets; time =
-    number_again 0 (2 ^ 32 - 1) l.time (omega arith) (small l.time typed.time) })
-limits_by false true true false l typed e =
-    (refl, record { bytes = wide_again l.bytes typed.bytes; idle = zero_is l.idle e.idle; packets = zero_is l.packets e.packets; time =
-    number_again 0 (2 ^ 32 - 1) l.time (omega arith) (small l.time typed.time) })
-limits_by false true false true l typed e =
-    (refl, record { bytes = zero_is l.bytes e.bytes; idle = number_again 0 (2 ^ 32 - 1) l.idle (omega arith) (small l.idle typed.idle);
-    packets = zero_is l.packets e.packets; time = number_again 0 (2 ^ 32 - 1) l.time (omega arith) (small l.time typed.time) })
-limits_by false true false false l typed e =
-    (refl, record { bytes = wide_again l.bytes typed.bytes; idle =
-    number_again 0 (2 ^ 32 - 1) l.idle (omega arith) (small l.idle typed.idle); packets = zero_is l.packets e.packets; time =
-    number_again 0 (2 ^ 32 - 1) l.time (omega arith) (small l.time typed.time) })
-limits_by false false true true l typed e =
-    (refl, record { bytes = zero_is l.bytes e.bytes; idle = zero_is l.idle e.idle; packets =
-    number_again 0 (2 ^ 32 - 1) l.packets (omega arith) (small l.packets typed.packets); time =
-    number_again 0 (2 ^ 32 - 1) l.time (omega arith) (small l.time typed.time) })
-limits_by false false true false l typed e =
-    (refl, record { bytes = wide_again l.bytes typed.bytes; idle = zero_is l.idle e.idle; packets =
-    number_again 0 (2 ^ 32 - 1) l.packets (omega arith) (small l.packets typed.packets); time =
-    number_again 0 (2 ^ 32 - 1) l.time (omega arith) (small l.time typed.time) })
-limits_by false false false true l typed e =
-    (refl, record { bytes = zero_is l.bytes e.bytes; idle = number_again 0 (2 ^ 32 - 1) l.idle (omega arith) (small l.idle typed.idle);
-    packets = number_again 0 (2 ^ 32 - 1) l.packets (omega arith) (small l.packets typed.packets); time =
-    number_again 0 (2 ^ 32 - 1) l.time (omega arith) (small l.time typed.time) })
-limits_by false false false false l typed e =
-    (refl, record { bytes = wide_again l.bytes typed.bytes; idle =
-    number_again 0 (2 ^ 32 - 1) l.idle (omega arith) (small l.idle typed.idle); packets =
-    number_again 0 (2 ^ 32 - 1) l.packets (omega arith) (small l.packets typed.packets); time =
-    number_again 0 (2 ^ 32 - 1) l.time (omega arith) (small l.time typed.time) })
+limits_by true true true true l typed e = (
+  refl,
+  record {
+    bytes = zero_is l.bytes e.bytes;
+    idle = zero_is l.idle e.idle;
+    packets = zero_is l.packets e.packets;
+    time =
+        zero_is l.time e.time;
+  },
+)
+limits_by true true true false l typed e = (
+  refl,
+  record {
+    bytes = wide_again l.bytes typed.bytes;
+    idle = zero_is l.idle e.idle;
+    packets = zero_is l.packets e.packets;
+    time =
+        zero_is l.time e.time;
+  },
+)
+limits_by true true false true l typed e = (
+  refl,
+  record {
+    bytes = zero_is l.bytes e.bytes;
+    idle = number_again 0 (2 ^ 32 - 1) l.idle (omega arith) (small l.idle typed.idle);
+    packets = zero_is l.packets e.packets;
+    time = zero_is l.time e.time;
+  },
+)
+limits_by true true false false l typed e = (
+  refl,
+  record {
+    bytes = wide_again l.bytes typed.bytes;
+    idle =
+        number_again 0 (2 ^ 32 - 1) l.idle (omega arith) (small l.idle typed.idle);
+    packets = zero_is l.packets e.packets;
+    time =
+        zero_is l.time e.time;
+  },
+)
+limits_by true false true true l typed e = (
+  refl,
+  record {
+    bytes = zero_is l.bytes e.bytes;
+    idle = zero_is l.idle e.idle;
+    packets =
+        number_again 0 (2 ^ 32 - 1) l.packets (omega arith) (small l.packets typed.packets);
+    time = zero_is l.time e.time;
+  },
+)
+limits_by true false true false l typed e = (
+  refl,
+  record {
+    bytes = wide_again l.bytes typed.bytes;
+    idle = zero_is l.idle e.idle;
+    packets =
+        number_again 0 (2 ^ 32 - 1) l.packets (omega arith) (small l.packets typed.packets);
+    time = zero_is l.time e.time;
+  },
+)
+limits_by true false false true l typed e = (
+  refl,
+  record {
+    bytes = zero_is l.bytes e.bytes;
+    idle = number_again 0 (2 ^ 32 - 1) l.idle (omega arith) (small l.idle typed.idle);
+    packets = number_again 0 (2 ^ 32 - 1) l.packets (omega arith) (small l.packets typed.packets);
+    time = zero_is l.time e.time;
+  },
+)
+limits_by true false false false l typed e = (
+  refl,
+  record {
+    bytes = wide_again l.bytes typed.bytes;
+    idle =
+        number_again 0 (2 ^ 32 - 1) l.idle (omega arith) (small l.idle typed.idle);
+    packets =
+        number_again 0 (2 ^ 32 - 1) l.packets (omega arith) (small l.packets typed.packets);
+    time = zero_is l.time e.time;
+  },
+)
+limits_by false true true true l typed e = (
+  refl,
+  record {
+    bytes = zero_is l.bytes e.bytes;
+    idle = zero_is l.idle e.idle;
+    packets = zero_is l.packets e.packets;
+    time =
+        number_again 0 (2 ^ 32 - 1) l.time (omega arith) (small l.time typed.time);
+  },
+)
+limits_by false true true false l typed e = (
+  refl,
+  record {
+    bytes = wide_again l.bytes typed.bytes;
+    idle = zero_is l.idle e.idle;
+    packets = zero_is l.packets e.packets;
+    time =
+        number_again 0 (2 ^ 32 - 1) l.time (omega arith) (small l.time typed.time);
+  },
+)
+limits_by false true false true l typed e = (
+  refl,
+  record {
+    bytes = zero_is l.bytes e.bytes;
+    idle = number_again 0 (2 ^ 32 - 1) l.idle (omega arith) (small l.idle typed.idle);
+    packets = zero_is l.packets e.packets;
+    time = number_again 0 (2 ^ 32 - 1) l.time (omega arith) (small l.time typed.time);
+  },
+)
+limits_by false true false false l typed e = (
+  refl,
+  record {
+    bytes = wide_again l.bytes typed.bytes;
+    idle =
+        number_again 0 (2 ^ 32 - 1) l.idle (omega arith) (small l.idle typed.idle);
+    packets = zero_is l.packets e.packets;
+    time =
+        number_again 0 (2 ^ 32 - 1) l.time (omega arith) (small l.time typed.time);
+  },
+)
+limits_by false false true true l typed e = (
+  refl,
+  record {
+    bytes = zero_is l.bytes e.bytes;
+    idle = zero_is l.idle e.idle;
+    packets =
+        number_again 0 (2 ^ 32 - 1) l.packets (omega arith) (small l.packets typed.packets);
+    time =
+        number_again 0 (2 ^ 32 - 1) l.time (omega arith) (small l.time typed.time);
+  },
+)
+limits_by false false true false l typed e = (
+  refl,
+  record {
+    bytes = wide_again l.bytes typed.bytes;
+    idle = zero_is l.idle e.idle;
+    packets =
+        number_again 0 (2 ^ 32 - 1) l.packets (omega arith) (small l.packets typed.packets);
+    time =
+        number_again 0 (2 ^ 32 - 1) l.time (omega arith) (small l.time typed.time);
+  },
+)
+limits_by false false false true l typed e = (
+  refl,
+  record {
+    bytes = zero_is l.bytes e.bytes;
+    idle = number_again 0 (2 ^ 32 - 1) l.idle (omega arith) (small l.idle typed.idle);
+    packets = number_again 0 (2 ^ 32 - 1) l.packets (omega arith) (small l.packets typed.packets);
+    time =
+        number_again 0 (2 ^ 32 - 1) l.time (omega arith) (small l.time typed.time);
+  },
+)
+limits_by false false false false l typed e = (
+  refl,
+  record {
+    bytes = wide_again l.bytes typed.bytes;
+    idle =
+        number_again 0 (2 ^ 32 - 1) l.idle (omega arith) (small l.idle typed.idle);
+    packets =
+        number_again 0 (2 ^ 32 - 1) l.packets (omega arith) (small l.packets typed.packets);
+    time =
+        number_again 0 (2 ^ 32 - 1) l.time (omega arith) (small l.time typed.time);
+  },
+)
 
 pub limits_again : (l : Limits) → IsTypedLimits l → IsLimits l (object (limits_members l))
 limits_again l typed = limits_by (l.time == 0) (l.packets == 0) (l.idle == 0) (l.bytes == 0) l typed
@@ -109,65 +217,205 @@ limits_again l typed = limits_by (l.time == 0) (l.packets == 0) (l.idle == 0) (l
 soft_by : (t p i b : Bool) (l : Limits) → IsTypedLimits l → AreTests t p i b l
     → IsSoft l (object (put (codes "action") (word (codes "replace")) (limits_where t p i b l)))
 soft_by true true true true l typed e =
-    record { members = refl; action = refl; limits = record { bytes = zero_is l.bytes e.bytes; idle = zero_is l.idle e.idle; packets =
-    zero_is l.packets e.packets; time = zero_is l.time e.time } }
+    record {
+      members = refl;
+      action = refl;
+      limits = record {
+        bytes = zero_is l.bytes e.bytes;
+        idle = zero_is l.idle e.idle;
+        packets =
+            zero_is l.packets e.packets;
+        time = zero_is l.time e.time;
+      };
+    }
 soft_by true true true false l typed e =
-    record { members = refl; action = refl; limits = record { bytes = wide_again l.bytes typed.bytes; idle = zero_is l.idle e.idle;
-    packets = zero_is l.packets e.packets; time = zero_is l.time e.time } }
+    record {
+      members = refl;
+      action = refl;
+      limits = record {
+        bytes = wide_again l.bytes typed.bytes;
+        idle = zero_is l.idle e.idle;
+        packets = zero_is l.packets e.packets;
+        time = zero_is l.time e.time;
+      };
+    }
 soft_by true true false true l typed e =
-    record { members = refl; action = refl; limits =
-    record { bytes = zero_is l.bytes e.bytes; idle = number_again 0 (2 ^ 32 - 1) l.idle (omega arith) (small l.idle typed.idle); packets =
-    zero_is l.packets e.packets; time = zero_is l.time e.time } }
+    record {
+      members = refl;
+      action = refl;
+      limits =
+          record {
+            bytes = zero_is l.bytes e.bytes;
+            idle = number_again 0 (2 ^ 32 - 1) l.idle (omega arith) (small l.idle typed.idle);
+            packets =
+                zero_is l.packets e.packets;
+            time = zero_is l.time e.time;
+          };
+    }
 soft_by true true false false l typed e =
-    record { members = refl; action = refl; limits = record { bytes = wide_again l.bytes typed.bytes; idle =
-    number_again 0 (2 ^ 32 - 1) l.idle (omega arith) (small l.idle typed.idle); packets = zero_is l.packets e.packets; time =
-    zero_is l.time e.time } }
+    record {
+      members = refl;
+      action = refl;
+      limits = record {
+        bytes = wide_again l.bytes typed.bytes;
+        idle =
+            number_again 0 (2 ^ 32 - 1) l.idle (omega arith) (small l.idle typed.idle);
+        packets = zero_is l.packets e.packets;
+        time =
+            zero_is l.time e.time;
+      };
+    }
 soft_by true false true true l typed e =
-    record { members = refl; action = refl; limits = record { bytes = zero_is l.bytes e.bytes; idle = zero_is l.idle e.idle; packets =
-    number_again 0 (2 ^ 32 - 1) l.packets (omega arith) (small l.packets typed.packets); time = zero_is l.time e.time } }
+    record {
+      members = refl;
+      action = refl;
+      limits = record {
+        bytes = zero_is l.bytes e.bytes;
+        idle = zero_is l.idle e.idle;
+        packets =
+            number_again 0 (2 ^ 32 - 1) l.packets (omega arith) (small l.packets typed.packets);
+        time = zero_is l.time e.time;
+      };
+    }
 soft_by true false true false l typed e =
-    record { members = refl; action = refl; limits = record { bytes = wide_again l.bytes typed.bytes; idle = zero_is l.idle e.idle;
-    packets = number_again 0 (2 ^ 32 - 1) l.packets (omega arith) (small l.packets typed.packets); time = zero_is l.time e.time } }
+    record {
+      members = refl;
+      action = refl;
+      limits = record {
+        bytes = wide_again l.bytes typed.bytes;
+        idle = zero_is l.idle e.idle;
+        packets = number_again 0 (2 ^ 32 - 1) l.packets (omega arith) (small l.packets typed.packets);
+        time = zero_is l.time e.time;
+      };
+    }
 soft_by true false false true l typed e =
-    record { members = refl; action = refl; limits =
-    record { bytes = zero_is l.bytes e.bytes; idle = number_again 0 (2 ^ 32 - 1) l.idle (omega arith) (small l.idle typed.idle); packets =
-    number_again 0 (2 ^ 32 - 1) l.packets (omega arith) (small l.packets typed.packets); time = zero_is l.time e.time } }
+    record {
+      members = refl;
+      action = refl;
+      limits =
+          record {
+            bytes = zero_is l.bytes e.bytes;
+            idle = number_again 0 (2 ^ 32 - 1) l.idle (omega arith) (small l.idle typed.idle);
+            packets =
+                number_again 0 (2 ^ 32 - 1) l.packets (omega arith) (small l.packets typed.packets);
+            time = zero_is l.time e.time;
+          };
+    }
 soft_by true false false false l typed e =
-    record { members = refl; action = refl; limits = record { bytes = wide_again l.bytes typed.bytes; idle =
-    number_again 0 (2 ^ 32 - 1) l.idle (omega arith) (small l.idle typed.idle); packets =
-    number_again 0 (2 ^ 32 - 1) l.packets (omega arith) (small l.packets typed.packets); time = zero_is l.time e.time } }
+    record {
+      members = refl;
+      action = refl;
+      limits = record {
+        bytes = wide_again l.bytes typed.bytes;
+        idle =
+            number_again 0 (2 ^ 32 - 1) l.idle (omega arith) (small l.idle typed.idle);
+        packets =
+            number_again 0 (2 ^ 32 - 1) l.packets (omega arith) (small l.packets typed.packets);
+        time = zero_is l.time e.time;
+      };
+    }
 soft_by false true true true l typed e =
-    record { members = refl; action = refl; limits = record { bytes = zero_is l.bytes e.bytes; idle = zero_is l.idle e.idle; packets =
-    zero_is l.packets e.packets; time = number_again 0 (2 ^ 32 - 1) l.time (omega arith) (small l.time typed.time) } }
+    record {
+      members = refl;
+      action = refl;
+      limits = record {
+        bytes = zero_is l.bytes e.bytes;
+        idle = zero_is l.idle e.idle;
+        packets =
+            zero_is l.packets e.packets;
+        time = number_again 0 (2 ^ 32 - 1) l.time (omega arith) (small l.time typed.time);
+      };
+    }
 soft_by false true true false l typed e =
-    record { members = refl; action = refl; limits = record { bytes = wide_again l.bytes typed.bytes; idle = zero_is l.idle e.idle;
-    packets = zero_is l.packets e.packets; time = number_again 0 (2 ^ 32 - 1) l.time (omega arith) (small l.time typed.time) } }
+    record {
+      members = refl;
+      action = refl;
+      limits = record {
+        bytes = wide_again l.bytes typed.bytes;
+        idle = zero_is l.idle e.idle;
+        packets = zero_is l.packets e.packets;
+        time = number_again 0 (2 ^ 32 - 1) l.time (omega arith) (small l.time typed.time);
+      };
+    }
 soft_by false true false true l typed e =
-    record { members = refl; action = refl; limits =
-    record { bytes = zero_is l.bytes e.bytes; idle = number_again 0 (2 ^ 32 - 1) l.idle (omega arith) (small l.idle typed.idle); packets =
-    zero_is l.packets e.packets; time = number_again 0 (2 ^ 32 - 1) l.time (omega arith) (small l.time typed.time) } }
+    record {
+      members = refl;
+      action = refl;
+      limits =
+          record {
+            bytes = zero_is l.bytes e.bytes;
+            idle = number_again 0 (2 ^ 32 - 1) l.idle (omega arith) (small l.idle typed.idle);
+            packets =
+                zero_is l.packets e.packets;
+            time = number_again 0 (2 ^ 32 - 1) l.time (omega arith) (small l.time typed.time);
+          };
+    }
 soft_by false true false false l typed e =
-    record { members = refl; action = refl; limits = record { bytes = wide_again l.bytes typed.bytes; idle =
-    number_again 0 (2 ^ 32 - 1) l.idle (omega arith) (small l.idle typed.idle); packets = zero_is l.packets e.packets; time =
-    number_again 0 (2 ^ 32 - 1) l.time (omega arith) (small l.time typed.time) } }
+    record {
+      members = refl;
+      action = refl;
+      limits = record {
+        bytes = wide_again l.bytes typed.bytes;
+        idle =
+            number_again 0 (2 ^ 32 - 1) l.idle (omega arith) (small l.idle typed.idle);
+        packets = zero_is l.packets e.packets;
+        time =
+            number_again 0 (2 ^ 32 - 1) l.time (omega arith) (small l.time typed.time);
+      };
+    }
 soft_by false false true true l typed e =
-    record { members = refl; action = refl; limits = record { bytes = zero_is l.bytes e.bytes; idle = zero_is l.idle e.idle; packets =
-    number_again 0 (2 ^ 32 - 1) l.packets (omega arith) (small l.packets typed.packets); time =
-    number_again 0 (2 ^ 32 - 1) l.time (omega arith) (small l.time typed.time) } }
+    record {
+      members = refl;
+      action = refl;
+      limits = record {
+        bytes = zero_is l.bytes e.bytes;
+        idle = zero_is l.idle e.idle;
+        packets =
+            number_again 0 (2 ^ 32 - 1) l.packets (omega arith) (small l.packets typed.packets);
+        time =
+            number_again 0 (2 ^ 32 - 1) l.time (omega arith) (small l.time typed.time);
+      };
+    }
 soft_by false false true false l typed e =
-    record { members = refl; action = refl; limits = record { bytes = wide_again l.bytes typed.bytes; idle = zero_is l.idle e.idle;
-    packets = number_again 0 (2 ^ 32 - 1) l.packets (omega arith) (small l.packets typed.packets); time =
-    number_again 0 (2 ^ 32 - 1) l.time (omega arith) (small l.time typed.time) } }
+    record {
+      members = refl;
+      action = refl;
+      limits = record {
+        bytes = wide_again l.bytes typed.bytes;
+        idle = zero_is l.idle e.idle;
+        packets = number_again 0 (2 ^ 32 - 1) l.packets (omega arith) (small l.packets typed.packets);
+        time =
+            number_again 0 (2 ^ 32 - 1) l.time (omega arith) (small l.time typed.time);
+      };
+    }
 soft_by false false false true l typed e =
-    record { members = refl; action = refl; limits =
-    record { bytes = zero_is l.bytes e.bytes; idle = number_again 0 (2 ^ 32 - 1) l.idle (omega arith) (small l.idle typed.idle); packets =
-    number_again 0 (2 ^ 32 - 1) l.packets (omega arith) (small l.packets typed.packets); time =
-    number_again 0 (2 ^ 32 - 1) l.time (omega arith) (small l.time typed.time) } }
+    record {
+      members = refl;
+      action = refl;
+      limits =
+          record {
+            bytes = zero_is l.bytes e.bytes;
+            idle = number_again 0 (2 ^ 32 - 1) l.idle (omega arith) (small l.idle typed.idle);
+            packets =
+                number_again 0 (2 ^ 32 - 1) l.packets (omega arith) (small l.packets typed.packets);
+            time =
+                number_again 0 (2 ^ 32 - 1) l.time (omega arith) (small l.time typed.time);
+          };
+    }
 soft_by false false false false l typed e =
-    record { members = refl; action = refl; limits = record { bytes = wide_again l.bytes typed.bytes; idle =
-    number_again 0 (2 ^ 32 - 1) l.idle (omega arith) (small l.idle typed.idle); packets =
-    number_again 0 (2 ^ 32 - 1) l.packets (omega arith) (small l.packets typed.packets); time =
-    number_again 0 (2 ^ 32 - 1) l.time (omega arith) (small l.time typed.time) } }
+    record {
+      members = refl;
+      action = refl;
+      limits = record {
+        bytes = wide_again l.bytes typed.bytes;
+        idle =
+            number_again 0 (2 ^ 32 - 1) l.idle (omega arith) (small l.idle typed.idle);
+        packets =
+            number_again 0 (2 ^ 32 - 1) l.packets (omega arith) (small l.packets typed.packets);
+        time =
+            number_again 0 (2 ^ 32 - 1) l.time (omega arith) (small l.time typed.time);
+      };
+    }
 
 soft_again : (l : Limits) → IsTypedLimits l → IsSoft l (object (put (codes "action") (word (codes "replace")) (limits_members l)))
 soft_again l typed = soft_by (l.time == 0) (l.packets == 0) (l.idle == 0) (l.bytes == 0) l typed
@@ -194,8 +442,13 @@ encryption_again hex key octets long = record { members = refl; algorithm = refl
 
 tunnel_again : (e : SadEntry) → IsTypedHalf e → IsTunnel e (tunnel_data e)
 unfolding tunnel_data
-tunnel_again e typed = record { members = refl; df = refl; local = address_text_again e.local typed.local; remote =
-    address_text_again e.remote typed.remote }
+tunnel_again e typed = record {
+  members = refl;
+  df = refl;
+  local = address_text_again e.local typed.local;
+  remote =
+      address_text_again e.remote typed.remote;
+}
 
 record IsGood (e : SadEntry) : Type 0 where
   typed : IsTypedHalf e
@@ -208,7 +461,7 @@ record IsGood (e : SadEntry) : Type 0 where
 abbrev config_where : (h s : Bool) → SadEntry → Data
 config_where h s e =
     let soft = if s then with_ends e no_members else put (codes "sa-lifetime-soft")
-        (object (put (codes "action") (word (codes "replace")) (limits_members e.soft))) (with_ends e no_members) in
+    (object (put (codes "action") (word (codes "replace")) (limits_members e.soft))) (with_ends e no_members) in
     let hard = if h then soft else put (codes "sa-lifetime-hard") (object (limits_members e.hard)) soft in
     object (with_sealing e.window (Some e.key) (with_fixed hard))
 

@@ -141,8 +141,8 @@ unfolding soft_in soft_shape
 soft_of_back l None h = ap Ok (sym h)
 soft_of_back l (Some d) h =
     let read : soft_in d ≡ Ok l =
-        rw (shape_of (codes "action" ∷ limits_names) [] d h.members refl, word_in_of (codes "action") (codes "replace") d h.action)
-        (limits_back l d h.limits) in
+    rw (shape_of (codes "action" ∷ limits_names) [] d h.members refl, word_in_of (codes "action") (codes "replace") d h.action)
+    (limits_back l d h.limits) in
     within_of (codes "sa-lifetime-soft") (soft_in d) l read
 
 -- ---- halves
@@ -164,10 +164,10 @@ unfolding encryption_in encryption_shape
 encryption_back key d h =
     let lacking : list_any (lacks d) (codes "key" ∷ []) ≡ false = rw (there _ _ h.key) refl in
     let read : key_in d ≡ Ok key = member_of (codes "key") (key_leaf (get (codes "key") d)) key (key_back key (get (codes "key") d) h.key)
-        in
+    in
     let algorithm : algorithm_in d ≡ Ok tt =
-        member_of (codes "encryption-algorithm") (fixed_number 20 (get (codes "encryption-algorithm") d)) tt
-        (algorithm_back (get (codes "encryption-algorithm") d) h.algorithm) in
+    member_of (codes "encryption-algorithm") (fixed_number 20 (get (codes "encryption-algorithm") d)) tt
+    (algorithm_back (get (codes "encryption-algorithm") d) h.algorithm) in
     rw (shape_of (codes "encryption-algorithm" ∷ codes "key" ∷ []) (codes "key" ∷ []) d h.members lacking, algorithm) read
 
 suite_ok : (key : List ℕ) (leaf : Option Data) → suite_key_of leaf ≡ Ok key → Needed (IsOnly (codes "encryption") (IsEncryption key)) leaf
@@ -181,7 +181,7 @@ unfolding suite_key
 suite_back key None h = absurd h
 suite_back key (Some d) h =
     let read : suite_key d ≡ Ok key = only_of (codes "encryption") encryption_in (IsEncryption key) key d (λ e k. encryption_back key e k) h
-        in
+    in
     within_of (codes "esp-sa") (suite_key d) key read
 
 record IsSealing (s : Sealing) (d : Data) : Type 0 where
@@ -311,7 +311,7 @@ config_ok e x d h is =
     let j = bind_ok (tunnel_of (get (codes "tunnel") d)) _ f.0 i.2 in
     let made : (let r : HalfConfig = record { sealing = b.0; lifetimes = c.0; traffic = f.0 } in r) ≡ config_from e = ok_is _ x f.2 ∙ is in
     let traffic : (let r : Traffic = record { spi = g.0; selector = i.0; tunnel = j.0 } in r) ≡ (config_from e).traffic = ok_is _ f.0 j.2
-        ∙ ap (λ (r : HalfConfig). r.traffic) made in
+    ∙ ap (λ (r : HalfConfig). r.traffic) made in
     let sealing = subst (λ (s : Sealing). IsSealing s d) (ap (λ (r : HalfConfig). r.sealing) made) (sealing_ok b.0 d b.1) in
     let lifetimes = subst (λ (s : Lifetimes). AreLifetimes s d) (ap (λ (r : HalfConfig). r.lifetimes) made) (lifetimes_ok c.0 d c.1) in
     record {
@@ -344,8 +344,13 @@ unfolding config_in config_shape
 config_back e d h =
     let needs = codes "esp-sa" ∷ codes "spi" ∷ codes "traffic-selector" ∷ codes "tunnel" ∷ [] in
     let lacking : list_any (lacks d) needs ≡ false = rw (there _ _ h.key, there _ _ h.spi, there _ _ h.selector, there _ _ h.tunnel) refl in
-    let sealing = sealing_back (config_from e).sealing d (record { window = h.window; key = h.key; extended = h.extended; mode = h.mode;
-        protocol = h.protocol }) in
+    let sealing = sealing_back (config_from e).sealing d (record {
+      window = h.window;
+      key = h.key;
+      extended = h.extended;
+      mode = h.mode;
+      protocol = h.protocol;
+    }) in
     let lifetimes = lifetimes_back (config_from e).lifetimes d (record { hard = h.hard; soft = h.soft; overflow = h.overflow }) in
     rw (shape_of config_names needs d h.members lacking, sealing, lifetimes, traffic_back e d h) refl
 
@@ -390,13 +395,15 @@ unfolding one_sad_entry_in one_half
 one_sad_ok e d h =
     let a = bind_ok (one_half d) _ e h in
     let b = checked_ok a.0 e (sad_fault a.0) a.2 in
-    subst (λ (x : SadEntry). IsOneSadEntry x d × (sad_fault x ≡ None)) b.0
-    (only_ok (codes "ietf-i2nsf-ikeless:sad-entry") _ _ a.0 d (λ l k. one_ok sad_entry_in (IsSadEntry a.0) a.0 (λ i m. sad_entry_ok a.0 i m)
-        l k) a.1, b.1)
+    subst (λ (x : SadEntry). IsOneSadEntry x d × (sad_fault x ≡ None)) b.0 (
+      only_ok (codes "ietf-i2nsf-ikeless:sad-entry") _ _ a.0 d (λ l k. one_ok sad_entry_in (IsSadEntry a.0) a.0 (λ i m. sad_entry_ok a.0 i m)
+          l k) a.1,
+      b.1,
+    )
 
 pub one_sad_back : (e : SadEntry) (d : Data) → IsOneSadEntry e d → sad_fault e ≡ None → one_sad_entry_in d ≡ Ok e
 unfolding one_sad_entry_in one_half
 one_sad_back e d h none =
     let one : one_half d ≡ Ok e = only_of (codes "ietf-i2nsf-ikeless:sad-entry") _ _ e d
-        (λ l k. one_of sad_entry_in (IsSadEntry e) e (λ i m. sad_entry_back e i m) l k) h in
+    (λ l k. one_of sad_entry_in (IsSadEntry e) e (λ i m. sad_entry_back e i m) l k) h in
     rw (one, none) refl

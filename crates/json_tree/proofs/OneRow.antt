@@ -21,5 +21,5 @@ shallow_row r = deeper_one (depth (one_row r)) (flat_all_rows (r ∷ [])).shallo
 pub free_row : (r : SadRow) → is_free_of (codes "key") (one_row r) ≡ true
 free_row r =
     let parts = and_parts (not (bytes_eq (codes "key") (codes "ietf-i2nsf-ikeless:sad"))) (is_free_of (codes "key") (one_row r) && true)
-        (free_all_rows (r ∷ [])).free in
+    (free_all_rows (r ∷ [])).free in
     (and_parts (is_free_of (codes "key") (one_row r)) true parts.1).0

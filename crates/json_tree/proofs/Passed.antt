@@ -72,10 +72,10 @@ front_octets front name plain h =
     let same : take n name ≡ front = (bytes_eq-Decides (take n name) front).0 parts.0 in
     let before : list_all is_path_octet (take n name) ≡ true = rw same plain in
     let serial : list_all is_word_octet (drop n name) ≡ true = third (nat_le 1 (length (drop n name))) (nat_le (length (drop n name)) 60)
-        (list_all is_word_octet (drop n name)) parts.1 in
+    (list_all is_word_octet (drop n name)) parts.1 in
     let behind : list_all is_path_octet (drop n name) ≡ true = words_paths (drop n name) serial in
     let whole : list_all is_path_octet (take n name ++ drop n name) ≡ true = list_all-append is_path_octet (take n name) (drop n name)
-        ∙ and_from _ _ before behind in
+    ∙ and_from _ _ before behind in
     rw (take-append-drop n name) at whole
 
 pub half_octets : (name : List ℕ) → is_sad_name name ≡ true → list_all is_path_octet name ≡ true

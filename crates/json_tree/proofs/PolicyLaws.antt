@@ -98,7 +98,7 @@ pub selector_back : (s : Selector) (d : Data) → IsSelector s d → selector_in
 unfolding selector_in selector_shape
 selector_back s d h =
     let lacking : list_any (lacks d) (codes "local-prefix" ∷ codes "remote-prefix" ∷ []) ≡ false =
-        rw (there _ _ h.local, there _ _ h.remote) refl in
+    rw (there _ _ h.local, there _ _ h.remote) refl in
     let local : Side = record { ports = s.local_ports; prefix = s.local } in
     let remote : Side = record { ports = s.remote_ports; prefix = s.remote } in
     rw (
@@ -184,8 +184,12 @@ processing_ok x d h =
 processing_back : (x : Action) (d : Data) → IsProcessing x d → processing_in d ≡ Ok x
 unfolding processing_in processing_shape
 processing_back x d h =
-    rw (shape_of _ [] d h.members refl, action_back x (get (codes "action") d) h.action, suite_of_back (get (codes "ipsec-sa-cfg") d)
-        h.suite) refl
+    rw (
+      shape_of _ [] d h.members refl,
+      action_back x (get (codes "action") d) h.action,
+      suite_of_back (get (codes "ipsec-sa-cfg") d)
+          h.suite,
+    ) refl
 
 processing_of_ok : (x : Action) (leaf : Option Data) → processing_of leaf ≡ Ok x → Optional (IsProcessing x) (x ≡ actions.Discard) leaf
 processing_of_ok x None h = sym (ok_is actions.Discard x h)
@@ -245,8 +249,8 @@ policy_of_back : (e : SpdEntry) (leaf : Option Data) → Needed (IsPolicy e) lea
 policy_of_back e None h = absurd h
 policy_of_back e (Some d) h =
     within_of (codes "ipsec-policy-config") (policy_in d) _
-        (config_back (record { window = e.window; action = e.action; selector = e.selector }) d
-        (record { members = h.members; window = h.window; action = h.action; selector = h.selector }))
+    (config_back (record { window = e.window; action = e.action; selector = e.selector }) d
+    (record { members = h.members; window = h.window; action = h.action; selector = h.selector }))
 
 pub spd_entry_ok : (e : SpdEntry) (d : Data) → spd_entry_in d ≡ Ok e → IsSpdEntry e d
 unfolding spd_entry_in spd_entry_shape
@@ -256,8 +260,15 @@ spd_entry_ok e d h =
     let c = bind_ok (policy_of (get (codes "ipsec-policy-config") d)) _ e b.2 in
     let f = bind_ok (name_in (codes "name") is_spd_name d) _ e c.2 in
     let g = bind_ok (reqid_in d) _ e f.2 in
-    let q : SpdEntry = record { name = f.0; direction = b.0; reqid = g.0; window = c.0.window; selector = c.0.selector; action =
-        c.0.action } in
+    let q : SpdEntry = record {
+      name = f.0;
+      direction = b.0;
+      reqid = g.0;
+      window = c.0.window;
+      selector = c.0.selector;
+      action =
+          c.0.action;
+    } in
     subst (λ (x : SpdEntry). IsSpdEntry x d) (ok_is q e g.2) (record {
       members = shape_ok _ _ d a.0 a.1;
       direction = direction_ok b.0 (get (codes "direction") d) (member_ok (codes "direction") _ b.0 b.1);
@@ -308,13 +319,15 @@ unfolding one_spd_entry_in one_entry
 one_spd_ok e d h =
     let a = bind_ok (one_entry d) _ e h in
     let b = checked_ok a.0 e (spd_fault (a.0 ∷ [])) a.2 in
-    subst (λ (x : SpdEntry). IsOneSpdEntry x d × (spd_fault (x ∷ []) ≡ None)) b.0
-    (only_ok (codes "ietf-i2nsf-ikeless:spd-entry") _ _ a.0 d (λ l k. one_ok spd_entry_in (IsSpdEntry a.0) a.0 (λ i m. spd_entry_ok a.0 i m)
-        l k) a.1, b.1)
+    subst (λ (x : SpdEntry). IsOneSpdEntry x d × (spd_fault (x ∷ []) ≡ None)) b.0 (
+      only_ok (codes "ietf-i2nsf-ikeless:spd-entry") _ _ a.0 d (λ l k. one_ok spd_entry_in (IsSpdEntry a.0) a.0 (λ i m. spd_entry_ok a.0 i m)
+          l k) a.1,
+      b.1,
+    )
 
 pub one_spd_back : (e : SpdEntry) (d : Data) → IsOneSpdEntry e d → spd_fault (e ∷ []) ≡ None → one_spd_entry_in d ≡ Ok e
 unfolding one_spd_entry_in one_entry
 one_spd_back e d h none =
     let one : one_entry d ≡ Ok e = only_of (codes "ietf-i2nsf-ikeless:spd-entry") _ _ e d
-        (λ l k. one_of spd_entry_in (IsSpdEntry e) e (λ i m. spd_entry_back e i m) l k) h in
+    (λ l k. one_of spd_entry_in (IsSpdEntry e) e (λ i m. spd_entry_back e i m) l k) h in
     rw (one, none) refl

@@ -114,7 +114,7 @@ unfolding policy_data
 write_policy e typed =
     write_object _ (write_member (codes "anti-replay-window-size") _ _ refl (write_number e.window (narrow e.window typed.window))
     (write_member (codes "processing-info") _ _ refl
-        (write_only (codes "action") _ refl (write_word (action_text e.action) (action_ascii e.action)))
+    (write_only (codes "action") _ refl (write_word (action_text e.action) (action_ascii e.action)))
     (write_member (codes "traffic-selector") _ _ refl (write_selector e.selector typed.selector) write_none)))
 
 write_entry : (e : SpdEntry) → IsTypedPolicy e → is_spd_name e.name ≡ true → IsWritable (spd_entry_data e)
@@ -135,7 +135,7 @@ pub write_policies : (es : List SpdEntry) → AreTypedPolicies es → spd_fault 
 write_policies es typed h =
     write_only (codes "ietf-i2nsf-ikeless:spd") _ refl
     (write_only (codes "spd-entry") _ refl
-        (write_array _ (write_entries es (recursion_from_All IsTypedPolicy es typed) (passed_names es h))))
+    (write_array _ (write_entries es (recursion_from_All IsTypedPolicy es typed) (passed_names es h))))
 
 -- ---- lifetimes
 
@@ -151,7 +151,7 @@ write_wide name n ms ascii small h = members_if (n == 0) _ _ h (write_member nam
 write_limits : (l : Limits) → IsTypedLimits l → HaveWritable (limits_members l)
 write_limits l typed = write_wide (codes "bytes") l.bytes _ refl typed.bytes (write_count (codes "idle") l.idle _ refl typed.idle
     (write_count (codes "packets") l.packets _ refl typed.packets (write_count (codes "time") l.time no_members refl typed.time
-        write_none)))
+    write_none)))
 
 write_lifetime : (name : List ℕ) (l : Limits) (ms : Members) → are_ascii name ≡ true → IsTypedLimits l → HaveWritable ms
     → HaveWritable (with_lifetime name l ms)
@@ -215,7 +215,7 @@ write_config : (e : SadEntry) (key : Option (List ℕ)) → IsTypedHalf e → Ha
 unfolding config_data
 write_config e key typed octets = write_object _ (write_sealing e.window key _ typed.window octets (write_fixed _
     (write_lifetime (codes "sa-lifetime-hard") e.hard _ refl typed.hard
-        (write_soft e.soft _ typed.soft (write_ends e no_members typed write_none)))))
+    (write_soft e.soft _ typed.soft (write_ends e no_members typed write_none)))))
 
 write_half : (e : SadEntry) → IsTypedHalf e → is_sad_name e.name ≡ true → IsWritable (sad_entry_data e)
 unfolding sad_entry_data

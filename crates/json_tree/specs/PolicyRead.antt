@@ -88,8 +88,15 @@ spd_entry_in d =
     policy_of (get (codes "ipsec-policy-config") d) >>= (λ policy.
     name_in (codes "name") is_spd_name d >>= (λ name.
     reqid_in d >>= (λ reqid.
-    Ok (record { name = name; direction = direction; reqid = reqid; window = policy.window; selector = policy.selector; action =
-        policy.action }))))))
+    Ok (record {
+      name = name;
+      direction = direction;
+      reqid = reqid;
+      window = policy.window;
+      selector = policy.selector;
+      action =
+          policy.action;
+    }))))))
 
 -- the list of all policies
 abbrev pub entries_in : Data → Result (List SpdEntry) Fault

@@ -138,7 +138,7 @@ put_last no_members k d h = refl
 put_last (member l e ms) k d h =
     let greater : slice_cmp nat_cmp k l ≡ Greater = nat_list_cmp_total.antisymm k l ∙ ap ordering_reverse h.0 in
     ap (λ o. match_ordering o (member k d (member l e ms)) (member l d ms) (member l e (put k d ms))) greater
-        ∙ ap (member l e) (put_last ms k d h.1)
+    ∙ ap (member l e) (put_last ms k d h.1)
 
 before_last : (found : Members) (k : List ℕ) (d : Data) (l : List ℕ) → AreBefore found l → slice_cmp nat_cmp k l ≡ Less
     → AreBefore (joined found (member k d no_members)) l
@@ -249,7 +249,7 @@ mutual
   members_plain later no_members h = IsUtf8-are_ascii (125 ∷ []) refl
   members_plain later (member k d ms) h =
       let rest : IsUtf8 (compact_text d ++ members_text true ms) = IsUtf8-append (compact_text d) _ (text_utf8 d h.2)
-          (members_plain true ms h.3) in
+      (members_plain true ms h.3) in
       IsUtf8-append (comma_if later) _ (comma_plain later)
       (IsUtf8-append _ _ (IsUtf8-quoted k (IsUtf8-are_ascii k h.0)) (mark_plain 58 (compact_text d ++ members_text true ms) refl rest))
 
@@ -261,7 +261,7 @@ pub read_again : (d : Data) → IsWritable d → depth d ≤ max_depth → read 
 read_again d h shallow =
     let j : json.Json = outline d in
     let lexed : tokens (compact_text d) ≡ json_tokens j = ap tokens (sym (print-outline d))
-        ∙ tokens-print (json_tokens j) (ArePrintable-json_tokens j (numbers d h.plain)) in
+    ∙ tokens-print (json_tokens j) (ArePrintable-json_tokens j (numbers d h.plain)) in
     let deep : tree.depth j ≤ max_depth = rw (depth_same d) shallow in
     ap (λ ts. whole (json.value max_depth ts)) (lexed ∙ sym (append-nil (json_tokens j)))
     ∙ ap whole (value-json_tokens j max_depth [] deep)

@@ -105,9 +105,11 @@ pub only_ok : {A : Type 0} → (name : List ℕ) (f : Data → Result A Fault) (
 unfolding only_in
 only_ok name f P x d step h =
     let a = bind_ok (only_in name d) (λ e. within name (f e)) x h in
-    let b = bind_ok (shape (name ∷ []) (name ∷ []) d) (λ done. needed_data (get name d)) a.0 a.1 in
-    (shape_ok (name ∷ []) (name ∷ []) d b.0 b.1, subst (Needed P) (sym (inner_ok (get name d) a.0 b.2))
-        (step a.0 (within_ok name (f a.0) x a.2)))
+    let b = bind_ok (shape (name ∷ []) (name ∷ []) d) (λ done. needed_data (get name d)) a.0 a.1 in (
+      shape_ok (name ∷ []) (name ∷ []) d b.0 b.1,
+      subst (Needed P) (sym (inner_ok (get name d) a.0 b.2))
+          (step a.0 (within_ok name (f a.0) x a.2)),
+    )
 
 only_by : (name : List ℕ) (P : Data → Type 0) (d : Data) (leaf : Option Data) → get name d ≡ leaf → HasOnly (name ∷ []) d → Needed P leaf
     → (e : Data) × (only_in name d ≡ Ok e) × P e
@@ -139,8 +141,11 @@ each_ok f P step i no_items xs h = subst (λ ys. Each P ys no_items) (ok_is [] x
 each_ok f P step i (item d ds) xs h =
     let a = bind_ok (within (decimal i) (f d)) (λ x. each_item f (i + 1) ds >>= (λ ys. Ok (x ∷ ys))) xs h in
     let b = bind_ok (each_item f (i + 1) ds) (λ ys. Ok (a.0 ∷ ys)) xs a.2 in
-    subst (λ ys. Each P ys (item d ds)) (ok_is (a.0 ∷ b.0) xs b.2) (step a.0 d (within_ok (decimal i) (f d) a.0 a.1), each_ok f P step
-        (i + 1) ds b.0 b.1)
+    subst (λ ys. Each P ys (item d ds)) (ok_is (a.0 ∷ b.0) xs b.2) (
+      step a.0 d (within_ok (decimal i) (f d) a.0 a.1),
+      each_ok f P step
+          (i + 1) ds b.0 b.1,
+    )
 
 pub each_of : {A : Type 0} → (f : Data → Result A Fault) (P : A → Data → Type 0) → ((x : A) (d : Data) → P x d → f d ≡ Ok x)
     → (i : ℕ) (ds : Items) (xs : List A) → Each P xs ds → each_item f i ds ≡ Ok xs
@@ -185,9 +190,11 @@ pub only_kept_ok : {A : Type 0} → (name : List ℕ) (f : Data → Result A Kin
 unfolding only_in
 only_kept_ok name f P x d step h =
     let a = bind_ok (only_in name d) (λ e. at_member name (f e)) x h in
-    let b = bind_ok (shape (name ∷ []) (name ∷ []) d) (λ done. needed_data (get name d)) a.0 a.1 in
-    (shape_ok (name ∷ []) (name ∷ []) d b.0 b.1, subst (Needed P) (sym (inner_ok (get name d) a.0 b.2))
-        (step a.0 (member_ok name (f a.0) x a.2)))
+    let b = bind_ok (shape (name ∷ []) (name ∷ []) d) (λ done. needed_data (get name d)) a.0 a.1 in (
+      shape_ok (name ∷ []) (name ∷ []) d b.0 b.1,
+      subst (Needed P) (sym (inner_ok (get name d) a.0 b.2))
+          (step a.0 (member_ok name (f a.0) x a.2)),
+    )
 
 pub only_kept_of : {A : Type 0} → (name : List ℕ) (f : Data → Result A Kind) (P : Data → Type 0) (x : A) (d : Data)
     → ((e : Data) → P e → f e ≡ Ok x) →

@@ -26,7 +26,7 @@ life-cut hard soft installed used octets packets is_told =
 -- one more use
 pub counted-life : (hard soft : Limits) (installed used now octets times size : ℕ) (is_told : Bool) →
     life-with hard soft installed now (octets + size) (times + 1) is_told ≡ counted size now
-        (life-with hard soft installed used octets times is_told)
+    (life-with hard soft installed used octets times is_told)
 counted-life hard soft installed used now octets times size is_told =
     ap (λ n. life-cut hard soft installed now n (cut_32 (times + 1)) is_told) (cut-more 18446744073709551615 octets size)
     ∙ ap (λ n. life-cut hard soft installed now (cut_64 (cut_64 octets + size)) n is_told) (cut-more 4294967295 times 1)

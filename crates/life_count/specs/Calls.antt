@@ -40,7 +40,7 @@ abbrev pub was_told : Limits → Limits → ℕ → List Call → Bool
 was_told hard soft installed [] = false
 was_told hard soft installed (Use size now ∷ h) =
     is_soft (event_by hard soft (was_told hard soft installed h) (counts_after installed now (Use size now ∷ h)))
-        || was_told hard soft installed h
+    || was_told hard soft installed h
 was_told hard soft installed (Tick now ∷ h) = is_soft (event_by hard soft (was_told hard soft installed h) (counts_after installed now h))
     || was_told hard soft installed h
 was_told hard soft installed (Session ∷ h) = false

@@ -9,6 +9,8 @@ ghost use Rattle.life_count.specs.Calls.{Call, life_after, counts_after, next_ev
 ///
 /// The calls stand with the newest first.
 pub fn looks_back()
-    ensures counts { (hard soft : Limits) (installed now : ℕ) (calls : List Call) → counts_of now (life_after hard soft installed calls) ≡ counts_after installed now calls }
-    ensures event { (hard soft : Limits) (installed : ℕ) (calls : List Call) (call : Call) → next_event (life_after hard soft installed calls) call ≡ told_by hard soft installed calls call }
+    ensures counts { (hard soft : Limits) (installed now : ℕ) (calls : List Call) → counts_of now (life_after hard soft installed calls) ≡
+        counts_after installed now calls }
+    ensures event { (hard soft : Limits) (installed : ℕ) (calls : List Call) (call : Call)
+        → next_event (life_after hard soft installed calls) call ≡ told_by hard soft installed calls call }
 {}

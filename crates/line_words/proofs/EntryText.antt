@@ -104,7 +104,7 @@ ports_split r rs are =
     ap (slice_split is_plus) (ports_from r rs)
     ∙ split_behind is_plus 43 refl (range_text r) (map range_text rs)
     (each_mapped (λ t. All (λ c. is_plus c ≡ false) t) range_text (r ∷ rs)
-        (each_holds IsTypedRange (λ x. All (λ c. is_plus c ≡ false) (range_text x)) no_plus (r ∷ rs) are))
+    (each_holds IsTypedRange (λ x. All (λ c. is_plus c ≡ false) (range_text x)) no_plus (r ∷ rs) are))
 
 ports_read : (rs : List Range) → AllByRecursion IsTypedRange rs → length rs ≤ 8 → ports_of (ports_text rs) ≡ Ok rs
 unfolding ports_of
@@ -113,7 +113,7 @@ ports_read (r ∷ rs) are few =
     let any = not_word is_ports_octet (ports_text (r ∷ rs)) (codes "any") (some_octets r rs are) refl in
     let s = ports_split r rs are in
     let n : nat_le (length (map range_text (r ∷ rs))) 8 ≡ true = le-leb _ 8 (let e = length-map (r ∷ rs) range_text in
-        omega (arith, e, few)) in
+    omega (arith, e, few)) in
     let x = each_of range_of range_text (r ∷ rs) (each_holds IsTypedRange (λ y. range_of (range_text y) ≡ Ok y) range_read (r ∷ rs) are) in
     rw (any, s, n, x) refl
 
@@ -211,7 +211,7 @@ entry_from : (e : SpdEntry) → entry_text e ≡ e.name ++ flat_map (λ u. 44 �
 unfolding entry_text selector_text entry_rest selector_parts
 entry_from e =
     nine e.name (direction_text e.direction) (decimal e.reqid) (action_text e.action) (prefix_text e.selector.local)
-        (prefix_text e.selector.remote)
+    (prefix_text e.selector.remote)
     (proto_text e.selector.proto) (ports_text e.selector.local_ports) (ports_text e.selector.remote_ports)
 
 are_parts : (e : SpdEntry) → IsTypedPolicy e → is_spd_name e.name ≡ true → AllByRecursion (λ t. list_all is_part t ≡ true) (e.name
@@ -254,7 +254,7 @@ entry_read e is window name few =
     ap entry_of (entry_from e)
     ∙ ap entry_in (split_behind is_comma 44 refl e.name (entry_rest e)
     (each_holds (λ t. list_all is_part t ≡ true) (λ t. All (λ c. is_comma c ≡ false) t) no_comma (e.name ∷ entry_rest e)
-        (are_parts e is name)))
+    (are_parts e is name)))
     ∙ in_parts e is window few
 
 -- a word has no space

@@ -19,7 +19,7 @@ front_part front name good has =
     let serial : list_all is_word_octet (drop (length front) name) ≡ true = (and_parts _ _ p.1).1 in
     let same : take (length front) name ≡ front = (bytes_eq-Decides (take (length front) name) front).0 p.0 in
     taken_all is_part (length front) name (ap (list_all is_part) same ∙ good)
-        (also is_word_octet is_part word_part (drop (length front) name) serial)
+    (also is_word_octet is_part word_part (drop (length front) name) serial)
 
 -- the name of a half has neither a space nor a comma
 pub half_name_part : (name : List ℕ) → is_sad_name name ≡ true → list_all is_part name ≡ true

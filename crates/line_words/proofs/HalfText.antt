@@ -47,14 +47,14 @@ good_half : (e : SadEntry) → IsInstallable e → IsGood e
 unfolding sad_fault
 good_half e none =
     by_tests (is_sad_name e.name) (nat_lt e.spi 256) (is_key_length (length e.key)) (is_window e.window) (has_empty_range e.selector)
-        (has_many_ranges e.selector)
+    (has_many_ranges e.selector)
     (is_one_family e.local e.remote) refl refl refl none
   where
     by_tests : (named low keyed window empty many family : Bool) → is_sad_name e.name ≡ named → is_key_length (length e.key) ≡ keyed
         → has_many_ranges e.selector ≡ many
         → cond (not named) (Some tree_faults.BadName) (cond low (Some tree_faults.BadSpi) (cond (not keyed) (Some tree_faults.BadKeyLength)
         (cond (not window) (Some tree_faults.BadWindow)
-            (cond empty (Some tree_faults.EmptyRange) (cond many (Some (tree_faults.Unsupported features.Ports))
+        (cond empty (Some tree_faults.EmptyRange) (cond many (Some (tree_faults.Unsupported features.Ports))
         (cond (not family) (Some (tree_faults.Unsupported features.Tunnel)) None)))))) ≡ None
         → IsGood e
     by_tests true false true true false false true n k m h = record { name = n; key = k; few = m }
@@ -98,14 +98,14 @@ key_parts e = digits_text e.key ∷ address_text e.local ∷ address_text e.remo
 rest_parts : SadEntry → List (List ℕ)
 rest_parts e =
     prefix_text e.selector.local ∷ prefix_text e.selector.remote ∷ proto_text e.selector.proto ∷ ports_text e.selector.local_ports
-        ∷ ports_text e.selector.remote_ports ∷ key_parts e
+    ∷ ports_text e.selector.remote_ports ∷ key_parts e
 
 half_parts : SadEntry → List (List ℕ)
 half_parts e = decimal e.reqid ∷ decimal e.spi ∷ decimal e.window ∷ rest_parts e
 
 fifteen : (a b c d e f g h i j k l m n o : List ℕ)
     → a ++ 44 ∷ ((b ++ 44 ∷ (c ++ 44 ∷ d)) ++ 44 ∷ (((e ++ 44 ∷ f) ++ 44 ∷ (g ++ 44 ∷ (h ++ 44 ∷ i))) ++ 44
-        ∷ (j ++ 44 ∷ ((k ++ 44 ∷ (l ++ 44 ∷ m)) ++ 44 ∷ (n ++ 44 ∷ o)))))
+    ∷ (j ++ 44 ∷ ((k ++ 44 ∷ (l ++ 44 ∷ m)) ++ 44 ∷ (n ++ 44 ∷ o)))))
     ≡ a ++ flat_map (λ u. 44 ∷ u) (b ∷ c ∷ d ∷ e ∷ f ∷ g ∷ h ∷ i ∷ j ∷ k ∷ l ∷ m ∷ n ∷ o ∷ [])
 fifteen a b c d e f g h i j k l m n o = simp (append_assoc, append-nil)
 
@@ -113,9 +113,9 @@ half_joined : (e : SadEntry) → half_text e ≡ e.name ++ flat_map (λ u. 44 �
 unfolding half_text selector_text half_parts rest_parts key_parts
 half_joined e =
     fifteen e.name (decimal e.reqid) (decimal e.spi) (decimal e.window) (prefix_text e.selector.local) (prefix_text e.selector.remote)
-        (proto_text e.selector.proto)
+    (proto_text e.selector.proto)
     (ports_text e.selector.local_ports) (ports_text e.selector.remote_ports) (digits_text e.key) (address_text e.local)
-        (address_text e.remote) (df_text e.df)
+    (address_text e.remote) (df_text e.df)
     (limits_text e.hard) (limits_text e.soft)
 
 AreParts : List (List ℕ) → Type 0
@@ -148,8 +148,11 @@ rest_are_parts e is good =
           proto_is_part e.selector.proto s.proto,
           (
             ports_are_part e.selector.local_ports (recursion_from_All IsTypedRange e.selector.local_ports s.local_ports),
-            (ports_are_part e.selector.remote_ports (recursion_from_All IsTypedRange e.selector.remote_ports s.remote_ports), key_are_parts
-                e is good),
+            (
+              ports_are_part e.selector.remote_ports (recursion_from_All IsTypedRange e.selector.remote_ports s.remote_ports),
+              key_are_parts
+                  e is good,
+            ),
           ),
         ),
       ),
@@ -160,9 +163,17 @@ unfolding half_parts AreParts
 half_are_parts e is good =
     let n = is.reqid in
     let s = is.spi in
-    let w = is.window in
-    (number_is_part e.reqid n, (number_is_part e.spi (omega (arith, s)), (number_is_part e.window (omega (arith, w)), rest_are_parts e is
-        good)))
+    let w = is.window in (
+      number_is_part e.reqid n,
+      (
+        number_is_part e.spi (omega (arith, s)),
+        (
+          number_is_part e.window (omega (arith, w)),
+          rest_are_parts e is
+              good,
+        ),
+      ),
+    )
 
 numbers_read : (e : SadEntry) → IsTypedHalf e
     → half_numbers_of (decimal e.reqid) (decimal e.spi) (decimal e.window) ≡ Ok (record { reqid = e.reqid; spi = e.spi; window = e.window })
@@ -178,8 +189,12 @@ numbers_read e is =
 
 keys_read : ReadsDigits → (e : SadEntry) → IsTypedHalf e → IsGood e
     → half_keys_in (key_parts e)
-    ≡ Ok (record { key = e.key; tunnel = record { local = e.local; remote = e.remote; df = e.df }; lifetimes =
-        record { hard = e.hard; soft = e.soft } })
+    ≡ Ok (record {
+      key = e.key;
+      tunnel = record { local = e.local; remote = e.remote; df = e.df };
+      lifetimes =
+          record { hard = e.hard; soft = e.soft };
+    })
 unfolding half_keys_in half_keys_of half_tunnel_of lifetimes_of key_parts
 keys_read digits e is good =
     let k = key_read digits e.key good.key is.key in
@@ -192,12 +207,18 @@ keys_read digits e is good =
 
 rest_read : ReadsDigits → (e : SadEntry) → IsTypedHalf e → IsGood e
     → half_rest_in (rest_parts e)
-    ≡ Ok (record { selector = e.selector; keys = record { key = e.key; tunnel = record { local = e.local; remote = e.remote; df = e.df };
-        lifetimes = record { hard = e.hard; soft = e.soft } } })
+    ≡ Ok (record {
+      selector = e.selector;
+      keys = record {
+        key = e.key;
+        tunnel = record { local = e.local; remote = e.remote; df = e.df };
+        lifetimes = record { hard = e.hard; soft = e.soft };
+      };
+    })
 unfolding half_rest_in half_rest_of rest_parts selector_in selector_parts
 rest_read digits e is good =
     let s : selector_of (prefix_text e.selector.local) (prefix_text e.selector.remote) (proto_text e.selector.proto)
-        (ports_text e.selector.local_ports) (ports_text e.selector.remote_ports) ≡ Ok e.selector =
+    (ports_text e.selector.local_ports) (ports_text e.selector.remote_ports) ≡ Ok e.selector =
     selector_read e.selector is.selector good.few in
     let k = keys_read digits e is good in
     rw (s, k) refl
@@ -214,7 +235,7 @@ unfolding half_of AreParts
 half_read digits e is fits =
     let good = good_half e fits in
     let parts : AllByRecursion (λ t. list_all is_part t ≡ true) (e.name ∷ half_parts e) =
-        (half_name_part e.name good.name, half_are_parts e is good) in
+    (half_name_part e.name good.name, half_are_parts e is good) in
     let s : slice_split is_comma (half_text e) ≡ e.name ∷ half_parts e =
     ap (slice_split is_comma) (half_joined e)
     ∙ split_behind is_comma 44 refl e.name (half_parts e)

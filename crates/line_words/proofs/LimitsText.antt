@@ -39,9 +39,10 @@ limits_split l are =
     let p = are.packets in
     let i = are.idle in
     ap (slice_split is_slash) (limits_from l)
-    ∙ split_behind is_slash 47 refl (decimal l.time) (decimal l.bytes ∷ decimal l.packets ∷ decimal l.idle ∷ [])
-    (no_slash l.time (omega (arith, t)),
-        (no_slash l.bytes b, (no_slash l.packets (omega (arith, p)), (no_slash l.idle (omega (arith, i)), tt))))
+    ∙ split_behind is_slash 47 refl (decimal l.time) (decimal l.bytes ∷ decimal l.packets ∷ decimal l.idle ∷ []) (
+      no_slash l.time (omega (arith, t)),
+      (no_slash l.bytes b, (no_slash l.packets (omega (arith, p)), (no_slash l.idle (omega (arith, i)), tt))),
+    )
 
 pub limits_read : (fault : LineFault) (l : Limits) → IsTypedLimits l → limits_of fault (limits_text l) ≡ Ok l
 unfolding limits_in counts_of number_rest

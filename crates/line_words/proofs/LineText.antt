@@ -118,7 +118,7 @@ pub hex_read : ReadsDigits → (octets : List ℕ) → AreOctets octets → octe
 hex_read digits [] are = refl
 hex_read digits (o ∷ os) are =
     let dash = not_word is_ascii_hexdigit (digits_text (o ∷ os)) (codes "-")
-        (digit_pairs (o ∷ os) (recursion_from_All (λ x. x < 256) (o ∷ os) are)) refl in
+    (digit_pairs (o ∷ os) (recursion_from_All (λ x. x < 256) (o ∷ os) are)) refl in
     let read = digits o os are in
     rw (dash, read) refl
 
@@ -132,11 +132,11 @@ good_entry : (before : List SpdEntry) (e : SpdEntry) → entry_fault before e �
 unfolding entry_fault GoodEntry
 good_entry before e none =
     by_tests (list_any (is_named e.name) before) (is_spd_name e.name) (is_window e.window) (has_empty_range e.selector)
-        (has_many_ranges e.selector) none
+    (has_many_ranges e.selector) none
   where
     by_tests : (twice named window empty many : Bool)
         → cond twice (Some tree_faults.DuplicateName)
-            (cond (not named) (Some tree_faults.BadName) (cond (not window) (Some tree_faults.BadWindow)
+        (cond (not named) (Some tree_faults.BadName) (cond (not window) (Some tree_faults.BadWindow)
         (cond empty (Some tree_faults.EmptyRange) (cond many (Some (tree_faults.Unsupported features.Ports)) None)))) ≡ None
         → (named ≡ true) × (many ≡ false)
     by_tests false true true false false h = (refl, refl)
@@ -186,7 +186,7 @@ pub list_words : (list : List SpdEntry) → IsListed list → All IsTypedPolicy 
 unfolding AreWords
 list_words list is are =
     each_mapped (λ t. list_all is_graph t ≡ true) entry_text list (all_words list (recursion_from_All IsTypedPolicy list are)
-        (spd_parts list is.fits).1)
+    (spd_parts list is.fits).1)
 
 pub few_words : (list : List SpdEntry) → IsListed list → nat_le (length (map entry_text list)) 256 ≡ true
 few_words list is =

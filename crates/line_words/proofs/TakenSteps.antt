@@ -73,8 +73,11 @@ listed ws list good read fits = by_fault (spd_fault list) refl fits
     by_fault : (o : Option TreeFault) → spd_fault list ≡ o → unless_fault o list ≡ Ok good → IsListed good
     by_fault None none is =
         let e : list ≡ good = cc in
-        subst IsListed e (record { fits = none; windows =
-            All-from_recursion HasWindow list (each_has HasWindow entry_of entry_window ws list read) })
+        subst IsListed e (record {
+          fits = none;
+          windows =
+              All-from_recursion HasWindow list (each_has HasWindow entry_of entry_window ws list read);
+        })
     by_fault (Some fault) some is = cc
 
 -- ---- words
@@ -98,6 +101,6 @@ number_most fault most w n is = by_form (is_number w) refl is
 
     by_form : (b : Bool) → is_number w ≡ b
         → or_fault fault (cond (not b) (Err bad.Form) (cond (nat_lt most (digits_value 10 w)) (Err bad.Range) (Ok (digits_value 10 w)))) ≡
-            Ok n → n ≤ most
+        Ok n → n ≤ most
     by_form true form h = by_range (nat_lt most (digits_value 10 w)) refl h
     by_form false form h = cc

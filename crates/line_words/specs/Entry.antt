@@ -63,15 +63,15 @@ ports_of w =
 unfoldable pub selector_of : List ℕ → List ℕ → List ℕ → List ℕ → List ℕ → Result Selector LineFault
 selector_of local remote proto local_ports remote_ports =
     prefix_in faults.Entry local >>=
-        (λ l. prefix_in faults.Entry remote >>=
-        (λ r. proto_of proto >>= (λ p. ports_of local_ports >>= (λ lp. ports_of remote_ports >>= (λ rp.
+    (λ l. prefix_in faults.Entry remote >>=
+    (λ r. proto_of proto >>= (λ p. ports_of local_ports >>= (λ lp. ports_of remote_ports >>= (λ rp.
     Ok (record { local = l; remote = r; proto = p; local_ports = lp; remote_ports = rp }))))))
 
 -- a direction, the number that names the policy's associations, and an action
 unfoldable pub use_of : List ℕ → List ℕ → List ℕ → Result Use LineFault
 use_of direction reqid action =
     direction_of direction >>= (λ d. number_in faults.Entry (2 ^ 64 - 1) reqid >>=
-        (λ n. action_of action >>= (λ a. Ok (record { direction = d; reqid = n; action = a }))))
+    (λ n. action_of action >>= (λ a. Ok (record { direction = d; reqid = n; action = a }))))
 
 -- the selector of five parts
 unfoldable pub selector_in : List (List ℕ) → Result Selector LineFault

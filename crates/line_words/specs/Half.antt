@@ -35,7 +35,7 @@ key_of w = or_fault faults.Entry (digits_of w)
 unfoldable pub half_numbers_of : List ℕ → List ℕ → List ℕ → Result HalfNumbers LineFault
 half_numbers_of reqid spi window =
     number_in faults.Entry (2 ^ 64 - 1) reqid >>=
-        (λ n. number_in faults.Entry (2 ^ 32 - 1) spi >>= (λ s. number_in faults.Entry (2 ^ 32 - 1) window >>= (λ w.
+    (λ n. number_in faults.Entry (2 ^ 32 - 1) spi >>= (λ s. number_in faults.Entry (2 ^ 32 - 1) window >>= (λ w.
     Ok (record { reqid = n; spi = s; window = w }))))
 
 -- the ends of its tunnel, and where the DF bit comes from

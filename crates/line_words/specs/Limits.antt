@@ -11,8 +11,8 @@ use Rattle.line_words.specs.Words.{◌>>=◌, number_in}
 unfoldable pub counts_of : LineFault → List ℕ → List ℕ → List ℕ → List ℕ → Result Limits LineFault
 counts_of fault time bytes packets idle =
     number_in fault (2 ^ 32 - 1) time >>=
-        (λ t. number_in fault (2 ^ 64 - 1) bytes >>=
-        (λ b. number_in fault (2 ^ 32 - 1) packets >>= (λ p. number_in fault (2 ^ 32 - 1) idle >>= (λ i.
+    (λ t. number_in fault (2 ^ 64 - 1) bytes >>=
+    (λ b. number_in fault (2 ^ 32 - 1) packets >>= (λ p. number_in fault (2 ^ 32 - 1) idle >>= (λ i.
     Ok (record { time = t; bytes = b; packets = p; idle = i })))))
 
 -- four numbers with slashes between them: seconds, octets, packets and idle seconds

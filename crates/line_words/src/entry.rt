@@ -95,7 +95,8 @@ pub fn selector(
     protocol: &[u8],
     both_ports: (&[u8], &[u8]),
 ) -> Result<Selector, OrMemory<LineFault>>
-    ensures { Gives result (selector_of prefixes.entry.0.now prefixes.entry.1.now protocol.now both_ports.entry.0.now both_ports.entry.1.now) }
+    ensures { Gives result (selector_of prefixes.entry.0.now prefixes.entry.1.now protocol.now both_ports.entry.0.now
+        both_ports.entry.1.now) }
 {
     let local = prefix_from(LineFault::Entry, prefixes.0)?;
     let remote = prefix_from(LineFault::Entry, prefixes.1)?;

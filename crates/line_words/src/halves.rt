@@ -132,7 +132,8 @@ fn rest(
     ports: (&[u8], &[u8]),
     more: &[&[u8]],
 ) -> Result<HalfRest, OrMemory<LineFault>>
-    ensures { Gives result (half_rest_of prefixes.entry.0.now prefixes.entry.1.now protocol.now ports.entry.0.now ports.entry.1.now (texts more.now)) }
+    ensures { Gives result (half_rest_of prefixes.entry.0.now prefixes.entry.1.now protocol.now ports.entry.0.now ports.entry.1.now
+        (texts more.now)) }
 {
     let selector = selector(alloc, prefixes, protocol, ports)?;
     let keys = keys_from(alloc, more)?;

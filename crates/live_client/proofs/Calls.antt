@@ -11,15 +11,25 @@ pub conversed : (request : List ℕ) (up asked last : Option PeerHeld) (turns : 
     → Replied asked turns last r → Conversed request up turns last r
 conversed request up asked last turns (Ok told) writes replied = record { asked = asked; writes = writes; replied = replied }
 conversed request up asked last turns (Err faults.LinkFault) writes replied = tt
-conversed request up asked last turns (Err (faults.BadReply octets)) writes replied = record { asked = asked; writes = writes; replied =
-    replied }
+conversed request up asked last turns (Err (faults.BadReply octets)) writes replied = record {
+  asked = asked;
+  writes = writes;
+  replied =
+      replied;
+}
 conversed request up asked last turns (Err faults.TurnsSpent) writes replied = record { asked = asked; writes = writes; replied = replied }
 conversed request up asked last turns (Err faults.NoMemory) writes replied = tt
 
 pub called : (request : List ℕ) (before up last after : Option PeerHeld) (turns : ℕ) (r : Result Told AskFault) → Becomes dialled before up
     → Conversed request up turns last r → Becomes hung_up last after → Called request before turns after r
-called request before up last after turns (Ok told) dials asks ends = record { up = up; dials = dials; last = last; asks = asks; hangs_up =
-    ends }
+called request before up last after turns (Ok told) dials asks ends = record {
+  up = up;
+  dials = dials;
+  last = last;
+  asks = asks;
+  hangs_up =
+      ends;
+}
 called request before up last after turns (Err faults.LinkFault) dials asks ends = tt
 called request before up last after turns (Err (faults.BadReply octets)) dials asks ends =
     record { up = up; dials = dials; last = last; asks = asks; hangs_up = ends }

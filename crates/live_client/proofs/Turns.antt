@@ -30,7 +30,7 @@ pub brings_some : (held next : Option PeerHeld) (buf octets more : List ℕ) (n 
     (r : Result (Option Told) AskFault)
     → length buf ≡ 65536 → n ≤ length buf → Reads held next (Some n) buf → more ≡ take n buf
     → (length more ≡ 0 → r ≡ Err (faults.BadReply octets)) → (0 < length more → Takes (octets ++ more) f kept r)
-        → Brings held next octets f kept r
+    → Brings held next octets f kept r
 brings_some held next buf octets more zero f kept r room fits reads are end piece =
     let size : length more ≡ min 0 (length buf) = ap length are ∙ length-take 0 buf in
     let P : Result (Option Told) AskFault → Type 0 = λ x. Brings held next octets f kept x in

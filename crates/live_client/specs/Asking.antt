@@ -95,10 +95,10 @@ Replied start turns last (Err faults.NoMemory) = Unit {0}
 
 -- exactly these octets were written to the peer, and then it was read
 pub record Asks (request : List ℕ) (up : Option PeerHeld) (turns : ℕ) (last : Option PeerHeld) (result : Result Told AskFault) : Type 0
-    where
-  pub asked : Option PeerHeld
-  pub writes : Becomes (wrote request) up asked
-  pub replied : Replied asked turns last result
+  where
+    pub asked : Option PeerHeld
+    pub writes : Becomes (wrote request) up asked
+    pub replied : Replied asked turns last result
 
 -- The peer that is up was asked and replied. Nothing is said where the link failed or memory ran out.
 abbrev pub Conversed : List ℕ → Option PeerHeld → ℕ → Option PeerHeld → Result Told AskFault → Type 0

@@ -21,7 +21,8 @@ const PIECE: usize = 65_536;
 fn take_read(alloc: Global, reading: &mut Reading, octets: &[u8]) -> Result<Option<Told>, AskFault>
     requires { IsWaiting reading.old.feeder reading.old.octets.items }
     ensures end { length octets.now ≡ 0 → result ≡ Err (faults.BadReply reading.old.octets.items) }
-    ensures piece { 0 < length octets.now → Takes (reading.old.octets.items ++ octets.now) reading.new.feeder reading.new.octets.items result }
+    ensures piece { 0 < length octets.now → Takes (reading.old.octets.items ++ octets.now) reading.new.feeder reading.new.octets.items
+        result }
 {
     if octets.is_empty() {
         return Err(reading.bad(alloc));
@@ -40,11 +41,13 @@ fn read_once<L: Dialer>(
     requires known { 0 < L.peers dialer.old }
     requires up { L.is_up dialer.old 0 ≡ true }
     requires room { length buf.old ≡ 65536 }
-    ensures brings { Brings (L.held dialer.old 0) (L.held dialer.new 0) reading.old.octets.items reading.new.feeder reading.new.octets.items result }
+    ensures brings { Brings (L.held dialer.old 0) (L.held dialer.new 0) reading.old.octets.items reading.new.feeder reading.new.octets.items
+        result }
     ensures link { LinkTells (L.faults dialer.old 0) (L.faults dialer.new 0) (L.last_failed dialer.new 0) (is_link result) }
     ensures up { L.is_up dialer.new 0 ≡ true }
     ensures others { StaysBut 0 (L.held dialer.old) (L.held dialer.new) × StaysBut 0 (L.is_up dialer.old) (L.is_up dialer.new) }
-    ensures counts { StaysBut 0 (L.faults dialer.old) (L.faults dialer.new) × StaysBut 0 (L.last_failed dialer.old) (L.last_failed dialer.new) }
+    ensures counts { StaysBut 0 (L.faults dialer.old) (L.faults dialer.new)
+        × StaysBut 0 (L.last_failed dialer.old) (L.last_failed dialer.new) }
     ensures peers { L.peers dialer.new ≡ L.peers dialer.old }
 {
     match dialer.read(0, buf) {
@@ -66,7 +69,8 @@ fn await_reply<L: Dialer>(alloc: Global, dialer: &mut L, turns: u64) -> Result<T
     ensures link { LinkTells (L.faults dialer.old 0) (L.faults dialer.new 0) (L.last_failed dialer.new 0) (is_link result) }
     ensures up { L.is_up dialer.new 0 ≡ true }
     ensures others { StaysBut 0 (L.held dialer.old) (L.held dialer.new) × StaysBut 0 (L.is_up dialer.old) (L.is_up dialer.new) }
-    ensures counts { StaysBut 0 (L.faults dialer.old) (L.faults dialer.new) × StaysBut 0 (L.last_failed dialer.old) (L.last_failed dialer.new) }
+    ensures counts { StaysBut 0 (L.faults dialer.old) (L.faults dialer.new)
+        × StaysBut 0 (L.last_failed dialer.old) (L.last_failed dialer.new) }
     ensures peers { L.peers dialer.new ≡ L.peers dialer.old }
 {
     let mut reading = Reading::begun(alloc);
@@ -94,7 +98,8 @@ fn converse<L: Dialer>(
     ensures link { LinkTells (L.faults dialer.old 0) (L.faults dialer.new 0) (L.last_failed dialer.new 0) (is_link result) }
     ensures up { L.is_up dialer.new 0 ≡ true }
     ensures others { StaysBut 0 (L.held dialer.old) (L.held dialer.new) × StaysBut 0 (L.is_up dialer.old) (L.is_up dialer.new) }
-    ensures counts { StaysBut 0 (L.faults dialer.old) (L.faults dialer.new) × StaysBut 0 (L.last_failed dialer.old) (L.last_failed dialer.new) }
+    ensures counts { StaysBut 0 (L.faults dialer.old) (L.faults dialer.new)
+        × StaysBut 0 (L.last_failed dialer.old) (L.last_failed dialer.new) }
     ensures peers { L.peers dialer.new ≡ L.peers dialer.old }
 {
     match dialer.write(0, request) {
@@ -116,7 +121,8 @@ fn call<L: Dialer>(
     ensures link { LinkTells (L.faults dialer.old 0) (L.faults dialer.new 0) (L.last_failed dialer.new 0) (is_link result) }
     ensures down { L.is_up dialer.new 0 ≡ false }
     ensures others { StaysBut 0 (L.held dialer.old) (L.held dialer.new) × StaysBut 0 (L.is_up dialer.old) (L.is_up dialer.new) }
-    ensures counts { StaysBut 0 (L.faults dialer.old) (L.faults dialer.new) × StaysBut 0 (L.last_failed dialer.old) (L.last_failed dialer.new) }
+    ensures counts { StaysBut 0 (L.faults dialer.old) (L.faults dialer.new)
+        × StaysBut 0 (L.last_failed dialer.old) (L.last_failed dialer.new) }
     ensures peers { L.peers dialer.new ≡ L.peers dialer.old }
 {
     match dialer.dial(0) {
@@ -147,10 +153,12 @@ pub fn ask_once<L: Dialer>(
     // were written to it, and only then it was read. What is told was said by a whole response that was read.
     ensures called { Called (request_text (command_message c.now)) (L.held dialer.old 0) turns (L.held dialer.new 0) result }
     // The link failed exactly where a call on it failed, and it was the last one but hanging up.
-    ensures link { CallTells (L.faults dialer.old 0) (L.faults dialer.new 0) (L.last_failed dialer.old 0) (L.last_failed dialer.new 0) result }
+    ensures link { CallTells (L.faults dialer.old 0) (L.faults dialer.new 0) (L.last_failed dialer.old 0) (L.last_failed dialer.new 0)
+        result }
     ensures down { L.is_up dialer.new 0 ≡ false }
     ensures others { StaysBut 0 (L.held dialer.old) (L.held dialer.new) × StaysBut 0 (L.is_up dialer.old) (L.is_up dialer.new) }
-    ensures counts { StaysBut 0 (L.faults dialer.old) (L.faults dialer.new) × StaysBut 0 (L.last_failed dialer.old) (L.last_failed dialer.new) }
+    ensures counts { StaysBut 0 (L.faults dialer.old) (L.faults dialer.new)
+        × StaysBut 0 (L.last_failed dialer.old) (L.last_failed dialer.new) }
     ensures peers { L.peers dialer.new ≡ L.peers dialer.old }
 {
     let request = match write_operation(alloc, c) {

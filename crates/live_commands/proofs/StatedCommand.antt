@@ -45,7 +45,7 @@ event-sendable e c under is =
     after (IsSendable c) (command_said e) within_body c is
     (λ d said more. passed (IsSendable c) (nat_le (length (command_body d)) 1048576) (Ok d) faults.Long c more
     (λ short same. subst IsSendable (inside d c same)
-        (record { sound = sound e d under said; short = leb-true (length (command_body d)) 1048576 short })))
+    (record { sound = sound e d under said; short = leb-true (length (command_body d)) 1048576 short })))
 
 line-sendable : ReadsEvents → (words : List (List ℕ)) (c : Command) → command_in words ≡ Ok c → IsSendable c
 unfolding command_in
@@ -67,4 +67,4 @@ rows-sendable reads rows w is =
 pub can-be-sent : ReadsEvents → (words : List (String Global)) (w : ClientWords) → client_words_of words ≡ Ok w → IsSendable w.command
 can-be-sent reads words w is =
     after (IsSendable w.command) (matched_by (codes "client") client_app words) client_in w is
-        (λ rows _ more. rows-sendable reads rows w more)
+    (λ rows _ more. rows-sendable reads rows w more)

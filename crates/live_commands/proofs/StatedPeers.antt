@@ -64,4 +64,4 @@ rows-family reads rows w is =
 pub named-peers : ReadsHeaders → (words : List (String Global)) (w : ControllerWords) → controller_words_of words ≡ Ok w → OneFamily w.peers
 named-peers reads words w is =
     after (OneFamily w.peers) (matched_by (codes "controller") controller_app words) controller_in w is
-        (λ rows _ more. rows-family reads rows w more)
+    (λ rows _ more. rows-family reads rows w more)

@@ -51,7 +51,8 @@ fn fault_status(fault: &AskFault) -> Status
 // Prints what is told.
 fn print<K: Sink>(alloc: Global, told: Told, output: &mut K) -> Status
     ensures printed { Printed result told (K.written output.old) (K.written output.new) }
-    ensures sink { SinkTells (K.faults output.old) (K.faults output.new) (K.last_failed output.old) (K.last_failed output.new) (is_write_fault result) }
+    ensures sink { SinkTells (K.faults output.old) (K.faults output.new) (K.last_failed output.old) (K.last_failed output.new)
+        (is_write_fault result) }
 {
     let line = match line_of(alloc, told) {
         Ok(line) => line,
@@ -74,9 +75,11 @@ fn ask<L: Dialer, K: Sink>(alloc: Global, w: &ClientWords, dialer: &mut L, outpu
         (K.written output.old) (K.written output.new) }
     ensures down { L.is_up dialer.new 0 ≡ false }
     ensures others { StaysBut 0 (L.held dialer.old) (L.held dialer.new) × StaysBut 0 (L.is_up dialer.old) (L.is_up dialer.new) }
-    ensures counts { StaysBut 0 (L.faults dialer.old) (L.faults dialer.new) × StaysBut 0 (L.last_failed dialer.old) (L.last_failed dialer.new) }
+    ensures counts { StaysBut 0 (L.faults dialer.old) (L.faults dialer.new)
+        × StaysBut 0 (L.last_failed dialer.old) (L.last_failed dialer.new) }
     ensures peers { L.peers dialer.new ≡ L.peers dialer.old }
-    ensures sink { SinkTells (K.faults output.old) (K.faults output.new) (K.last_failed output.old) (K.last_failed output.new) (is_write_fault result) }
+    ensures sink { SinkTells (K.faults output.old) (K.faults output.new) (K.last_failed output.old) (K.last_failed output.new)
+        (is_write_fault result) }
 {
     match ask_once(alloc, &w.command, dialer, w.turns) {
         Ok(told) => print(alloc, told, output),
@@ -110,9 +113,11 @@ pub fn run_client<L: Dialer, K: Sink>(
         → (HasRisen (K.faults output.old) (K.faults output.new) → ⊥) → IsWhole result }
     ensures down { L.is_up dialer.new 0 ≡ false }
     ensures others { StaysBut 0 (L.held dialer.old) (L.held dialer.new) × StaysBut 0 (L.is_up dialer.old) (L.is_up dialer.new) }
-    ensures counts { StaysBut 0 (L.faults dialer.old) (L.faults dialer.new) × StaysBut 0 (L.last_failed dialer.old) (L.last_failed dialer.new) }
+    ensures counts { StaysBut 0 (L.faults dialer.old) (L.faults dialer.new)
+        × StaysBut 0 (L.last_failed dialer.old) (L.last_failed dialer.new) }
     ensures peers { L.peers dialer.new ≡ L.peers dialer.old }
-    ensures sink { SinkTells (K.faults output.old) (K.faults output.new) (K.last_failed output.old) (K.last_failed output.new) (is_write_fault result) }
+    ensures sink { SinkTells (K.faults output.old) (K.faults output.new) (K.last_failed output.old) (K.last_failed output.new)
+        (is_write_fault result) }
 {
     read_events_are_spelled();
     match read_client_words(alloc, words) {

@@ -47,7 +47,8 @@ fn serve<A: Wire, B: Wire, D: Dock, C: Clock>(
         (record { inside = A.held inside.old; outside = B.held outside.old; dock = D.held dock.old; faults = D.faults dock.old })
         (record { inside = A.held inside.new; outside = B.held outside.new; dock = D.held dock.new; faults = D.faults dock.new })
         (C.readings clock.old) (C.readings clock.new) }
-    ensures complete { (HasRisen (A.faults inside.old) (A.faults inside.new) → ⊥) → (HasRisen (B.faults outside.old) (B.faults outside.new) → ⊥)
+    ensures complete { (HasRisen (A.faults inside.old) (A.faults inside.new) → ⊥) → (HasRisen (B.faults outside.old) (B.faults outside.new)
+        → ⊥)
         → (HasRisen (D.accept_faults dock.old) (D.accept_faults dock.new) → ⊥) → (result ≡ statuses.TurnsSpent) ⊎ (result ≡ statuses.NoMemory) }
 {
     status(serve_gateway(alloc, w.config, inside, outside, dock, clock, w.turns))

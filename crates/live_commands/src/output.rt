@@ -7,7 +7,8 @@ use ikl_base::{Failed, Sink};
 /// Writes all of a piece.
 pub fn write_all<K: Sink>(output: &mut K, piece: &[u8]) -> Result<(), Failed>
     ensures ok { OnOk result (Gains (K.written output.old) (K.written output.new) piece.now) }
-    ensures err { OnErr result ((part more : List ℕ) × (part ++ more ≡ piece.now) × Gains (K.written output.old) (K.written output.new) part) }
+    ensures err { OnErr result ((part more : List ℕ) × (part ++ more ≡ piece.now) × Gains (K.written output.old) (K.written output.new)
+        part) }
     ensures cause { HasCause (K.faults output.old) (K.faults output.new) result }
     ensures calm { IsCalm (K.last_failed output.old) → OnOk result (IsCalm (K.last_failed output.new)) }
     ensures failed { OnErr result (HasFailed (K.last_failed output.new)) }

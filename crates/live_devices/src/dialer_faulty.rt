@@ -34,8 +34,10 @@ impl Dialer for FaultyDialer<'_> {
         ensures up { up_at self.new.peers.items g ≡ is_ok result }
         ensures cause { HasCause (faults_at self.old.peers.items g) (faults_at self.new.peers.items g) result }
         ensures outcome { TellsOutcome (failed_at self.new.peers.items g) result }
-        ensures others { StaysBut g (held_at self.old.peers.items) (held_at self.new.peers.items) × StaysBut g (up_at self.old.peers.items) (up_at self.new.peers.items) }
-        ensures counts { StaysBut g (faults_at self.old.peers.items) (faults_at self.new.peers.items) × StaysBut g (failed_at self.old.peers.items) (failed_at self.new.peers.items) }
+        ensures others { StaysBut g (held_at self.old.peers.items) (held_at self.new.peers.items)
+            × StaysBut g (up_at self.old.peers.items) (up_at self.new.peers.items) }
+        ensures counts { StaysBut g (faults_at self.old.peers.items) (faults_at self.new.peers.items)
+            × StaysBut g (failed_at self.old.peers.items) (failed_at self.new.peers.items) }
         ensures peers { length self.new.peers.items ≡ length self.old.peers.items }
         ensures listed { IfSome (slice_get self.old.peers.items g) (λ p. is_err result ≡ is_listed p.listed) }
         ensures same { (k : ℕ) → k ≢ g → slice_get self.new.peers.items k ≡ slice_get self.old.peers.items k }
@@ -51,8 +53,10 @@ impl Dialer for FaultyDialer<'_> {
         ensures up { up_at self.new.peers.items g ≡ true }
         ensures cause { HasCause (faults_at self.old.peers.items g) (faults_at self.new.peers.items g) result }
         ensures outcome { TellsOutcome (failed_at self.new.peers.items g) result }
-        ensures others { StaysBut g (held_at self.old.peers.items) (held_at self.new.peers.items) × StaysBut g (up_at self.old.peers.items) (up_at self.new.peers.items) }
-        ensures counts { StaysBut g (faults_at self.old.peers.items) (faults_at self.new.peers.items) × StaysBut g (failed_at self.old.peers.items) (failed_at self.new.peers.items) }
+        ensures others { StaysBut g (held_at self.old.peers.items) (held_at self.new.peers.items)
+            × StaysBut g (up_at self.old.peers.items) (up_at self.new.peers.items) }
+        ensures counts { StaysBut g (faults_at self.old.peers.items) (faults_at self.new.peers.items)
+            × StaysBut g (failed_at self.old.peers.items) (failed_at self.new.peers.items) }
         ensures peers { length self.new.peers.items ≡ length self.old.peers.items }
         ensures listed { IfSome (slice_get self.old.peers.items g) (λ p. is_err result ≡ is_listed p.listed) }
         ensures same { (k : ℕ) → k ≢ g → slice_get self.new.peers.items k ≡ slice_get self.old.peers.items k }
@@ -68,8 +72,10 @@ impl Dialer for FaultyDialer<'_> {
         ensures up { up_at self.new.peers.items g ≡ true }
         ensures cause { HasCause (faults_at self.old.peers.items g) (faults_at self.new.peers.items g) result }
         ensures outcome { TellsOutcome (failed_at self.new.peers.items g) result }
-        ensures others { StaysBut g (held_at self.old.peers.items) (held_at self.new.peers.items) × StaysBut g (up_at self.old.peers.items) (up_at self.new.peers.items) }
-        ensures counts { StaysBut g (faults_at self.old.peers.items) (faults_at self.new.peers.items) × StaysBut g (failed_at self.old.peers.items) (failed_at self.new.peers.items) }
+        ensures others { StaysBut g (held_at self.old.peers.items) (held_at self.new.peers.items)
+            × StaysBut g (up_at self.old.peers.items) (up_at self.new.peers.items) }
+        ensures counts { StaysBut g (faults_at self.old.peers.items) (faults_at self.new.peers.items)
+            × StaysBut g (failed_at self.old.peers.items) (failed_at self.new.peers.items) }
         ensures peers { length self.new.peers.items ≡ length self.old.peers.items }
         ensures listed { IfSome (slice_get self.old.peers.items g) (λ p. is_err result ≡ is_listed p.listed) }
         ensures same { (k : ℕ) → k ≢ g → slice_get self.new.peers.items k ≡ slice_get self.old.peers.items k }
@@ -84,11 +90,14 @@ impl Dialer for FaultyDialer<'_> {
         ensures up { up_at self.new.peers.items g ≡ true }
         ensures cause { HasCause (faults_at self.old.peers.items g) (faults_at self.new.peers.items g) result }
         ensures outcome { TellsOutcome (failed_at self.new.peers.items g) result }
-        ensures others { StaysBut g (held_at self.old.peers.items) (held_at self.new.peers.items) × StaysBut g (up_at self.old.peers.items) (up_at self.new.peers.items) }
-        ensures counts { StaysBut g (faults_at self.old.peers.items) (faults_at self.new.peers.items) × StaysBut g (failed_at self.old.peers.items) (failed_at self.new.peers.items) }
+        ensures others { StaysBut g (held_at self.old.peers.items) (held_at self.new.peers.items)
+            × StaysBut g (up_at self.old.peers.items) (up_at self.new.peers.items) }
+        ensures counts { StaysBut g (faults_at self.old.peers.items) (faults_at self.new.peers.items)
+            × StaysBut g (failed_at self.old.peers.items) (failed_at self.new.peers.items) }
         ensures peers { length self.new.peers.items ≡ length self.old.peers.items }
         ensures listed { IfSome (slice_get self.old.peers.items g) (λ p. is_listed p.listed ≡ true → IsErr result) }
-        ensures fits { IfSome (slice_get self.old.peers.items g) (λ p. is_listed p.listed ≡ false → (IsOk result ↔ HasRoom p.peer (length octets.now))) }
+        ensures fits { IfSome (slice_get self.old.peers.items g) (λ p. is_listed p.listed ≡ false
+            → (IsOk result ↔ HasRoom p.peer (length octets.now))) }
         ensures none { OnErr result (held_at self.new.peers.items g ≡ held_at self.old.peers.items g) }
         ensures same { (k : ℕ) → k ≢ g → slice_get self.new.peers.items k ≡ slice_get self.old.peers.items k }
     {
@@ -99,9 +108,12 @@ impl Dialer for FaultyDialer<'_> {
         requires known { g < length self.old.peers.items }
         ensures gives { Becomes hung_up (held_at self.old.peers.items g) (held_at self.new.peers.items g) }
         ensures up { up_at self.new.peers.items g ≡ false }
-        ensures count { (faults_at self.new.peers.items g ≡ faults_at self.old.peers.items g) × (failed_at self.new.peers.items g ≡ failed_at self.old.peers.items g) }
-        ensures others { StaysBut g (held_at self.old.peers.items) (held_at self.new.peers.items) × StaysBut g (up_at self.old.peers.items) (up_at self.new.peers.items) }
-        ensures counts { StaysBut g (faults_at self.old.peers.items) (faults_at self.new.peers.items) × StaysBut g (failed_at self.old.peers.items) (failed_at self.new.peers.items) }
+        ensures count { (faults_at self.new.peers.items g ≡ faults_at self.old.peers.items g)
+            × (failed_at self.new.peers.items g ≡ failed_at self.old.peers.items g) }
+        ensures others { StaysBut g (held_at self.old.peers.items) (held_at self.new.peers.items)
+            × StaysBut g (up_at self.old.peers.items) (up_at self.new.peers.items) }
+        ensures counts { StaysBut g (faults_at self.old.peers.items) (faults_at self.new.peers.items)
+            × StaysBut g (failed_at self.old.peers.items) (failed_at self.new.peers.items) }
         ensures peers { length self.new.peers.items ≡ length self.old.peers.items }
         ensures same { (k : ℕ) → k ≢ g → slice_get self.new.peers.items k ≡ slice_get self.old.peers.items k }
     {

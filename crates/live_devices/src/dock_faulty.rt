@@ -25,7 +25,8 @@ impl<'a> FaultyDock<'a> {
         ensures dock { result.dock ≡ dock.entry }
         ensures fails { (result.accepts_listed.fails.now ≡ accepts.now) × (result.listed.fails.now ≡ fails.now) }
         ensures calls { (result.accepts_listed.calls ≡ 0) × (result.listed.calls ≡ 0) }
-        ensures count { (result.accepts.faults ≡ 0) × (result.accepts.failed ≡ false) × (result.tally.faults ≡ 0) × (result.tally.failed ≡ false) }
+        ensures count { (result.accepts.faults ≡ 0) × (result.accepts.failed ≡ false) × (result.tally.faults ≡ 0)
+            × (result.tally.failed ≡ false) }
     {
         FaultyDock {
             dock,

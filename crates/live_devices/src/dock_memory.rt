@@ -43,7 +43,8 @@ impl<'a> MemoryDock<'a> {
         ensures session { IfOk result (λ d. (d.is_taken ≡ false) × (stream_held d.session ≡ silent)) }
         ensures written { IfOk result (λ d. (d.replies.items ≡ []) × (d.notices.items ≡ []) × (d.begins.items ≡ [])) }
         ensures room { IfOk result (λ d. (vec_capacity d.replies ≡ room) × (vec_capacity d.notices ≡ room) × (d.writes ≡ writes)) }
-        ensures count { IfOk result (λ d. (d.accepts.faults ≡ 0) × (d.accepts.failed ≡ false) × (d.tally.faults ≡ 0) × (d.tally.failed ≡ false)) }
+        ensures count { IfOk result (λ d. (d.accepts.faults ≡ 0) × (d.accepts.failed ≡ false) × (d.tally.faults ≡ 0)
+            × (d.tally.failed ≡ false)) }
     {
         let begins = Vec::with_capacity(alloc, coming.len())?;
         Ok(MemoryDock {

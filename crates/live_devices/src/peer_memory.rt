@@ -43,7 +43,8 @@ impl<'a> MemoryPeer<'a> {
         writes: usize,
     ) -> Result<Self, NoMemory>
         ensures coming { IfOk result (λ p. p.coming.now ≡ coming.now) }
-        ensures down { IfOk result (λ p. (p.is_up ≡ false) × (p.dials ≡ 0) × (stream_held p.control ≡ silent) × (stream_held p.notices ≡ silent)) }
+        ensures down { IfOk result (λ p. (p.is_up ≡ false) × (p.dials ≡ 0) × (stream_held p.control ≡ silent)
+            × (stream_held p.notices ≡ silent)) }
         ensures written { IfOk result (λ p. (p.written.items ≡ []) × (p.pieces.items ≡ [])) }
         ensures room { IfOk result (λ p. (vec_capacity p.written ≡ room) × (vec_capacity p.pieces ≡ writes)) }
         ensures count { IfOk result (λ p. (p.tally.faults ≡ 0) × (p.tally.failed ≡ false)) }

@@ -85,7 +85,8 @@ impl Wire for MemoryWire<'_> {
         ensures outcome { TellsOutcome (Some self.new.tally.failed) result }
         ensures ok { IsOk result }
         ensures count { self.new.tally ≡ tally_after false self.old.tally }
-        ensures room { (vec_capacity self.new.sent ≡ vec_capacity self.old.sent) × (vec_capacity self.new.sizes ≡ vec_capacity self.old.sizes) }
+        ensures room { (vec_capacity self.new.sent ≡ vec_capacity self.old.sent)
+            × (vec_capacity self.new.sizes ≡ vec_capacity self.old.sizes) }
     {
         self.tally.pass();
         let Some((found, rest)) = self.coming.split_first() else {
@@ -104,7 +105,8 @@ impl Wire for MemoryWire<'_> {
         ensures outcome { TellsOutcome (Some self.new.tally.failed) result }
         ensures fits { IsOk result ↔ HasRoom self.old (length datagram.now) }
         ensures count { self.new.tally ≡ tally_after (is_err result) self.old.tally }
-        ensures room { (vec_capacity self.new.sent ≡ vec_capacity self.old.sent) × (vec_capacity self.new.sizes ≡ vec_capacity self.old.sizes) }
+        ensures room { (vec_capacity self.new.sent ≡ vec_capacity self.old.sent)
+            × (vec_capacity self.new.sizes ≡ vec_capacity self.old.sizes) }
     {
         if !self.has_room(datagram.len()) {
             self.tally.fail();
@@ -154,7 +156,8 @@ impl Wire for FaultyWire<'_> {
         ensures listed { is_err result ≡ is_listed self.old.listed }
         ensures call { self.new.listed ≡ list_after self.old.listed }
         ensures count { self.new.tally ≡ tally_after (is_err result) self.old.tally }
-        ensures room { (vec_capacity self.new.wire.sent ≡ vec_capacity self.old.wire.sent) × (vec_capacity self.new.wire.sizes ≡ vec_capacity self.old.wire.sizes) }
+        ensures room { (vec_capacity self.new.wire.sent ≡ vec_capacity self.old.wire.sent)
+            × (vec_capacity self.new.wire.sizes ≡ vec_capacity self.old.wire.sizes) }
     {
         if self.listed.take_call() {
             self.tally.fail();
@@ -172,7 +175,8 @@ impl Wire for FaultyWire<'_> {
         ensures fits { is_listed self.old.listed ≡ false → (IsOk result ↔ HasRoom self.old.wire (length datagram.now)) }
         ensures call { self.new.listed ≡ list_after self.old.listed }
         ensures count { self.new.tally ≡ tally_after (is_err result) self.old.tally }
-        ensures room { (vec_capacity self.new.wire.sent ≡ vec_capacity self.old.wire.sent) × (vec_capacity self.new.wire.sizes ≡ vec_capacity self.old.wire.sizes) }
+        ensures room { (vec_capacity self.new.wire.sent ≡ vec_capacity self.old.wire.sent)
+            × (vec_capacity self.new.wire.sizes ≡ vec_capacity self.old.wire.sizes) }
     {
         let is_listed = self.listed.take_call();
         if is_listed || self.wire.send(datagram).is_err() {

@@ -86,7 +86,7 @@ writes-on a b c m n o s t u f g h same p q = record {
       let first = p.kept (λ risen. calm (risen-front m n o q.later risen)) in
       let left = p.wrote (λ risen. calm (risen-front m n o q.later risen)) in
       let right = subst (λ (z : Option Feeding). Makes (while_there z g) b c) first
-          (q.wrote (λ risen. calm (risen-back m n o p.later risen))) in
+      (q.wrote (λ risen. calm (risen-back m n o p.later risen))) in
       makes-as (λ d. while_there s g (while_there s f d)) (while_there s h) a c (while-both s f g h same)
       (makes-on (while_there s f) (while_there s g) a b c left right);
 }
@@ -132,10 +132,10 @@ pub carries-on : (clock : ℕ) (xs ys : List GwAct) (s t u : Option Feeding) (a 
 carries-on clock xs ys s t u a b c p q = record {
   inside = makes-as (λ w. after_all inside_by ys (after_all inside_by xs w)) (after_all inside_by (xs ++ ys)) a.inside c.inside
       (λ w. sym (after-more inside_by xs ys w)) (makes-on (after_all inside_by xs) (after_all inside_by ys) a.inside b.inside c.inside
-          p.inside q.inside);
+      p.inside q.inside);
   outside = makes-as (λ w. after_all outside_by ys (after_all outside_by xs w)) (after_all outside_by (xs ++ ys)) a.outside c.outside
       (λ w. sym (after-more outside_by xs ys w)) (makes-on (after_all outside_by xs) (after_all outside_by ys) a.outside b.outside c.outside
-          p.outside q.outside);
+      p.outside q.outside);
   wrote = writes-on a.dock b.dock c.dock a.faults b.faults c.faults s t u (after_all (dock_by clock) xs) (after_all (dock_by clock) ys)
       (after_all (dock_by clock) (xs ++ ys)) (after-more (dock_by clock) xs ys) p.wrote q.wrote;
 }

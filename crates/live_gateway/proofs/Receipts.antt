@@ -168,7 +168,7 @@ read-piece old new n buf room some r =
       after = stream-is old new (left-is old new n buf room size r.octets) r.there r.ends;
       gives = ap Piece (front-is old new n buf room size r.octets)
           ∙ sym (unless-zero (there_now old.there == 0) (came_by (read_size old) old.ends old.left)
-              (not-zero (there_now old.there) r.some.0)
+          (not-zero (there_now old.there) r.some.0)
           ∙ piece-by (read_size old) old.ends old.left long);
     }
 
@@ -193,7 +193,7 @@ reads-makes (Some old) (Some new) answer buf came gives r =
 
 pub reads-found : (old new : Option DockHeld) (answer : Option ℕ) (buf : List ℕ) (came : Came)
     → ((a b : Stream) → Read a b answer buf → Gave a b came) → Reads old new answer buf → (d : DockHeld) → old ≡ Some d
-        → came ≡ came_of d.session
+    → came ≡ came_of d.session
 reads-found None new answer buf came gives r d e = absurd (none-some d e)
 reads-found (Some old) None answer buf came gives r d e = absurd r
 reads-found (Some old) (Some new) answer buf came gives r d e =

@@ -52,7 +52,7 @@ run-acts c g past x =
     let r : Step = run_by c g past in
     ap (λ (s : Step). s.acts) (run-more c (happened past) (events_at (event_of x)) (begun g) tables.booted)
     ∙ ap (λ zs. r.acts ++ zs) (one-told c r.naming r.kept (event_of x) ∙ ap (λ (k : Kept). told_by c r.naming k (event_of x))
-        (run-kept c g past))
+    (run-kept c g past))
 
 -- ---- the tunnels that were asked for
 

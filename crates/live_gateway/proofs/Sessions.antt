@@ -64,7 +64,7 @@ inside-goes c start old new w past octets g g' s s' st got is does = record {
       let quiet = calm-back start.faults old.faults new.faults st.later calm in
       let same : s' ≡ s = does.carries.wrote.kept quiet in
       stood-event c start old (with_inside w old) new past (Inside (Some octets)) (Let octets) [] [] g g' s s s' s' refl before got
-          (λ h e. e)
+      (λ h e. e)
       (λ d e. e) (writing-is c past (Inside (Some octets)) (Let octets) s refl (session-there s [] past before.session)) does quiet
       (λ h e. is (inside_of c past h) (before.inside h e))
       (subst (λ (z : Option Feeding). IsSession z [] (Inside (Some octets) ∷ past)) (sym same)
@@ -95,7 +95,7 @@ outside-goes c start old new w past octets g g' s s' st got is does = record {
       let quiet = calm-back start.faults old.faults new.faults st.later calm in
       let same : s' ≡ s = does.carries.wrote.kept quiet in
       stood-event c start old (with_outside w old) new past (Outside (Some octets)) (Arrive octets) [] [] g g' s s s' s' refl before
-          (λ h e. e) got
+      (λ h e. e) got
       (λ d e. e) (writing-is c past (Outside (Some octets)) (Arrive octets) s refl (session-there s [] past before.session)) does quiet
       (λ h e. is (outside_of c past h) (before.outside h e))
       (subst (λ (z : Option Feeding). IsSession z [] (Outside (Some octets) ∷ past)) (sym same)
@@ -222,7 +222,7 @@ piece-goes c start old held faults past octets g s count there st got is = recor
   stood = λ calm.
       let before = st.stood (subst (λ (n : ℕ). HasRisen start.faults n → ⊥) count calm) in
       stood-quiet c start old (with_dock held faults old) past (Came_in (Piece octets)) [] octets g s s refl before (λ h e. e) (λ h e. e)
-          got
+      got
       (sym (session-there s [] past before.session) ∙ there, λ d e. is (dock_of c past d) (before.dock d e))
       (session-piece s past octets there before.session);
 }
@@ -310,12 +310,12 @@ message-goes c start old new past rest m n g g' s t s' f tunnel st does = record
       let quiet = calm-back start.faults old.faults new.faults st.later calm in
       let same : s' ≡ t = does.carries.wrote.kept quiet in
       stood-event c start old old new past (Message m) (Handle (request_of m)) rest (drop n rest) g g' s t s' s' refl before (λ w e. e)
-          (λ w e. e)
+      (λ w e. e)
       (λ d e. e)
       (writing-is c past (Message m) (Handle (request_of m)) t refl (there-fed s t rest m n f ∙ session-there s rest past before.session))
       does quiet tunnel
       (subst (λ (z : Option Feeding). IsSession z (drop n rest) (Message m ∷ past)) (sym same)
-          (session-message s t rest past m n f before.session));
+      (session-message s t rest past m n f before.session));
 }
 
 -- ---- a fault
@@ -350,7 +350,7 @@ broken-goes law c start old new past rest rest' fault g g' s t u s' f none st do
       let before = st.stood (calm-front start.faults old.faults new.faults does.carries.wrote.later calm) in
       let quiet = calm-back start.faults old.faults new.faults st.later calm in
       stood-event c start old old new past (Broken fault) (Handle (Err (no_message fault))) rest rest' g g' s t u s' refl before (λ w e. e)
-          (λ w e. e)
+      (λ w e. e)
       (λ d e. e)
       (writing-is c past (Broken fault) (Handle (Err (no_message fault))) t refl
       (there-broken s t rest fault f ∙ session-there s rest past before.session)) does quiet tt
@@ -378,7 +378,7 @@ Takes c start past rest now g s = (more : List Item) × AreTaken more × Stands 
 
 pub pieces-on : (c : Config) (start mid now : Devices) (past : List Item) (rest rest' : List ℕ) (g g' : Core) (s s' : Option Feeding)
     → Takes c start past rest mid g s → ((earlier : List Item) → Stands c start earlier rest mid g s
-        → Takes c start earlier rest' now g' s')
+    → Takes c start earlier rest' now g' s')
     → Takes c start past rest' now g' s'
 pieces-on c start mid now past rest rest' g g' s s' first step =
     let second = step (first.0 ++ past) first.2 in (

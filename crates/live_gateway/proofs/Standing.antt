@@ -46,7 +46,7 @@ by-there (Some r) false f d e = absurd (false-true (sym e))
 abbrev pub Writing : Config → List Item → Item → Event → Option Feeding → Type 0
 Writing c past x e s = (d : DockHeld)
     → while_there s (after_all (dock_by (stepped c e (kept_of c past)).kept.clock) (stepped c e (kept_of c past)).acts) d ≡ written_at c
-        past x d
+    past x d
 
 pub writing-is : (c : Config) (past : List Item) (x : Item) (e : Event) (s : Option Feeding) → event_of x ≡ Some e
     → there_of s ≡ is_there past
@@ -96,9 +96,9 @@ dock-on : (of at : DockHeld → DockHeld) (c : Config) (past : List Item) (x : I
     → Makes (λ w. written_at c past x (at (of w))) a n
 dock-on of at c past x e g s a b d n core writing p q r =
     let P : Core → Type 0 =
-        λ h. Makes (while_there s (after_all (dock_by (stepped h.config e h.kept).kept.clock) (stepped h.config e h.kept).acts)) d n in
+    λ h. Makes (while_there s (after_all (dock_by (stepped h.config e h.kept).kept.clock) (stepped h.config e h.kept).acts)) d n in
     let f : DockHeld → DockHeld =
-        while_there s (after_all (dock_by (stepped c e (kept_of c past)).kept.clock) (stepped c e (kept_of c past)).acts) in
+    while_there s (after_all (dock_by (stepped c e (kept_of c past)).kept.clock) (stepped c e (kept_of c past)).acts) in
     makes-as (λ w. f (at (of w))) (λ w. written_at c past x (at (of w))) a n (λ w. writing (at (of w)))
     (makes-on (λ w. at (of w)) f a d n (makes-on of at a b d p q) (subst P core r))
 
@@ -107,7 +107,7 @@ pub stood-event : (c : Config) (start old mid new : Devices) (past : List Item) 
     (s s1 s2 s' : Option Feeding) → event_of x ≡ Some e → Stood c start past rest old g s → Makes (inside_at x) old.inside mid.inside
     → Makes (outside_at x) old.outside mid.outside → Makes (dock_at x) old.dock mid.dock → Writing c past x e s1 → Does e g g' s1 s2 mid new
     → (HasRisen mid.faults new.faults → ⊥) → IsFound c start past x → IsSession s' rest' (x ∷ past)
-        → Stood c start (x ∷ past) rest' new g' s'
+    → Stood c start (x ∷ past) rest' new g' s'
 stood-event c start old mid new past x e rest rest' g g' s s1 s2 s' ev before inside outside dock writing does calm found session = record {
   core = core-on c past x e g g' ev before.core does.core;
   inside = wire-on inside_by (inside_at x) (inside_of c past) c past x e g start.inside old.inside mid.inside new.inside ev before.core
@@ -134,7 +134,7 @@ wire-still by at of c past x a b d ev p q =
 pub stood-quiet : (c : Config) (start old new : Devices) (past : List Item) (x : Item) (rest rest' : List ℕ) (g : Core)
     (s s' : Option Feeding)
     → event_of x ≡ None → Stood c start past rest old g s → Makes (inside_at x) old.inside new.inside
-        → Makes (outside_at x) old.outside new.outside
+    → Makes (outside_at x) old.outside new.outside
     → Makes (dock_at x) old.dock new.dock → IsFound c start past x → IsSession s' rest' (x ∷ past) → Stood c start (x ∷ past) rest' new g s'
 stood-quiet c start old new past x rest rest' g s s' ev before inside outside dock found session =
     let K : Option Event → Core = λ o. record { config = c; kept = kept_by c o (kept_of c past) } in

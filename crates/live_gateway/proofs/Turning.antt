@@ -93,7 +93,7 @@ turns-first g start clock e = subst (λ (h : Core). SoFar g.config 0 start start
 abbrev pub TurnGoes : Devices → Devices → Option (List ℕ) → Option (List ℕ) → Core → Core → Option Feeding → Option Feeding → Type 0
 TurnGoes old new clock clock' g g' s s' = (c : Config) (start : Devices) (past : List Item) → Stands c start past [] old g s
     → (t : Calls) × (more : List Item) × AreTaken more × Stands c start (more ++ called t past) [] new g' s'
-        × clocks.Tells clock clock' t.now
+    × clocks.Tells clock clock' t.now
 
 pub turns-on : ReadersHold → (c : Config) (n : ℕ) (start old new : Devices) (clock mid clock' : Option (List ℕ)) (g g' : Core)
     (s s' : Option Feeding)

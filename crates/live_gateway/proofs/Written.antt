@@ -201,7 +201,7 @@ let-view-told : (seq_last : ℕ) (o : List ℕ) (r : Result Packet NotPacket) (k
 let-view-told seq_last o (Err f) k s = All-nil IsNotice
 let-view-told seq_last o (Ok v) k s =
     if-told (nat_lt 65000 (length o)) (dropped why.TooLong k) (outbound.let_by_entry seq_last o v (first_entry k.spd Out v) k)
-        (All-nil IsNotice)
+    (All-nil IsNotice)
     (let-entry-told seq_last o v (first_entry k.spd Out v) k (λ p e. policy-named (decides Out v) k.spd p s.policies e) s)
 
 -- ---- datagrams from outside
@@ -219,7 +219,7 @@ opened-text-told : (b : List ℕ) (i : ℕ) (x : Half) (n : ℕ) (t : Option (Li
 opened-text-told b i x n None k m = All-nil IsNotice
 opened-text-told b i x n (Some t) k m =
     used-told (inbound.answer_by_packet x.entry n (esp.inner_packet t)) i (take_number k.clock (length b) n)
-        (take_number k.clock (length b) n x) k m
+    (take_number k.clock (length b) n x) k m
 
 opened-verdict-told : (b : List ℕ) (i : ℕ) (x : Half) (n : ℕ) (v : Verdict) (k : Kept) → IsNamed x
     → IsTold (inbound.opened_by_verdict b i x n v k)
@@ -257,7 +257,7 @@ arrive-view-told : (own : Addr) (o : List ℕ) (r : Result Packet NotPacket) (k 
 arrive-view-told own o (Err f) k s = All-nil IsNotice
 arrive-view-told own o (Ok v) k s =
     if-told (is_sealed_for own v) (inbound.opened_esp v.payload k) (inbound.clear_by_entry o (first_entry k.spd In v) k)
-        (esp-told v.payload k s)
+    (esp-told v.payload k s)
     (clear-told o (first_entry k.spd In v) k)
 
 -- ---- acts

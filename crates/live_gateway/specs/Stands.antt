@@ -40,7 +40,7 @@ abbrev pub AreTurns : ℕ → List Item → Type 0
 AreTurns zero past = past ≡ []
 AreTurns (suc n) past =
     (earlier : List Item) × (t : Calls) × (more : List Item) × AreTurns n earlier × (past ≡ more ++ called t earlier) × AreTaken more
-        × IsHeld past
+    × IsHeld past
 
 -- ---- between two calls
 
@@ -61,19 +61,19 @@ IsSession (Some reader) rest past = IsReader reader rest past
 
 -- what came, and what devices held at the start, give what they hold now and what the node keeps
 pub record Stood (c : Config) (start : Devices) (past : List Item) (rest : List ℕ) (now : Devices) (g : Core) (s : Option Feeding) : Type 0
-    where
-  pub core : g ≡ record { config = c; kept = kept_of c past }
-  pub inside : Makes (inside_of c past) start.inside now.inside
-  pub outside : Makes (outside_of c past) start.outside now.outside
-  pub dock : Makes (dock_of c past) start.dock now.dock
-  pub calls : AreFound c start past
-  pub session : IsSession s rest past
+  where
+    pub core : g ≡ record { config = c; kept = kept_of c past }
+    pub inside : Makes (inside_of c past) start.inside now.inside
+    pub outside : Makes (outside_of c past) start.outside now.outside
+    pub dock : Makes (dock_of c past) start.dock now.dock
+    pub calls : AreFound c start past
+    pub session : IsSession s rest past
 
 -- the same, unless a read or a write of a session failed
 pub record Stands (c : Config) (start : Devices) (past : List Item) (rest : List ℕ) (now : Devices) (g : Core) (s : Option Feeding) : Type 0
-    where
-  pub later : start.faults ≤ now.faults
-  pub stood : (HasRisen start.faults now.faults → ⊥) → Stood c start past rest now g s
+  where
+    pub later : start.faults ≤ now.faults
+    pub stood : (HasRisen start.faults now.faults → ⊥) → Stood c start past rest now g s
 
 -- ---- a whole run
 

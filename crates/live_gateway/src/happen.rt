@@ -19,7 +19,8 @@ fn step(node: &mut Node, e: GwEvent) -> Result<GwActs, NoMemory>
     requires refusal { CanRefuse (seen e) }
     ensures acts { IfOk result (λ acts. acts ≡ (stepped node.old.gateway.config (seen e.entry) node.old.gateway.kept).acts) }
     ensures written { IfOk result (λ acts. All IsWritten acts) }
-    ensures gateway { OnOk result (node.new.gateway ≡ with_kept (stepped node.old.gateway.config (seen e.entry) node.old.gateway.kept).kept node.old.gateway) }
+    ensures gateway { OnOk result (node.new.gateway ≡ with_kept (stepped node.old.gateway.config (seen e.entry) node.old.gateway.kept).kept
+        node.old.gateway) }
     ensures session { node.new.session ≡ node.old.session }
 {
     replies_can_be_written();

@@ -195,7 +195,8 @@ pub fn serve_gateway<A: Wire, B: Wire, D: Dock, C: Clock>(
         (record { inside = A.held inside.new; outside = B.held outside.new; dock = D.held dock.new; faults = D.faults dock.new })
         (C.readings clock.old) (C.readings clock.new) }
     // Over devices whose counts of faults don't rise all turns are served, unless memory runs out.
-    ensures complete { (HasRisen (A.faults inside.old) (A.faults inside.new) → ⊥) → (HasRisen (B.faults outside.old) (B.faults outside.new) → ⊥)
+    ensures complete { (HasRisen (A.faults inside.old) (A.faults inside.new) → ⊥) → (HasRisen (B.faults outside.old) (B.faults outside.new)
+        → ⊥)
         → (HasRisen (D.accept_faults dock.old) (D.accept_faults dock.new) → ⊥) → (result ≡ Ended.TurnsSpent) ⊎ (result ≡ Ended.NoMemory) }
     ensures inside_tells { Tells (A.faults inside.old) (A.faults inside.new) (A.last_failed inside.old) (A.last_failed inside.new)
         (is_inside_fault result) }

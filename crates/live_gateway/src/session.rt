@@ -159,7 +159,8 @@ fn end_by<A: Wire, B: Wire, D: Dock>(
     dock: &mut D,
 ) -> Result<(), Ended>
     requires may { MayWrite node.old.session (D.is_taken dock.old) }
-    ensures does { OnOk result ((s : Option Feeding) × Does (Handle (Err (no_message fault))) node.old.gateway node.new.gateway node.old.session s
+    ensures does { OnOk result ((s : Option Feeding) × Does (Handle (Err (no_message fault))) node.old.gateway node.new.gateway
+        node.old.session s
         (record { inside = A.held inside.old; outside = B.held outside.old; dock = D.held dock.old; faults = D.faults dock.old })
         (record { inside = A.held inside.new; outside = B.held outside.new; dock = D.held dock.new; faults = D.faults dock.new })) }
     ensures ended { OnOk result (node.new.session ≡ None) }

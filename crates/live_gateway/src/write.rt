@@ -33,7 +33,8 @@ fn put_reply<D: Dock>(session: &mut Option<Feeder>, dock: &mut D, octets: &[u8])
     ensures taken { D.is_taken dock.new ≡ true }
     ensures later { D.faults dock.old ≤ D.faults dock.new }
     ensures kept { (HasRisen (D.faults dock.old) (D.faults dock.new) → ⊥) → session.new ≡ session.old }
-    ensures wrote { (HasRisen (D.faults dock.old) (D.faults dock.new) → ⊥) → Makes (with_reply octets.now) (D.held dock.old) (D.held dock.new) }
+    ensures wrote { (HasRisen (D.faults dock.old) (D.faults dock.new) → ⊥)
+        → Makes (with_reply octets.now) (D.held dock.old) (D.held dock.new) }
     ensures session { StaysOrEnds session.old session.new }
     ensures accepts { (D.accept_faults dock.new ≡ D.accept_faults dock.old) × (D.accept_failed dock.new ≡ D.accept_failed dock.old) }
 {
@@ -49,7 +50,8 @@ fn put_notice<D: Dock>(session: &mut Option<Feeder>, dock: &mut D, octets: &[u8]
     ensures taken { D.is_taken dock.new ≡ true }
     ensures later { D.faults dock.old ≤ D.faults dock.new }
     ensures kept { (HasRisen (D.faults dock.old) (D.faults dock.new) → ⊥) → session.new ≡ session.old }
-    ensures wrote { (HasRisen (D.faults dock.old) (D.faults dock.new) → ⊥) → Makes (with_notice octets.now) (D.held dock.old) (D.held dock.new) }
+    ensures wrote { (HasRisen (D.faults dock.old) (D.faults dock.new) → ⊥) → Makes (with_notice octets.now) (D.held dock.old)
+        (D.held dock.new) }
     ensures session { StaysOrEnds session.old session.new }
     ensures accepts { (D.accept_faults dock.new ≡ D.accept_faults dock.old) × (D.accept_failed dock.new ≡ D.accept_failed dock.old) }
 {

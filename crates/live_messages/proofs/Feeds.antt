@@ -95,7 +95,7 @@ fault-goes one join f after piece fault reading same gave =
     let since = since-of f reading.0 reading.1 reading.2 in
     let given = gave since.0 since.1 in
     let fails : Looks after.kind (since.0 ++ piece) (Fails fault) = subst (λ k. Looks k (since.0 ++ piece) (Fails fault)) (sym same) given.0
-        in
+    in
     record {
       kind = same;
       fault = one-found one after.kind after.octets after.fault (since.0 ++ piece) fault given.1 fails;

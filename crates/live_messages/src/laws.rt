@@ -6,5 +6,6 @@ ghost use Rattle.live_messages.specs.Holds.{Holds};
 
 /// What a reader has read is what the octets fed to it hold.
 pub fn readers_hold()
-    ensures { (f : Feeding) (octets : List ℕ) (messages : List HttpMessage) → HasRead f octets messages → Holds f.kind octets messages f.fault }
+    ensures { (f : Feeding) (octets : List ℕ) (messages : List HttpMessage) → HasRead f octets messages
+        → Holds f.kind octets messages f.fault }
 {}

@@ -17,7 +17,7 @@ pub matched-ok : (app : App) (words : List (String Global)) (found : List Row) �
 unfolding matched
 matched-ok app words found none same =
     let P : List Row → Type 0 = λ r. unless_faults (fault_of app (map string_bytes words)) (matches_of app (map string_bytes words)) ≡ Ok r
-        in
+    in
     subst P (sym same) (ap (λ (k : Kinds). unless_faults k (matches_of app (map string_bytes words))) none)
 
 among : (k : ErrorKind) (kinds : Kinds) (rows : List Row) → IsAmong k kinds → unless_faults kinds rows ≡ Err faults.Word

@@ -18,8 +18,11 @@ word_rule name = record (new_rule name) { action = Some Set; required = true }
 
 -- from 1 to 16 words
 abbrev pub peers_rule : Rule
-peers_rule = record (new_rule (codes "peers")) { range = Some (record { start_inclusive = 1; end_inclusive = 16 }); action = Some Set;
-    required = true }
+peers_rule = record (new_rule (codes "peers")) {
+  range = Some (record { start_inclusive = 1; end_inclusive = 16 });
+  action = Some Set;
+  required = true;
+}
 
 -- a word, and all that follows it
 abbrev pub rest_rule : Rule

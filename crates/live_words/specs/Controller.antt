@@ -20,7 +20,7 @@ use Rattle.live_words.specs.Values.{matched_by, count_at, port_of, port_at, valu
 unfoldable pub place_in : List (List ℕ) → Result Place LineFault
 place_in (name ∷ address ∷ control ∷ notice ∷ []) =
     port_of control >>= (λ c.
-        port_of notice >>= (λ n. Ok (record { front = name ++ 61 ∷ address; link = record { control = c; notice = n } })))
+    port_of notice >>= (λ n. Ok (record { front = name ++ 61 ∷ address; link = record { control = c; notice = n } })))
 place_in _ = Err faults.Word
 
 -- one word, cut at its equals signs

@@ -19,7 +19,7 @@ flat_expire : (name : List ℕ) (soft : Bool) (l : Limits) → IsFlat 4 (expire_
 unfolding expire_data
 flat_expire name soft l = flat_object 3 _ (flat_put 3 (codes "ipsec-sa-name") _ _ (flat_string 3 name)
     (flat_put 3 (codes "lifetime-current") _ _ (flat_counts l) (flat_put 3 (codes "soft-lifetime-expire") _ _ (flat_bool 3 soft)
-        (flat_none 3))))
+    (flat_none 3))))
 
 flat_event : (n : Notice) → IsFlat 4 (event_data n)
 flat_event (notices.Acquire policy selector) = flat_acquire policy selector

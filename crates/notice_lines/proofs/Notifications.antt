@@ -34,7 +34,7 @@ counts_ok l d h =
     let a = bind_ok (counts_shape d) (λ done. limits_from d) l h in
     let needs : list_any (lacks d) limits_names ≡ false = shape_needs limits_names limits_names d a.0 a.1 in
     let bytes = or_parts (is_none (get (codes "bytes") d)) (list_any (lacks d) (codes "idle" ∷ codes "packets" ∷ codes "time" ∷ [])) needs
-        in
+    in
     let idle = or_parts (is_none (get (codes "idle") d)) (list_any (lacks d) (codes "packets" ∷ codes "time" ∷ [])) bytes.1 in
     let packets = or_parts (is_none (get (codes "packets") d)) (list_any (lacks d) (codes "time" ∷ [])) idle.1 in
     let time = or_parts (is_none (get (codes "time") d)) false packets.1 in
@@ -51,7 +51,7 @@ counts_back : (l : Limits) (d : Data) → IsCounts l d → counts_in d ≡ Ok l
 unfolding counts_in counts_shape
 counts_back l d h =
     let lacking : list_any (lacks d) limits_names ≡ false = rw (there _ _ h.bytes, there _ _ h.idle, there _ _ h.packets, there _ _ h.time)
-        refl in
+    refl in
     let has : HasLimits l d = record {
       bytes = optional_from _ _ (get (codes "bytes") d) h.bytes;
       idle = optional_from _ _ (get (codes "idle") d) h.idle;
@@ -102,7 +102,7 @@ time_back d h = member_of (codes "eventTime") _ tt (stamp_back (get (codes "even
 
 whole_by : (p q : Bool) (s t : Selector) → has_empty_range s ≡ p → has_many_ranges s ≡ q →
     (let r : Result Selector Fault = if p then at_member (codes "traffic-selector") (Err kinds.Range) else if q
-        then at_member (codes "traffic-selector") (Err kinds.Unsupported) else Ok s in r) ≡ Ok t → (s ≡ t) × IsWhole s
+    then at_member (codes "traffic-selector") (Err kinds.Unsupported) else Ok s in r) ≡ Ok t → (s ≡ t) × IsWhole s
 whole_by true q s t e f h = absurd (let no : ⊥ = cc in no)
 whole_by false true s t e f h = absurd (let no : ⊥ = cc in no)
 whole_by false false s t e f h = (ok_is s t h, (e, f))
@@ -255,7 +255,7 @@ envelope_ok n d h = acquire_else_ok n d (get acquire_name d) refl h
 event_back : (name : List ℕ) (P : Data → Type 0) (f : Data → Result Notice Fault) (n : Notice) (d : Data) (leaf : Option Data)
     → ((e : Data) → P e → f e ≡ Ok n) → get name d ≡ leaf →
     HasOnly (codes "eventTime" ∷ name ∷ []) d → Needed IsText (get (codes "eventTime") d) → Needed P leaf → (event : Data)
-        × (get name d ≡ Some event) × ((event_shape name d >>= (λ done. f event)) ≡ Ok n)
+    × (get name d ≡ Some event) × ((event_shape name d >>= (λ done. f event)) ≡ Ok n)
 unfolding event_shape
 event_back name P f n d None step is members time h = absurd h
 event_back name P f n d (Some event) step is members time h =
@@ -267,23 +267,27 @@ envelope_back : (n : Notice) (d : Data) → IsEnvelope n d → envelope_in d ≡
 unfolding envelope_in
 envelope_back (notices.Acquire policy s) d h =
     let found = event_back acquire_name (IsAcquire policy s) acquire_in (notices.Acquire policy s) d (get acquire_name d)
-        (acquire_back policy s) refl h.members h.time h.event in
+    (acquire_back policy s) refl h.members h.time h.event in
     rw found.1 found.2
 envelope_back (notices.Expire name soft l) d h =
     let found = event_back expire_name (IsExpiry name soft l) expire_in (notices.Expire name soft l) d (get expire_name d)
-        (expire_back name soft l) refl h.members h.time h.event in
+    (expire_back name soft l) refl h.members h.time h.event in
     rw (absent (codes "eventTime" ∷ expire_name ∷ []) acquire_name d refl h.members, found.1) found.2
 envelope_back (notices.SeqOverflow name) d h =
     let found = event_back overflow_name (IsEvent (notices.SeqOverflow name)) overflow_in (notices.SeqOverflow name) d (get overflow_name d)
-        (overflow_back name) refl h.members h.time h.event in
+    (overflow_back name) refl h.members h.time h.event in
     let names = codes "eventTime" ∷ overflow_name ∷ [] in
     rw (absent names acquire_name d refl h.members, absent names expire_name d refl h.members, found.1) found.2
 envelope_back (notices.BadSpi spi) d h =
     let found = event_back bad_spi_name (IsEvent (notices.BadSpi spi)) bad_spi_in (notices.BadSpi spi) d (get bad_spi_name d)
-        (bad_spi_back spi) refl h.members h.time h.event in
+    (bad_spi_back spi) refl h.members h.time h.event in
     let names = codes "eventTime" ∷ bad_spi_name ∷ [] in
-    rw (absent names acquire_name d refl h.members, absent names expire_name d refl h.members, absent names overflow_name d refl h.members,
-        found.1) found.2
+    rw (
+      absent names acquire_name d refl h.members,
+      absent names expire_name d refl h.members,
+      absent names overflow_name d refl h.members,
+      found.1,
+    ) found.2
 
 -- ---- notifications
 
@@ -300,5 +304,5 @@ pub notice_back : (n : Notice) (d : Data) → IsNotification n d → notice_in d
 unfolding notice_in
 notice_back n d h =
     let a = bind_ok (only_in outer d) (λ e. within outer (envelope_in e)) n
-        (only_of outer envelope_in (IsEnvelope n) n d (λ e k. envelope_back n e k) h) in
+    (only_of outer envelope_in (IsEnvelope n) n d (λ e k. envelope_back n e k) h) in
     rw a.1 (within_ok outer (envelope_in a.0) n a.2)

@@ -116,19 +116,19 @@ sized_selector short s few h =
     sized_object 2077 _
     (sized_put 1969 20 14 (codes "inner-protocol") (proto_data s.proto) _ (same 14) (sized_proto s.proto h.proto)
     (sized_ports 1345 11 (codes "local-ports") s.local_ports _ (same 11) (few_left (length s.local_ports) (length s.remote_ports) few)
-        h.local_ports
+    h.local_ports
     (sized_put 991 278 12 (codes "local-prefix") (string (prefix_text s.local)) _ (same 12)
-        (sized_string 46 (prefix_text s.local) (short s.local h.local))
+    (sized_string 46 (prefix_text s.local) (short s.local h.local))
     (sized_ports 361 12 (codes "remote-ports") s.remote_ports _ (same 12) (few_right (length s.local_ports) (length s.remote_ports) few)
-        h.remote_ports
+    h.remote_ports
     (sized_put 1 278 13 (codes "remote-prefix") (string (prefix_text s.remote)) no_members (same 13)
-        (sized_string 46 (prefix_text s.remote) (short s.remote h.remote)) sized_none)))))
+    (sized_string 46 (prefix_text s.remote) (short s.remote h.remote)) sized_none)))))
 
 sized_counts : (l : Limits) → IsTypedLimits l → IsSized 290 (counts_data l)
 sized_counts l h =
     sized_object 289 _
     (sized_put 133 122 5 (codes "bytes") (wide l.bytes) _ (same 5)
-        (sized_string 20 (decimal l.bytes) (length-decimal-le 20 l.bytes (omega arith) (let b = h.bytes in omega arith) h.bytes))
+    (sized_string 20 (decimal l.bytes) (length-decimal-le 20 l.bytes (omega arith) (let b = h.bytes in omega arith) h.bytes))
     (sized_put 95 10 4 (codes "idle") (count l.idle) _ (same 4) (sized_count l.idle h.idle)
     (sized_put 39 10 7 (codes "packets") (count l.packets) _ (same 7) (sized_count l.packets h.packets)
     (sized_put 1 10 4 (codes "time") (count l.time) no_members (same 4) (sized_count l.time h.time) sized_none))))
@@ -152,7 +152,7 @@ serial_size text h = middle (nat_le 1 (length text)) (nat_le (length text) 60) (
 front_size : (front name : List ℕ) → length front ≤ 4 → has_front front name ≡ true → length name ≤ 64
 front_size front name short h =
     let long = and_parts (nat_le (length front) (length name)) (bytes_eq (take (length front) name) front
-        && is_serial (drop (length front) name)) h in
+    && is_serial (drop (length front) name)) h in
     let parts = and_parts (bytes_eq (take (length front) name) front) (is_serial (drop (length front) name)) long.1 in
     let rest = serial_size (drop (length front) name) parts.1 in
     let size = length-drop (length front) name in
@@ -188,7 +188,7 @@ sized_event short (notices.Expire name soft l) is h = sized_more 989 2672 (expir
 sized_event short (notices.SeqOverflow name) is h =
     sized_more 470 2672 (overflow_data name) (omega arith)
     (sized_object 469 _ (sized_put 1 386 13 (codes "ipsec-sa-name") (string name) no_members (same 13)
-        (sized_string 64 name (sad_size name is)) sized_none))
+    (sized_string 64 name (sad_size name is)) sized_none))
 sized_event short (notices.BadSpi spi) is h =
     sized_more 34 2672 (bad_spi_data spi) (omega arith)
     (sized_object 33 _ (sized_put 1 10 3 (codes "spi") (count spi) no_members (same 3) (sized_count spi h) sized_none))
@@ -211,5 +211,5 @@ pub sized_notice : ShortPrefixes → (n : Notice) (stamp : List ℕ) → length 
     → length (compact_text (notice_data n stamp)) ≤ 3236
 sized_notice short n stamp time is h =
     (sized_object 3235 _ (sized_put 1 3074 26 (codes "ietf-restconf:notification") (envelope_data stamp (event_name n) (event_data n))
-        no_members (same 26)
+    no_members (same 26)
     (sized_envelope stamp (event_name n) (event_data n) time (name_size n) (sized_event short n is h)) sized_none)).size

@@ -24,5 +24,5 @@ one_stamp n a b p q =
     let same = one_moment n p.year p.month p.day p.hour p.minute p.second q.year q.month q.day q.hour q.minute q.second p.moment q.moment in
     let one = p.is in let two = q.is in
     let texts : stamp_text p.year p.month p.day p.hour p.minute p.second ≡ stamp_text q.year q.month q.day q.hour q.minute q.second =
-        rw (same.0, same.1, same.2, same.3, same.4, same.5) refl in
+    rw (same.0, same.1, same.2, same.3, same.4, same.5) refl in
     one ∙ texts ∙ sym two

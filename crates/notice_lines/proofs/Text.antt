@@ -31,14 +31,14 @@ self_none x e = grind (arith, nat_tests)
 
 byte_by : (b s : Bool) (x : ℕ) → nat_lt x 32 ≡ s
     → line_end (cond b (92 ∷ escape_letter x ∷ []) (cond s (92 ∷ 117 ∷ 48 ∷ 48 ∷ digit_char (x / 16) ∷ digit_char (x % 16) ∷ []) (x ∷ [])))
-        ≡ None
+    ≡ None
 byte_by true s x e = more_none 92 (escape_letter x ∷ []) refl (more_none (escape_letter x) [] (letter_none x) refl)
 byte_by false true x e =
     let digits = digit_char (x / 16) ∷ digit_char (x % 16) ∷ [] in
     let none = more_none (digit_char (x / 16)) (digit_char (x % 16) ∷ []) (digit_none (x / 16))
-        (more_none (digit_char (x % 16)) [] (digit_none (x % 16)) refl) in
+    (more_none (digit_char (x % 16)) [] (digit_none (x % 16)) refl) in
     more_none 92 (117 ∷ 48 ∷ 48 ∷ digits) refl
-        (more_none 117 (48 ∷ 48 ∷ digits) refl (more_none 48 (48 ∷ digits) refl (more_none 48 digits refl none)))
+    (more_none 117 (48 ∷ 48 ∷ digits) refl (more_none 48 (48 ∷ digits) refl (more_none 48 digits refl none)))
 byte_by false false x e = more_none x [] (self_none x e) refl
 
 byte_none : (x : ℕ) → line_end (escape_byte x) ≡ None
@@ -107,7 +107,7 @@ mutual
   items_none plain later no_items h = refl
   items_none plain later (item d ds) h =
       comma_none later (compact_text d ++ items_text true ds) (end_none (compact_text d) (items_text true ds) (text_none plain d h.0)
-          (items_none plain true ds h.1))
+      (items_none plain true ds h.1))
 
   members_none : PlainNumbers → (later : Bool) (ms : Members) → MembersNarrow ms → line_end (members_text later ms) ≡ None
   members_none plain later no_members h = refl

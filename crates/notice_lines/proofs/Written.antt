@@ -18,14 +18,19 @@ pub written_heard : PlainNumbers → (n : Notice) (seconds : ℕ) (line : List �
 written_heard plain n seconds line is typed written = λ rest pieces joined.
     let d = notice_data n written.stamp in
     let text = compact_text d in
-    let whole : HasNotice text n = record { utf8 = written.utf8; value = d; reads = written.reads; is =
-        notice_back n d (notice_again n written.stamp is typed) } in
+    let whole : HasNotice text n = record {
+      utf8 = written.utf8;
+      value = d;
+      reads = written.reads;
+      is =
+          notice_back n d (notice_again n written.stamp is typed);
+    } in
     let time : length written.stamp ≤ 20 = let e = ap length written.at.is in omega (arith, e) in
     let size = sized_notice prefix_size n written.stamp time is typed in
     let short : length text ≤ 4096 = omega (arith, size) in
     let all : flat_map (λ piece. piece) pieces ≡ text ++ 10 ∷ rest = joined ∙ ap (λ l. l ++ rest) written.text
-        ∙ append_assoc text (10 ∷ []) rest in
+    ∙ append_assoc text (10 ∷ []) rest in
     let heard = heard_whole text rest n pieces whole (text_none plain d (plain_notice n written.stamp typed).is) short all in
     let count : length text + 1 ≡ length line = let e = ap length written.text in let f = length-append text (10 ∷ []) in
-        omega (arith, e, f) in
+    omega (arith, e, f) in
     (length text, count, heard.0, heard.1)

@@ -76,7 +76,7 @@ first_begins kept (p ∷ ps) = unless_open (begins (kept ++ p)) (first_begins (k
 abbrev pub IsHeard : Notice → List ℕ → Type 0
 IsHeard n line = (rest : List ℕ) (pieces : List (List ℕ)) → flat_map (λ piece. piece) pieces ≡ line ++ rest
     → (size : ℕ) × (size + 1 ≡ length line) × (first_begins [] pieces ≡ Ends size)
-        × HasNotice (take size (flat_map (λ piece. piece) pieces)) n
+    × HasNotice (take size (flat_map (λ piece. piece) pieces)) n
 
 -- ---- a reader
 

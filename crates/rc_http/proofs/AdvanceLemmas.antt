@@ -137,8 +137,13 @@ module _ (kind : Kind) (kept : List ℕ) (n whole : ℕ) (stage : IsBodyStage ki
       record {
         head_is = k.0;
         short = stage.short;
-        reads = (h, stage.reads.1, subst (λ l. Reads kind l h) (sym (take-append-le n kept more k.1)) stage.reads.2, stage.reads.3,
-            stage.reads.4);
+        reads = (
+          h,
+          stage.reads.1,
+          subst (λ l. Reads kind l h) (sym (take-append-le n kept more k.1)) stage.reads.2,
+          stage.reads.3,
+          stage.reads.4,
+        );
         fits = stage.fits;
         part = omega (arith, fits, length-append kept more);
       }
@@ -162,7 +167,7 @@ module _ (kind : Kind) (kept : List ℕ) (n whole : ℕ) (stage : IsBodyStage ki
       let stage' = more_body (take wanted piece) (omega (arith, w, stage.part, taken)) in
       let long : length (kept ++ take wanted piece) ≡ whole = omega (arith, w, stage.part, taken, length-append kept (take wanted piece)) in
       let gives = looks_whole kind (kept ++ take wanted piece) n whole stage' long front body m (f ∙ ap (take n) is) (b ∙ ap (drop n) is) x
-          in
+      in
       let joined : (kept ++ take wanted piece) ++ drop wanted piece ≡ kept ++ piece =
       append_assoc kept (take wanted piece) (drop wanted piece) ∙ ap (λ l. kept ++ l) (take-append-drop wanted piece) in
       let other : Gives m whole ≢ Waits = λ e. cc in

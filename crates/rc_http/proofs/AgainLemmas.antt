@@ -126,14 +126,16 @@ pub target_uri : (target : List ℕ) → IsTrue (written.is_target target) → (
 target_uri target t =
     let some : 0 < length target = grind (arith, first_true (nat_lt 0 (length target)) (list_all written.is_target_octet target) t) in
     let octets = all_pass written.is_target_octet target (rest_true (nat_lt 0 (length target)) (list_all written.is_target_octet target) t)
-        in
-    (some, All-weaker (λ b. IsTrue (written.is_target_octet b)) (λ b. IsTrue (is_uri_byte b)) (λ b x. seen_uri b (target_seen b x)) target
-        octets)
+    in (
+      some,
+      All-weaker (λ b. IsTrue (written.is_target_octet b)) (λ b. IsTrue (is_uri_byte b)) (λ b x. seen_uri b (target_seen b x)) target
+          octets,
+    )
 
 pub target_text : (target : List ℕ) → IsTrue (written.is_target target) → IsUtf8 target
 target_text target t =
     let octets = all_pass written.is_target_octet target (rest_true (nat_lt 0 (length target)) (list_all written.is_target_octet target) t)
-        in
+    in
     IsUtf8-from_ascii target (IsAscii-from_all target
     (All-weaker (λ b. IsTrue (written.is_target_octet b)) (λ b. b < 128) (λ b x. seen_ascii b (target_seen b x)) target octets))
 
@@ -197,7 +199,7 @@ tokens fields (name ∷ names) t v =
     let test = first_true (is_token name) (list_all is_token names) t in
     let some : 0 < length name = grind (arith, first_true (nat_lt 0 (length name)) (list_all is_token_byte name) test) in
     let name-is : IsToken name = (some, all_pass is_token_byte name (rest_true (nat_lt 0 (length name)) (list_all is_token_byte name) test))
-        in
+    in
     let value = plain (value_in fields name)
     (first_true (is_value (value_in fields name)) (list_all (λ f. is_value f.1) (named fields names)) v) in
     All-cons IsPlainField (name, value_in fields name) (named fields names) (record { name = name-is; value = value })
@@ -261,7 +263,7 @@ parts_are m w =
 reads_head : (m : HttpMessage) → IsWritableRequest m → Reads Request (request_head m) (parts m)
 reads_head m w =
     let buf : request_head m ≡ print_request (head_of m) ++ [] = sym (printed m.method m.target (request_fields m))
-        ∙ sym (append-nil (print_request (head_of m))) in
+    ∙ sym (append-nil (print_request (head_of m))) in
     ((head_of m, (head_is m w, buf), parts_are m w), few_request m.fields m.body)
 
 -- the length of its body
@@ -315,7 +317,7 @@ request_read_again m text rest w is =
     let buf = printed m.method m.target (request_fields m) in
     let whole : head_len (request_head m ++ (m.body ++ rest)) ≡ Some (length (request_head m)) =
     ap (λ l. head_len (l ++ (m.body ++ rest))) (sym buf) ∙ whole_request (head_of m) (m.body ++ rest) (head_is m w)
-        ∙ ap (λ l. Some (length l)) buf in
+    ∙ ap (λ l. Some (length l)) buf in
     let read = gives_again Request (request_head m) m.body rest (parts m) whole w.head (reads_head m w) (request_len m w) in
     let again : message_of (parts m) m.body ≡ request_again m = again_is m w.status in
     subst (λ l. Looks Request (l ++ rest) (Gives (request_again m) (length l))) (sym is)

@@ -157,7 +157,7 @@ type_others fields (b ∷ body) = (refl, refl)
 
 own_others : (fields : Entries FieldValue) (a b : Bool)
     → (values_of (codes "Transfer-Encoding") (named fields (if a then codes "Location" ∷ [] else if b then codes "Allow" ∷ [] else [])) ≡
-        [])
+    [])
     × (values_of (codes "Content-Length") (named fields (if a then codes "Location" ∷ [] else if b then codes "Allow" ∷ [] else [])) ≡ [])
 own_others fields true b = (refl, refl)
 own_others fields false true = (refl, refl)
@@ -233,19 +233,25 @@ parts_are : (m : HttpMessage) (t : List ℕ) → IsWritableResponse m → IsStat
     → parts m ≡ of_response (answer_with t (response_fields m))
 parts_are m t w s =
     let fs = read_fields (response_fields m) (tokens m.fields (response_names m.status m.body) (response_tokens m.status m.body) w.values)
-        in
+    in
     ap (λ n. parts_with n (response_fields m)) (sym s.number) ∙ ap (λ l. parts_with (digits_value 10 (take 3 t)) l) (sym fs)
 
 response_len : (m : HttpMessage) → IsWritableResponse m → body_len Response (parts m) ≡ Ok (length m.body)
 response_len m w =
     len_known Response 1 (response_fields m) refl
     ∙ ap (λ vs. len_without Response vs (values_of (codes "Content-Length") (response_fields m)))
-        (response_encodings m.fields m.status m.body)
+    (response_encodings m.fields m.status m.body)
     ∙ response_lengths m w
 
 abbrev message_with : HttpMessage → List ℕ → List ℕ → HttpMessage
-message_with m method target = record { method = method; target = target; status = m.status; fields = fields_map (response_fields m); body =
-    m.body }
+message_with m method target = record {
+  method = method;
+  target = target;
+  status = m.status;
+  fields = fields_map (response_fields m);
+  body =
+      m.body;
+}
 
 again_is : (m : HttpMessage) → m.method ≡ [] → m.target ≡ [] → message_of (parts m) m.body ≡ response_again m
 again_is m a b = ap (λ l. message_with m l []) (sym a) ∙ ap (λ l. message_with m m.method l) (sym b)

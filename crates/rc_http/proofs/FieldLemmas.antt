@@ -30,12 +30,12 @@ pub valid_fields : (kind : Kind) (octets : List ℕ) (head : Head) → Reads kin
 valid_fields Request octets head reads =
     let h = reads.0.0 in
     let fields = All-map IsValidField name_and_value h.fields (All-weaker IsField (λ f. IsValidField (name_and_value f)) field_valid
-        h.fields reads.0.1.0.fields) in
+    h.fields reads.0.1.0.fields) in
     subst (λ (x : Head). All IsValidField x.fields) (sym reads.0.2) fields
 valid_fields Response octets head reads =
     let h = reads.0.0 in
     let fields = All-map IsValidField name_and_value h.fields (All-weaker IsField (λ f. IsValidField (name_and_value f)) field_valid
-        h.fields reads.0.1.0.fields) in
+    h.fields reads.0.1.0.fields) in
     subst (λ (x : Head). All IsValidField x.fields) (sym reads.0.2) fields
 
 -- a name in a head is short

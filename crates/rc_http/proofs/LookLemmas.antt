@@ -76,7 +76,7 @@ body_by : (xs ys : List ℕ) (n : ℕ) (h : Head) (len : ℕ) → n ≤ length x
 body_by xs ys n h len le true e other =
     let fits : n + len ≤ length xs = grind (arith, e) in
     let more : nat_le (n + len) (length (xs ++ ys)) ≡ true =
-        le_true (n + len) (length (xs ++ ys)) (omega (arith, fits, length-append xs ys)) in
+    le_true (n + len) (length (xs ++ ys)) (omega (arith, fits, length-append xs ys)) in
     let same : take len (drop n (xs ++ ys)) ≡ take len (drop n xs) =
     ap (take len) (drop-append-le n xs ys le) ∙ take-append-le len (drop n xs) ys (omega (arith, fits, length-drop n xs)) in
     rw (e, more, same) refl

@@ -43,8 +43,19 @@ given_len kind xs m n head e short parts reads len l true t is =
     let same : Gives m n ≡ Gives (message_of parts (take len (drop head xs))) (head + len) = is ∙ rw t refl in
     let whole : n ≡ head + len = cc in
     let message : m ≡ message_of parts (take len (drop head xs)) = cc in
-    record { head = head; head_is = e; short = short; parts = parts; reads = reads; len = len; len_is = l; fits =
-        omega (arith, whole, fits); whole = whole; message = message }
+    record {
+      head = head;
+      head_is = e;
+      short = short;
+      parts = parts;
+      reads = reads;
+      len = len;
+      len_is = l;
+      fits =
+          omega (arith, whole, fits);
+      whole = whole;
+      message = message;
+    }
 given_len kind xs m n head e short parts reads len l false t is =
     let wait : Gives m n ≡ Waits = is ∙ rw t refl in absurd (gives_waits m n wait)
 
@@ -85,7 +96,7 @@ gives_from : (kind : Kind) (xs : List ℕ) (m : HttpMessage) (n : ℕ) → IsGiv
 gives_from kind xs m n g =
     let test : nat_le (g.head + g.len) (length xs) ≡ true = le_true (g.head + g.len) (length xs) (omega (arith, g.fits, g.whole)) in
     let is : with_body xs g.head g.parts (body_len kind g.parts) ≡ Gives (message_of g.parts (take g.len (drop g.head xs)))
-        (g.head + g.len) =
+    (g.head + g.len) =
     rw (g.len_is, test) refl in
     let same : Gives m n ≡ Gives (message_of g.parts (take g.len (drop g.head xs))) (g.head + g.len) = cc (g.message, g.whole) in
     looks_after kind xs (Gives m n) g.head g.head_is g.short (inl (g.parts, g.reads, same ∙ sym is))
@@ -97,7 +108,7 @@ module _ (kind : Kind) (xs : List ℕ) (m : HttpMessage) (n : ℕ) (g : IsGiven 
   front_head k le fits =
       let same : take g.head (take k xs) ≡ take g.head xs =
       sym (take-append-le g.head (take k xs) (drop k xs) (omega (arith, le, length-take-le k xs fits)))
-          ∙ ap (take g.head) (take-append-drop k xs) in
+      ∙ ap (take g.head) (take-append-drop k xs) in
       let whole : head_len (take g.head (take k xs)) ≡ Some g.head = ap head_len same ∙ head_front g.head xs g.head_is in
       let all = head_kept g.head (take g.head (take k xs)) (drop g.head (take k xs)) whole in
       (ap head_len (sym (take-append-drop g.head (take k xs))) ∙ all.0, same)
@@ -216,7 +227,7 @@ pieces f after octets piece messages (Ok NoneYet) same gives x =
     reads_same f after octets piece messages same (λ since is. (gives since is).1) x
 pieces f after octets piece messages (Ok (Whole m taken)) same gives x =
     reads_more f after octets (take taken piece) messages (m ∷ []) same (λ since is. whole_next f after piece since m taken same
-        (gives since is)) x
+    (gives since is)) x
 pieces f after octets piece messages (Err (Refused fault)) same gives x =
     reads_same f after octets piece messages same (λ since is. (gives since is).1) x
 pieces f after octets piece messages (Err NoMemory) same gives x = tt

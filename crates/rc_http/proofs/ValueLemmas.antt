@@ -121,7 +121,7 @@ module _ (kind : Kind) (minor : ℕ) (fields : List (List ℕ × List ℕ)) (n m
   plain : n ≤ 0 → len_of kind minor fields ≡ len_by kind (values_of (codes "Content-Length") fields)
   plain none = len_known kind minor fields is
       ∙ len_plain kind (values_of (codes "Transfer-Encoding") fields) (values_of (codes "Content-Length") fields)
-          (omega (arith, n-is, none))
+      (omega (arith, n-is, none))
 
   pub announced_none : n ≤ 0 → m ≡ 0 → Ok 0 ≡ len_of kind minor fields
   announced_none none zero-is = sym (plain none ∙ len_none kind (values_of (codes "Content-Length") fields) (omega (arith, m-is, zero-is)))
@@ -139,7 +139,7 @@ pub announced_chunked : (kind : Kind) (minor : ℕ) (fields : List (List ℕ × 
 announced_chunked kind minor fields n is n-is some =
     sym (len_known kind minor fields is
     ∙ len_chunked kind (values_of (codes "Transfer-Encoding") fields) (values_of (codes "Content-Length") fields)
-        (omega (arith, n-is, some)))
+    (omega (arith, n-is, some)))
 
 -- no length passes 16 MiB
 stated_small : (kind : Kind) (v : List ℕ) (n : ℕ) → stated_len kind v ≡ Ok n → n ≤ 16777216

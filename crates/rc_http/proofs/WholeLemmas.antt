@@ -96,7 +96,7 @@ section_through (f ∷ fs) last xs all =
     let assoc : f.name ++ (58 ∷ f.raw ++ rest) ≡ field_text f ++ rest = simp (append_assoc, cons-append) in
     let long : length (field_text f) + (length (print_end f.end) + length (print_section fs last)) ≡ length (print_section (f ∷ fs) last) =
     sym (length-append (field_text f) (print_end f.end ++ print_section fs last)
-        ∙ ap (λ k. length (field_text f) + k) (length-append (print_end f.end) (print_section fs last)))
+    ∙ ap (λ k. length (field_text f) + k) (length-append (print_end f.end) (print_section fs last)))
     ∙ ap length (simp (append_assoc, cons-append)) in
     ap line_len (field_split f fs last xs ∙ sym assoc) ∙ begins ∙ ap text_len assoc
     ∙ text_through (field_text f) (print_section fs last ++ xs) f.end (field_line_is f is)
@@ -112,7 +112,7 @@ blank_through [] xs = sym (shift_none (head_len xs))
 blank_through (crlf ∷ ends) xs =
     ap (λ o. option_map suc (option_map suc o)) (blank_through ends xs)
     ∙ ap (option_map suc) (shift_more (length (print_blank ends)) (head_len xs))
-        ∙ shift_more (suc (length (print_blank ends))) (head_len xs)
+    ∙ shift_more (suc (length (print_blank ends))) (head_len xs)
 blank_through (lf ∷ ends) xs = ap (option_map suc) (blank_through ends xs) ∙ shift_more (length (print_blank ends)) (head_len xs)
 
 -- a first line that isn't empty, and the fields

@@ -12,8 +12,10 @@ ghost use Rattle.rc_http.specs.Looks.{Gives, Looked, Looks, Waits};
 
 /// A head that `httparse` reads is whole at its last octet, and not before, whatever follows.
 pub fn heads_are_whole()
-    ensures requests { (h : RequestHead) (rest : List ℕ) → IsRequestHead h → head_len (print_request h ++ rest) ≡ Some (length (print_request h)) }
-    ensures responses { (h : ResponseHead) (rest : List ℕ) → IsResponseHead h → head_len (print_response h ++ rest) ≡ Some (length (print_response h)) }
+    ensures requests { (h : RequestHead) (rest : List ℕ) → IsRequestHead h
+        → head_len (print_request h ++ rest) ≡ Some (length (print_request h)) }
+    ensures responses { (h : ResponseHead) (rest : List ℕ) → IsResponseHead h
+        → head_len (print_response h ++ rest) ≡ Some (length (print_response h)) }
 {}
 
 /// Octets amount to one thing.
@@ -48,5 +50,6 @@ pub fn pieces_join()
 
 /// The messages of octets are the same however the octets were cut into pieces.
 pub fn cuts_make_no_difference()
-    ensures { (f g : Feeding) (octets : List ℕ) (xs ys : List HttpMessage) → f.kind ≡ g.kind → HasRead f octets xs → HasRead g octets ys → xs ≡ ys }
+    ensures { (f g : Feeding) (octets : List ℕ) (xs ys : List HttpMessage) → f.kind ≡ g.kind → HasRead f octets xs → HasRead g octets ys
+        → xs ≡ ys }
 {}

@@ -127,8 +127,10 @@ body_is list = refl
 
 below_body : (r : Result (List SpdEntry) Fault) → IsGood 230 (in_body r) → IsGood 207 (within (codes "spd-entry") r)
 below_body (Ok list) g = record { is = tt }
-below_body (Err f) g = record { is = below_text 207 230 (codes "ietf-i2nsf-ikeless:spd") (deeper (codes "spd-entry") f.path) (omega arith)
-    g.is }
+below_body (Err f) g = record {
+  is = below_text 207 230 (codes "ietf-i2nsf-ikeless:spd") (deeper (codes "spd-entry") f.path) (omega arith)
+      g.is;
+}
 
 good_entries : (o : Option Data) → IsGood 207 (entries_of o)
 good_entries None = good_here 207 kinds.Missing
@@ -170,7 +172,7 @@ good_first : (d : Data) → IsGood 207 (first_in d)
 unfolding first_in
 good_first d =
     good_then 207 _ _ (good_member 207 (codes "anti-replay-window-size") (needed_number 32 4096 (get (codes "anti-replay-window-size") d))
-        refl (omega arith)) (λ window.
+    refl (omega arith)) (λ window.
     good_then 207 _ _ (good_member 207 (codes "first") (name_leaf is_gateway (get (codes "first") d)) refl (omega arith)) (λ name.
     good_then 207 _ _ (good_prefix (codes "first-prefix") d refl (omega arith)) (λ prefix.
     good_then 207 _ _ (good_limits_of (codes "hard") refl (omega arith) (get (codes "hard") d)) (λ hard. good_ok 207 _))))

@@ -103,7 +103,8 @@ pub fn can_be_sent(alloc: Global, c: &Command) -> Result<bool, NoMemory>
 pub fn write_operation(alloc: Global, c: &Command) -> Result<Octets, NoMemory>
     requires { IsSendable c.now }
     ensures text { IfOk result (λ text. text ≡ request_text (command_message c.now)) }
-    ensures looks { IfOk result (λ text. (rest : List ℕ) → Looks Request (text ++ rest) (Gives (request_again (command_message c.now)) (length text))) }
+    ensures looks { IfOk result (λ text. (rest : List ℕ)
+        → Looks Request (text ++ rest) (Gives (request_again (command_message c.now)) (length text))) }
     ensures again { IfOk result (λ text. requested (request_again (command_message c.now)) ≡ Ok c.now) }
 {
     let message = request_of(alloc, c)?;

@@ -73,12 +73,12 @@ write_message : (path : Option (List ℕ)) (ms : Members) → IfSome path IsUtf8
 write_message None ms utf8 h = h
 write_message (Some pointer) ms utf8 h =
     write_member (codes "error-message") _ ms refl
-        (write_text (codes "at " ++ pointer) (IsUtf8-append (codes "at ") pointer (IsUtf8-are_ascii (codes "at ") refl) utf8)) h
+    (write_text (codes "at " ++ pointer) (IsUtf8-append (codes "at ") pointer (IsUtf8-are_ascii (codes "at ") refl) utf8)) h
 
 pub write_error : (app : App) (path : Option (List ℕ)) (tag : Tag) → IfSome path IsUtf8 → IsWritable (error_data app path tag)
 write_error app path tag utf8 =
     write_only (codes "ietf-restconf:errors") _ refl
     (write_only (codes "error") _ refl (write_array _ (write_item _ _
     (write_object _ (write_member (codes "error-app-tag") _ _ refl (write_word (app_text app) (app_ascii app))
-        (write_message path _ utf8 (write_tag path app tag))))
+    (write_message path _ utf8 (write_tag path app tag))))
     write_no_items)))

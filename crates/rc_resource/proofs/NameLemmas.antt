@@ -70,7 +70,7 @@ no_more name before [] there h = refl
 no_more name before (e ∷ es) there h =
     let parts = first_none (entry_fault before e) (entries_fault (before ++ e ∷ []) es) h in
     by_test (is_named name e) refl (entry_new before e parts.0) (no_more name (before ++ e ∷ []) es (sooner (is_named name) before e there)
-        parts.1)
+    parts.1)
   where
     by_test : (b : Bool) → is_named name e ≡ b → list_any (is_named e.name) before ≡ false → list_any (is_named name) es ≡ false
         → list_any (is_named name) (e ∷ es) ≡ false

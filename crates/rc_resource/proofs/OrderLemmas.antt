@@ -128,7 +128,7 @@ policies_again codec es typed h =
     let plain = write_policies es typed h in
     let shallow : depth (all_policies es) ≤ 8 = (flat_all_policies es).shallow in
     codec (compact_text (all_policies es)) es typed h (utf8_again (all_policies es) plain)
-        (read_again (all_policies es) plain (omega arith))
+    (read_again (all_policies es) plain (omega arith))
 
 put_again : HalfReadsAgain → (e : SadEntry) → IsTypedHalf e → sad_fault e ≡ None → sad_entry_of (compact_text (one_sad_entry e)) ≡ Ok e
 put_again codec e typed h =

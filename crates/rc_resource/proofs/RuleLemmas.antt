@@ -186,9 +186,11 @@ alone_in before (e ∷ es) h =
 apart_in : (before es : List SpdEntry) → entries_fault before es ≡ None → AreApart (λ x. x.name) es
 apart_in before [] h = tt
 apart_in before (e ∷ es) h =
-    let parts = first_none (entry_fault before e) (entries_fault (before ++ e ∷ []) es) h in
-    (no_more e.name (before ++ e ∷ []) es (at_end (is_named e.name) before e ((bytes_eq-Decides e.name e.name).1 refl)) parts.1, apart_in
-        (before ++ e ∷ []) es parts.1)
+    let parts = first_none (entry_fault before e) (entries_fault (before ++ e ∷ []) es) h in (
+      no_more e.name (before ++ e ∷ []) es (at_end (is_named e.name) before e ((bytes_eq-Decides e.name e.name).1 refl)) parts.1,
+      apart_in
+          (before ++ e ∷ []) es parts.1,
+    )
 
 -- no entry has the name of one before it
 abbrev AreNew : List SpdEntry → List SpdEntry → Type 0

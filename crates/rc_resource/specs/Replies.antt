@@ -62,8 +62,16 @@ plain_refusal status tag app = refusal (record { status = status; tag = tag; app
 
 -- 200 with a body, 201 with a location, and 204
 abbrev pub shows_reply : List (List ℕ) → List ℕ → Reply
-shows_reply names body = record { status = 200; tag = None; names = names; location = []; allow = []; body = body; change =
-    changes.Nothing }
+shows_reply names body = record {
+  status = 200;
+  tag = None;
+  names = names;
+  location = [];
+  allow = [];
+  body = body;
+  change =
+      changes.Nothing;
+}
 
 -- 201 for what was made, with its path
 abbrev pub made_reply : List ℕ → Change → Reply

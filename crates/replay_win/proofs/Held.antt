@@ -22,7 +22,7 @@ pub set-held : (old new : List ℕ) (n top s : ℕ) → n ≡ length old → 0 <
 set-held old new n top s en some near low ahead bits k within =
     ap (λ b. nat_le k (max top s) && b) (bits k)
     ∙ set-by top s k (is_one_bit n s k) (is_bit_set old k) (λ low. bit-apart n s k (omega arith) (omega arith)) (ahead k) low
-        (cases_lt (max top s) k) (cases_lt top k)
+    (cases_lt (max top s) k) (cases_lt top k)
 
 pub set-ahead : (old new : List ℕ) (n top s : ℕ) → 0 < n → top < s + 64 * (n - 1) → s / 64 ≤ top / 64 → IsClearAhead old top →
     ((k : ℕ) → is_bit_set new k ≡ (is_one_bit n s k || is_bit_set old k)) → IsClearAhead new (max top s)
@@ -48,7 +48,7 @@ begin-same top s k word passed old higher is same reach =
 begin-passed : (top s k first : ℕ) (word passed old : Bool) → top / 64 + 1 ≤ first → word ≡ (s / 64 == k / 64)
     → passed ≡ (nat_le first (k / 64) && nat_lt (k / 64) (s / 64)) →
     k / 64 < s / 64 → first ≤ k / 64 → (nat_le k s && (if word then s % 64 == k % 64 else (not passed && old))) ≡ ((s == k)
-        || (nat_le k top && old))
+    || (nat_le k top && old))
 begin-passed top s k first word passed old least is pass lower in_blocks =
     let w : word ≡ false = grind (arith, nat_tests) in
     let p : passed ≡ true = grind (arith, nat_tests) in
@@ -70,9 +70,9 @@ begin-kept top s k first word passed old is pass lower before near ahead (inr be
 
 begin-by : (top s k first : ℕ) (word passed old : Bool) → top / 64 < s / 64 → top / 64 + 1 ≤ first →
     (k ≤ s → word ≡ (s / 64 == k / 64)) → (k ≤ s → passed ≡ (nat_le first (k / 64) && nat_lt (k / 64) (s / 64)))
-        → (k ≤ s → k / 64 < first → k / 64 ≤ top / 64) →
+    → (k ≤ s → k / 64 < first → k / 64 ≤ top / 64) →
     (top < k → k / 64 ≡ top / 64 → old ≡ false) → (s < k) ⊎ (k ≤ s) → (top < k) ⊎ (k ≤ top) → (k / 64 < s / 64) ⊎ (s / 64 ≤ k / 64)
-        → (k / 64 < first) ⊎ (first ≤ k / 64) →
+    → (k / 64 < first) ⊎ (first ≤ k / 64) →
     (nat_le k s && (if word then s % 64 == k % 64 else (not passed && old))) ≡ ((s == k) || (nat_le k top && old))
 begin-by top s k first word passed old higher least is pass near ahead (inl far) t u v =
     let none : nat_le k s ≡ false = grind (arith, nat_tests) in rw none (grind (arith, nat_tests))
@@ -89,12 +89,12 @@ first-passed n top s = max (top / 64 + 1) (s / 64 - (n - 1))
 
 pub begin-held : (old new : List ℕ) (n top s first : ℕ) → first ≡ first-passed n top s → 0 < n → top / 64 < s / 64 → IsClearAhead old top →
     ((k : ℕ) → is_bit_set new k ≡ (if is_one_word n s k then s % 64 == k % 64
-        else (not (is_block_word n first (s / 64 - first) (k / 64 % n)) && is_bit_set old k))) →
+    else (not (is_block_word n first (s / 64 - first) (k / 64 % n)) && is_bit_set old k))) →
     (k : ℕ) → s < k + 64 * (n - 1) → is_held new s k ≡ ((s == k) || is_held old top k)
 begin-held old new n top s first fe some higher ahead bits k within =
     ap (λ b. nat_le k s && b) (bits k)
     ∙ begin-by top s k first (is_one_word n s k) (is_block_word n first (s / 64 - first) (k / 64 % n)) (is_bit_set old k) higher
-        (omega arith)
+    (omega arith)
     (λ low. word-apart n (s / 64) (k / 64) (omega arith) (omega arith))
     (λ low.
     let b = blocks-apart n first (s / 64 - first) (k / 64) (omega arith) (omega arith) in

@@ -102,7 +102,7 @@ pub judged-view_of : (size top : ℕ) (words : List ℕ) (s : ℕ) (taken : Bool
     judged (view_of size top words) s ≡ (if taken then Seen else Fresh)
 judged-view_of size top words s taken some above has =
     ap (λ b. if b then Zero else if is_below size top s then Old else if is_among s (view_of size top words).inside then Seen else Fresh)
-        some
+    some
     ∙ ap (λ b. if b then Old else if is_among s (view_of size top words).inside then Seen else Fresh) above
     ∙ ap (λ b. if b then Seen else Fresh) (is_among-held size top words s above ∙ has)
 
@@ -119,10 +119,10 @@ fresh-above w s is = let above = fresh_by (s == 0) (is_below w.size w.top s) (is
 pub spanned-after : (size top s : ℕ) (old new : List ℕ) →
     ((k : ℕ) → max top s < k + size → is_held new (max top s) k ≡ ((s == k) || is_held old top k)) →
     spanned size (max top s) (is_held new (max top s)) ≡ spanned size (max top s) (λ k. (s == k)
-        || is_among k (spanned size top (is_held old top)))
+    || is_among k (spanned size top (is_held old top)))
 spanned-after size top s old new held =
     filter-same (is_held new (max top s)) (λ k. (s == k) || is_among k (spanned size top (is_held old top)))
-        (range_with_len (max top s + 1 - size) size)
+    (range_with_len (max top s + 1 - size) size)
     (λ k h.
     let within = is_among-range k (max top s + 1 - size) size in
     let near : max top s < k + size = grind (arith, nat_tests, within) in

@@ -63,7 +63,7 @@ bit-set-by ws i s k false one low e f = bit-written-by ws i (bit_or (slice_index
 
 pub bit-set : (ws : List ℕ) (i s k : ℕ) → i < length ws → i ≡ s / 64 % length ws →
     is_bit_set (slice_set ws i (bit_or (slice_index ws i) (1 * 2 ^ (s % 64) % 18446744073709551616))) k ≡ (is_one_bit (length ws) s k
-        || is_bit_set ws k)
+    || is_bit_set ws k)
 bit-set ws i s k low is =
     bit-set-by ws i s k (i == k / 64 % length ws) (s % 64 == k % 64) low refl refl
     ∙ ap (λ j. ((j == k / 64 % length ws) && (s % 64 == k % 64)) || is_bit_set ws k) is
@@ -71,7 +71,7 @@ bit-set ws i s k low is =
 -- a word that has one bit alone
 pub bit-begun : (ws : List ℕ) (i s k : ℕ) → i < length ws → i ≡ s / 64 % length ws →
     is_bit_set (slice_set ws i (1 * 2 ^ (s % 64) % 18446744073709551616)) k ≡ (if is_one_word (length ws) s k then s % 64 == k % 64
-        else is_bit_set ws k)
+    else is_bit_set ws k)
 bit-begun ws i s k low is =
     bit-written-by ws i (1 * 2 ^ (s % 64) % 18446744073709551616) k (i == k / 64 % length ws) low refl
     ∙ (ap (λ b. if i == k / 64 % length ws then b else is_bit_set ws k) (one-bit-by (s % 64) (k % 64) (s % 64 == k % 64) (low-bits s) refl)

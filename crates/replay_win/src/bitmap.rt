@@ -40,7 +40,8 @@ fn set(words: &mut [u64], s: u64)
 fn begin(words: &mut [u64], s: u64)
     requires { 0 < length words.old }
     ensures length { length words.new ≡ length words.old }
-    ensures bits { (k : ℕ) → is_bit_set words.new k ≡ (if is_one_word (length words.old) s k then s % 64 == k % 64 else is_bit_set words.old k) }
+    ensures bits { (k : ℕ) → is_bit_set words.new k ≡ (if is_one_word (length words.old) s k then s % 64 == k % 64 else is_bit_set words.old
+        k) }
 {
     let i = word_of(s / 64, words.len());
     words[i] = 1 << (s % 64);
@@ -51,7 +52,9 @@ fn clear(words: &mut [u64], first: u64, end: u64)
     requires some { 0 < length words.old }
     requires order { first ≤ end }
     ensures length { length words.new ≡ length words.old }
-    ensures bits { (k : ℕ) → is_bit_set words.new k ≡ (not (is_block_word (length words.old) first (end - first) (k / 64 % length words.old)) && is_bit_set words.old k) }
+    ensures bits { (k : ℕ)
+        → is_bit_set words.new k ≡ (not (is_block_word (length words.old) first (end - first) (k / 64 % length words.old))
+        && is_bit_set words.old k) }
 {
     for block in first..end {
         let i = word_of(block, words.len());
@@ -66,7 +69,8 @@ pub(crate) fn mark_bit(words: &mut [u64], top: u64, s: u64)
     requires ahead { IsClearAhead words.old top }
     ensures length { length words.new ≡ length words.old }
     ensures ahead { IsClearAhead words.new (max top s) }
-    ensures held { (k : ℕ) → max top s < k + 64 * (length words.old - 1) → is_held words.new (max top s) k ≡ ((s == k) || is_held words.old top k) }
+    ensures held { (k : ℕ) → max top s < k + 64 * (length words.old - 1)
+        → is_held words.new (max top s) k ≡ ((s == k) || is_held words.old top k) }
 {
     let block = s / 64;
     let newest = top / 64;

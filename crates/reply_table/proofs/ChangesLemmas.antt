@@ -64,7 +64,7 @@ fits-reply t (asks.PostSad e) = fits-post_sad t e
 fits-reply t (asks.GetSadEntry name) = fits-show_half t (find (is_row name) t.sad)
 fits-reply t (asks.DeleteSad name) =
     pick t (list_any (is_row name) t.sad) (done (changes.Gone name) (with_sad t (without_row name t.sad))) (absent t) (λ there. there)
-        (λ _. tt)
+    (λ _. tt)
 
 -- ---- what is there after it
 
@@ -80,7 +80,7 @@ makes-post_spd t e place =
     let f : Outcome = if is_spd_full t.spd then full t else p in
     makes-if t (has_policy e.name t.spd) (exists t) f (refl, refl)
     (makes-if t (is_spd_full t.spd) (full t) p (refl, refl) (makes-if t (not (has_point place t.spd)) (no_point t) m (refl, refl)
-        (refl, refl)))
+    (refl, refl)))
 
 makes-put_spd_entry : (t : Tree) (e : SpdEntry) → Makes t (put_spd_entry t e) (put_spd_entry t e).change
 makes-put_spd_entry t e =
@@ -104,7 +104,7 @@ makes-post_sad t e =
     let s : Outcome = if is_inbound e.name && has_spi e.spi t.sad then spi_taken t else f in
     makes-if t (list_any (is_row e.name) t.sad) (exists t) s (refl, refl)
     (makes-if t (is_inbound e.name && has_spi e.spi t.sad) (spi_taken t) f (refl, refl)
-        (makes-if t (is_sad_full t.sad) (full t) m (refl, refl) (refl, refl)))
+    (makes-if t (is_sad_full t.sad) (full t) m (refl, refl) (refl, refl)))
 
 pub makes-reply : (t : Tree) (a : Ask) → Makes t (reply t a) (reply t a).change
 unfolding reply
@@ -120,4 +120,4 @@ makes-reply t (asks.PostSad e) = makes-post_sad t e
 makes-reply t (asks.GetSadEntry name) = makes-show_half t (find (is_row name) t.sad)
 makes-reply t (asks.DeleteSad name) =
     makes-if t (list_any (is_row name) t.sad) (done (changes.Gone name) (with_sad t (without_row name t.sad))) (absent t) (refl, refl)
-        (refl, refl)
+    (refl, refl)

@@ -36,16 +36,16 @@ good-post_spd t e place =
     either t (has_policy e.name t.spd) (exists t) f (λ _. (refl, refl))
     (either t (is_spd_full t.spd) (full t) p (λ _. (refl, refl))
     (either t (not (has_point place t.spd)) (no_point t) m (λ _. (refl, refl))
-        (good-made t (At_policy e.name) changes.Spd (with_spd t (put_at place e t.spd)))))
+    (good-made t (At_policy e.name) changes.Spd (with_spd t (put_at place e t.spd)))))
 
 good-put_spd_entry : (t : Tree) (e : SpdEntry) → Harmless t (put_spd_entry t e)
 good-put_spd_entry t e =
     let m : Outcome = made (At_policy e.name) changes.Spd (with_spd t (t.spd ++ e ∷ [])) in
     let f : Outcome = if is_spd_full t.spd then full t else m in
     either t (has_policy e.name t.spd) (done changes.Spd (with_spd t (replaced e t.spd))) f
-        (good-done t changes.Spd (with_spd t (replaced e t.spd)))
+    (good-done t changes.Spd (with_spd t (replaced e t.spd)))
     (either t (is_spd_full t.spd) (full t) m (λ _. (refl, refl))
-        (good-made t (At_policy e.name) changes.Spd (with_spd t (t.spd ++ e ∷ []))))
+    (good-made t (At_policy e.name) changes.Spd (with_spd t (t.spd ++ e ∷ []))))
 
 good-show_policy : (t : Tree) (e : Option SpdEntry) → Harmless t (show_policy t e)
 good-show_policy t None = λ _. (refl, refl)
@@ -63,7 +63,7 @@ good-post_sad t e =
     either t (list_any (is_row e.name) t.sad) (exists t) s (λ _. (refl, refl))
     (either t (is_inbound e.name && has_spi e.spi t.sad) (spi_taken t) f (λ _. (refl, refl))
     (either t (is_sad_full t.sad) (full t) m (λ _. (refl, refl))
-        (good-made t (At_half e.name) (changes.Put e) (with_sad t (t.sad ++ new_row e ∷ [])))))
+    (good-made t (At_half e.name) (changes.Put e) (with_sad t (t.sad ++ new_row e ∷ [])))))
 
 pub good-reply : (t : Tree) (a : Ask) → Harmless t (reply t a)
 unfolding reply

@@ -61,8 +61,16 @@ done c t = record { status = 204; tag = None; app = None; shown = Nothing; names
 -- a refusal with its status and error tags; it shows and changes nothing
 abbrev pub refused : ℕ → Tag → App → Tree → Outcome
 refused status tag app t =
-    record { status = status; tag = Some tag; app = Some app; shown = Nothing; names = []; location = Nowhere; change = changes.Nothing;
-        tree = t }
+    record {
+      status = status;
+      tag = Some tag;
+      app = Some app;
+      shown = Nothing;
+      names = [];
+      location = Nowhere;
+      change = changes.Nothing;
+      tree = t;
+    }
 
 -- a name that is there, an SPI that an inbound half has, and a list that is full
 abbrev pub exists : Tree → Outcome
@@ -206,8 +214,17 @@ show_half t (Some r) = shows t (Half r)
 
 -- all halves with their counts, and their names
 abbrev pub get_sad : Tree → Outcome
-get_sad t = record { status = 200; tag = None; app = None; shown = Halves t.sad; names = row_names t.sad; location = Nowhere; change =
-    changes.Nothing; tree = t }
+get_sad t = record {
+  status = 200;
+  tag = None;
+  app = None;
+  shown = Halves t.sad;
+  names = row_names t.sad;
+  location = Nowhere;
+  change =
+      changes.Nothing;
+  tree = t;
+}
 
 -- the reply to a request that was read, over these databases
 unfoldable pub reply : Tree → Ask → Outcome

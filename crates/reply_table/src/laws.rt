@@ -19,8 +19,10 @@ pub fn refuses()
 pub fn answers_orders()
     ensures read { (t : Tree) → ((reply t (ask_of orders.Read)).status ≡ 200) × ((reply t (ask_of orders.Read)).names ≡ row_names t.sad) }
     ensures policy { (t : Tree) (list : List SpdEntry) → (reply t (ask_of (orders.Policy list))).status ≡ 204 }
-    ensures put { (t : Tree) (e : SadEntry) → ((reply t (ask_of (orders.Put e))).status ≡ 201) ⊎ ((reply t (ask_of (orders.Put e))).status ≡ 409) }
-    ensures remove { (t : Tree) (name : List ℕ) → ((reply t (ask_of (orders.Remove name))).status ≡ 204) ⊎ ((reply t (ask_of (orders.Remove name))).status ≡ 404) }
+    ensures put { (t : Tree) (e : SadEntry) → ((reply t (ask_of (orders.Put e))).status ≡ 201)
+        ⊎ ((reply t (ask_of (orders.Put e))).status ≡ 409) }
+    ensures remove { (t : Tree) (name : List ℕ) → ((reply t (ask_of (orders.Remove name))).status ≡ 204)
+        ⊎ ((reply t (ask_of (orders.Remove name))).status ≡ 404) }
 {}
 
 /// What a reply changes fits the databases: what it puts is new and has room, and what it removes was there.

@@ -19,7 +19,7 @@ changed-at f (x ∷ xs) (suc i) d = ap (λ zs. x ∷ zs) (changed-at f xs i d)
 -- one half more of those that are changed from the front on
 pub mapped-more : (f : Half → Half) (xs : List Half) (i : ℕ) (d : Half) → i < length xs →
     slice_set (map f (take i xs) ++ drop i xs) i (f (get_or (map f (take i xs) ++ drop i xs) i d)) ≡ map f (take (i + 1) xs)
-        ++ drop (i + 1) xs
+    ++ drop (i + 1) xs
 mapped-more f [] i d e = absurd (omega arith)
 mapped-more f (x ∷ xs) zero d e = refl
 mapped-more f (x ∷ xs) (suc i) d e = let next : suc i + 1 ≡ suc (i + 1) = omega arith in

@@ -101,7 +101,7 @@ remove-next x xs k = let next : 1 + k ≡ suc k = omega arith in rw next refl
 removed-by : (name : List ℕ) (x : Half) (xs : List Half) (b : Bool) → bytes_eq x.entry.name name ≡ b
     → list_any (λ y. bytes_eq y x.entry.name) (names_of xs) ≡ false →
     remove xs (position_or_len (is_half_named name) xs) ≡ halves_without name xs
-        → remove (x ∷ xs) (position_or_len (is_half_named name) (x ∷ xs)) ≡ halves_without name (x ∷ xs)
+    → remove (x ∷ xs) (position_or_len (is_half_named name) (x ∷ xs)) ≡ halves_without name (x ∷ xs)
 removed-by name x xs true own away ih =
     let same : x.entry.name ≡ name = name-same x.entry.name name own in
     let gone : has_half_named name xs ≡ false = ap (λ n. has_half_named n xs) (sym same) ∙ (sym (names-any x.entry.name xs) ∙ away) in
@@ -114,7 +114,7 @@ removed-first name [] e = refl
 removed-first name (x ∷ xs) e =
     let parts = and-parts (not (list_any (λ y. bytes_eq y x.entry.name) (names_of xs))) (are_names_apart (names_of xs)) e in
     removed-by name x xs (bytes_eq x.entry.name name) refl (not-true (list_any (λ y. bytes_eq y x.entry.name) (names_of xs)) parts.0)
-        (removed-first name xs parts.1)
+    (removed-first name xs parts.1)
 
 pub removed-there : (name : List ℕ) (xs : List Half) (i : ℕ) → are_names_apart (names_of xs) ≡ true
     → position (is_half_named name) xs ≡ Some i → remove xs i ≡ halves_without name xs
@@ -182,7 +182,7 @@ any-without : (n name : List ℕ) (xs : List Half) → has_half_named n xs ≡ f
 any-without n name [] e = refl
 any-without n name (x ∷ xs) e =
     let parts = or-parts (bytes_eq x.entry.name n) (has_half_named n xs) e in
-        any-by n name x xs (bytes_eq x.entry.name name) refl parts.0 (any-without n name xs parts.1)
+    any-by n name x xs (bytes_eq x.entry.name name) refl parts.0 (any-without n name xs parts.1)
   where
     any-by : (n name : List ℕ) (x : Half) (xs : List Half) (b : Bool) → bytes_eq x.entry.name name ≡ b → bytes_eq x.entry.name n ≡ false →
         has_half_named n (halves_without name xs) ≡ false → has_half_named n (halves_without name (x ∷ xs)) ≡ false
@@ -230,7 +230,7 @@ spi-prefix : (spi : ℕ) (xs : List Half) → position_or_len (is_key spi) (map 
 spi-prefix spi [] = refl
 spi-prefix spi (x ∷ xs) =
     ap (λ b. cond (not b) (1 + position_or_len (is_key spi) (map spi_key (entries_of xs))) 0)
-        (key-is spi x.entry.spi (is_inbound x.entry.name))
+    (key-is spi x.entry.spi (is_inbound x.entry.name))
     ∙ ap (λ n. cond (not (is_half_of_spi spi x)) (1 + n) 0) (spi-prefix spi xs)
 
 keys-length : (f : SadEntry → Option ℕ) (xs : List Half) → length (map f (entries_of xs)) ≡ length xs
@@ -241,7 +241,7 @@ spi-place : (spi : ℕ) (xs : List Half) → position (is_key spi) (map spi_key 
 spi-place spi xs =
     ap (λ n. cond (nat_lt n (length (map spi_key (entries_of xs)))) (Some n) None) (spi-prefix spi xs)
     ∙ ap (λ l. cond (nat_lt (position_or_len (is_half_of_spi spi) xs) l) (Some (position_or_len (is_half_of_spi spi) xs)) None)
-        (keys-length spi_key xs)
+    (keys-length spi_key xs)
 
 spi-any : (spi : ℕ) (xs : List Half) → list_any (is_key spi) (map spi_key (entries_of xs)) ≡ list_any (is_half_of_spi spi) xs
 spi-any spi [] = refl
@@ -280,7 +280,7 @@ pub seal-other : (r : ℕ) (v : Packet) (xs : List Half) (i : ℕ) → i < lengt
 seal-other r v [] i e other = absurd (omega arith)
 seal-other r v (x ∷ xs) zero e other =
     ap Some (seal-by r x.entry.reqid (is_inbound x.entry.name) (holds_packet x.entry.selector Out v)
-        (some-same (is_key r (reqid_key x.entry)) false other))
+    (some-same (is_key r (reqid_key x.entry)) false other))
   where
     some-same : (a b : Bool) → Some a ≡ Some b → a ≡ b
     some-same a b e = cc
@@ -337,7 +337,7 @@ within-front r v x xs p front none =
 newest-by : (r : ℕ) (v : Packet) (x : Half) (xs : List Half) (p : ℕ)
     → Later r (reqid_key x.entry) (last_place r (map reqid_key (entries_of xs))) p →
     ((i : ℕ) → last_place r (map reqid_key (entries_of xs)) ≡ Some i → (i < length xs)
-        × (newest_place r v xs ≡ newest_place r v (take (i + 1) xs))) →
+    × (newest_place r v xs ≡ newest_place r v (take (i + 1) xs))) →
     (p < length (x ∷ xs)) × (newest_place r v (x ∷ xs) ≡ newest_place r v (take (p + 1) (x ∷ xs)))
 newest-by r v x xs p (Rest i rest next) ih = within-rest r v x xs p i next (ih i rest)
 newest-by r v x xs p (Front none front) ih = within-front r v x xs p front (newest-none r v xs none)
@@ -347,7 +347,7 @@ pub newest-within : (r : ℕ) (v : Packet) (xs : List Half) (p : ℕ) → last_p
 newest-within r v [] p e = cc
 newest-within r v (x ∷ xs) p e =
     newest-by r v x xs p (which-later r (reqid_key x.entry) (last_place r (map reqid_key (entries_of xs))) p e)
-        (λ i rest. newest-within r v xs i rest)
+    (λ i rest. newest-within r v xs i rest)
 
 take-last : (xs : List Half) (i : ℕ) (d : Half) → i < length xs → take (suc i) xs ≡ take i xs ++ get_or xs i d ∷ []
 take-last [] i d e = absurd (omega arith)
@@ -397,7 +397,7 @@ first-of (x ∷ xs) i e = x
 pub newest-back : (r : ℕ) (v : Packet) (xs : List Half) (i j : ℕ) (b : Bool) → j + 1 ≡ i → j < length xs
     → newest_place r v xs ≡ newest_place r v (take i xs) →
     option_map (λ x. may_seal r v x.entry) (slice_get xs j) ≡ Some b
-        → newest_place r v xs ≡ (if b then Some j else newest_place r v (take j xs))
+    → newest_place r v xs ≡ (if b then Some j else newest_place r v (take j xs))
 newest-back r v xs i j b next e rest is =
     rest ∙ (ap (λ n. newest_place r v (take n xs)) (sym next) ∙ newest-more r v xs j (first-of xs j e) b e is)
 

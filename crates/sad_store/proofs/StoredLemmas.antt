@@ -42,12 +42,12 @@ stored-same xs ys s r same is = record {
 pub stored-end : (xs : List Half) (s r s' r' : KeyColumn) (now : ℕ) (e : SadEntry) → IsStored xs s r → has_half_named e.name xs ≡ false
     → is_spi_taken e xs ≡ false →
     s'.keys.items ≡ s.keys.items ++ spi_key e ∷ [] → r'.keys.items ≡ r.keys.items ++ reqid_key e ∷ [] → IsIndexed s'.keys.items s'.places
-        → IsIndexed r'.keys.items r'.places →
+    → IsIndexed r'.keys.items r'.places →
     IsStored (xs ++ fresh now e ∷ []) s' r'
 stored-end xs s r s' r' now e is new alone es er by_spi by_reqid = record {
   kept = subst (λ ks. IsKept (xs ++ fresh now e ∷ []) ks r'.keys.items) (sym es)
       (subst (λ ks. IsKept (xs ++ fresh now e ∷ []) (s.keys.items ++ spi_key e ∷ []) ks) (sym er)
-          (kept-end xs s.keys.items r.keys.items now e is.kept new));
+      (kept-end xs s.keys.items r.keys.items now e is.kept new));
   apart = ap are_keys_apart es ∙ keys-apart-end (spi_key e) s.keys.items (spi-new e xs s.keys.items is.kept.spis alone) is.apart;
   by_spi = by_spi;
   by_reqid = by_reqid;
@@ -56,12 +56,12 @@ stored-end xs s r s' r' now e is new alone es er by_spi by_reqid = record {
 pub stored-without : (name : List ℕ) (xs : List Half) (s r s' r' : KeyColumn) (i : ℕ) → IsStored xs s r
     → remove xs i ≡ halves_without name xs →
     s'.keys.items ≡ remove s.keys.items i → r'.keys.items ≡ remove r.keys.items i → IsIndexed s'.keys.items s'.places
-        → IsIndexed r'.keys.items r'.places →
+    → IsIndexed r'.keys.items r'.places →
     IsStored (halves_without name xs) s' r'
 stored-without name xs s r s' r' i is e es er by_spi by_reqid = record {
   kept = subst (λ ks. IsKept (halves_without name xs) ks r'.keys.items) (sym es)
       (subst (λ ks. IsKept (halves_without name xs) (remove s.keys.items i) ks) (sym er)
-          (kept-without name xs s.keys.items r.keys.items i is.kept e));
+      (kept-without name xs s.keys.items r.keys.items i is.kept e));
   apart = ap are_keys_apart es ∙ keys-apart-remove s.keys.items i is.apart;
   by_spi = by_spi;
   by_reqid = by_reqid;

@@ -16,8 +16,8 @@ pub act_line : (gateways : List Peer) (a : Act) (w : List ℕ) (ws : List (List 
 unfolding act_of as_spelled act_text
 act_line gateways a w ws e are read =
     let p : list_all is_printable (line_text (act_words a)) ≡ true = ap (λ us. list_all is_printable (line_text us)) e
-        ∙ line_printable w ws are in
+    ∙ line_printable w ws are in
     let s : words (line_text (act_words a)) ≡ w ∷ ws = ap (λ us. words (line_text us)) e ∙ line_words w ws are in
     let same : bytes_eq (line_text (act_words a)) (line_text (act_words a)) ≡ true =
-        (bytes_eq-Decides (line_text (act_words a)) (line_text (act_words a))).1 refl in
+    (bytes_eq-Decides (line_text (act_words a)) (line_text (act_words a))).1 refl in
     rw (p, s, read, same) refl

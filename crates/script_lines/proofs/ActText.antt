@@ -97,7 +97,7 @@ let_line : ReadsDigits → (gateways : List Peer) (g octets : List ℕ) → is_g
 unfolding act_in packet_act_in
 let_line digits gateways g octets spelled named are =
     act_line gateways (acts.Let g octets) (codes "let") (g ∷ hex_text octets ∷ []) refl
-        (packet_words (codes "let") g octets refl spelled are)
+    (packet_words (codes "let") g octets refl spelled are)
     (rw (packet_read digits gateways g octets named are) refl)
 
 clear_line : ReadsDigits → (gateways : List Peer) (g octets : List ℕ) → is_gateway g ≡ true → is_gateway_of gateways g ≡ true
@@ -106,7 +106,7 @@ clear_line : ReadsDigits → (gateways : List Peer) (g octets : List ℕ) → is
 unfolding act_in packet_act_in
 clear_line digits gateways g octets spelled named are =
     act_line gateways (acts.Clear g octets) (codes "clear") (g ∷ hex_text octets ∷ []) refl
-        (packet_words (codes "clear") g octets refl spelled are)
+    (packet_words (codes "clear") g octets refl spelled are)
     (rw (packet_read digits gateways g octets named are) refl)
 
 arrived_line : ReadsDigits → (gateways : List Peer) (g octets : List ℕ) → is_gateway g ≡ true → is_gateway_of gateways g ≡ true
@@ -115,7 +115,7 @@ arrived_line : ReadsDigits → (gateways : List Peer) (g octets : List ℕ) → 
 unfolding act_in packet_act_in
 arrived_line digits gateways g octets spelled named are =
     act_line gateways (acts.Arrived g octets) (codes "arrived") (g ∷ hex_text octets ∷ []) refl
-        (packet_words (codes "arrived") g octets refl spelled are)
+    (packet_words (codes "arrived") g octets refl spelled are)
     (rw (packet_read digits gateways g octets named are) refl)
 
 pass_line : ReadsDigits → (gateways : List Peer) (g octets : List ℕ) → is_gateway g ≡ true → is_gateway_of gateways g ≡ true
@@ -124,13 +124,18 @@ pass_line : ReadsDigits → (gateways : List Peer) (g octets : List ℕ) → is_
 unfolding act_in packet_act_in
 pass_line digits gateways g octets spelled named are =
     act_line gateways (acts.Pass g octets) (codes "pass") (g ∷ hex_text octets ∷ []) refl (packet_words (codes "pass") g octets refl spelled
-        are)
+    are)
     (rw (packet_read digits gateways g octets named are) refl)
 
 sealed_read : ReadsDigits → (gateways : List Peer) (g name : List ℕ) (k : ℕ) (octets : List ℕ) → is_gateway_of gateways g ≡ true
     → is_sad_name name ≡ true → k < 2 ^ 64 → AreOctets octets
-    → sealed_in gateways (g ∷ name ∷ decimal k ∷ hex_text octets ∷ []) ≡ Ok (record { gateway = g; half = name; number = k; octets =
-        octets })
+    → sealed_in gateways (g ∷ name ∷ decimal k ∷ hex_text octets ∷ []) ≡ Ok (record {
+      gateway = g;
+      half = name;
+      number = k;
+      octets =
+          octets;
+    })
 unfolding sealed_in sealed_of
 sealed_read digits gateways g name k octets named half small are =
     rw (named, half, number_again faults.Number k (2 ^ 64 - 1) small (omega arith), hex_read digits octets are) refl
@@ -149,7 +154,7 @@ unfolding act_in
 sent_line digits gateways g name k octets spelled named half small are =
     act_line gateways (acts.Sent g name k octets) (codes "sent") (g ∷ name ∷ decimal k ∷ hex_text octets ∷ []) refl
     (sealed_words (codes "sent") g name k octets refl spelled half small are)
-        (rw (sealed_read digits gateways g name k octets named half small are) refl)
+    (rw (sealed_read digits gateways g name k octets named half small are) refl)
 
 gave_line : ReadsDigits → (gateways : List Peer) (g name : List ℕ) (k : ℕ) (octets : List ℕ) → is_gateway g ≡ true
     → is_gateway_of gateways g ≡ true → is_sad_name name ≡ true
@@ -158,7 +163,7 @@ unfolding act_in
 gave_line digits gateways g name k octets spelled named half small are =
     act_line gateways (acts.Gave g name k octets) (codes "gave") (g ∷ name ∷ decimal k ∷ hex_text octets ∷ []) refl
     (sealed_words (codes "gave") g name k octets refl spelled half small are)
-        (rw (sealed_read digits gateways g name k octets named half small are) refl)
+    (rw (sealed_read digits gateways g name k octets named half small are) refl)
 
 drop_line : (gateways : List Peer) (g : List ℕ) (w : DropWhy) → is_gateway g ≡ true → is_gateway_of gateways g ≡ true
     → act_of gateways (act_text (acts.Drop g w)) ≡ Ok (acts.Drop g w)
@@ -223,7 +228,7 @@ opened_line : (gateways : List Peer) (g : List ℕ) (s : ℕ) → is_gateway g �
 unfolding act_in packet_act_in base_act_in AreWords
 opened_line gateways g s spelled named small =
     act_line gateways (acts.Opened g s) (codes "opened") (g ∷ decimal s ∷ []) refl
-        (refl, (name_word g spelled, (number_word s (omega arith), tt)))
+    (refl, (name_word g spelled, (number_word s (omega arith), tt)))
     (rw (opening_read gateways g s named small) refl)
 
 cut_line : (gateways : List Peer) (g : List ℕ) (s : ℕ) → is_gateway g ≡ true → is_gateway_of gateways g ≡ true → s < 2 ^ 32
@@ -231,7 +236,7 @@ cut_line : (gateways : List Peer) (g : List ℕ) (s : ℕ) → is_gateway g ≡ 
 unfolding act_in packet_act_in base_act_in AreWords
 cut_line gateways g s spelled named small =
     act_line gateways (acts.Cut g s) (codes "cut") (g ∷ decimal s ∷ []) refl
-        (refl, (name_word g spelled, (number_word s (omega arith), tt)))
+    (refl, (name_word g spelled, (number_word s (omega arith), tt)))
     (rw (opening_read gateways g s named small) refl)
 
 wire_line : ReadsDigits → (gateways : List Peer) (g : List ℕ) (l : Lane) (octets : List ℕ) → is_gateway g ≡ true

@@ -99,8 +99,12 @@ place_read : (gateways : List Peer) (g : List ℕ) (s n : ℕ) → is_gateway_of
     → place_of gateways g (decimal s) (decimal n) ≡ Ok (record { gateway = g; session = s; request = n })
 unfolding place_of
 place_read gateways g s n named small request =
-    rw (named, number_again faults.Number s (2 ^ 32 - 1) (omega arith) (omega arith), number_again faults.Number n (2 ^ 64 - 1) request
-        (omega arith)) refl
+    rw (
+      named,
+      number_again faults.Number s (2 ^ 32 - 1) (omega arith) (omega arith),
+      number_again faults.Number n (2 ^ 64 - 1) request
+          (omega arith),
+    ) refl
 
 order_in_read : ReadsDigits → (gateways : List Peer) (g : List ℕ) (s n : ℕ) (o : Order) → is_gateway_of gateways g ≡ true → IsOrderSpelled o
     → s < 2 ^ 32 → n < 2 ^ 64 → IsTypedOrder o
@@ -182,7 +186,7 @@ names_graph (n ∷ ns) all =
 replied_read : (gateways : List Peer) (g : List ℕ) (s n : ℕ) (a : Answer) → is_gateway_of gateways g ≡ true → AreHalfNames a.names
     → s < 2 ^ 32 → n < 2 ^ 64 → a.status < 65536
     → replied_in gateways (g ∷ decimal s ∷ decimal n ∷ answer_words a) ≡ Ok
-        (record { place = record { gateway = g; session = s; request = n }; answer = a })
+    (record { place = record { gateway = g; session = s; request = n }; answer = a })
 unfolding replied_in replied_of answer_of
 replied_read gateways g s n a named halves small request status =
     rw (
@@ -223,7 +227,7 @@ unfolding act_in packet_act_in base_act_in session_act_in
 handled_line digits gateways g s n a spelled named halves small request status =
     act_line gateways (acts.Handled g s n a) (codes "handled") (g ∷ decimal s ∷ decimal n ∷ answer_words a) refl
     (replied_words (codes "handled") g s n a refl spelled halves small request status)
-        (rw (replied_read gateways g s n a named halves small request status) refl)
+    (rw (replied_read gateways g s n a named halves small request status) refl)
 
 pub answered_line : ReadsDigits → (gateways : List Peer) (g : List ℕ) (s n : ℕ) (a : Answer) → is_gateway g ≡ true
     → is_gateway_of gateways g ≡ true → AreHalfNames a.names
@@ -232,7 +236,7 @@ unfolding act_in packet_act_in base_act_in session_act_in
 answered_line digits gateways g s n a spelled named halves small request status =
     act_line gateways (acts.Answered g s n a) (codes "answered") (g ∷ decimal s ∷ decimal n ∷ answer_words a) refl
     (replied_words (codes "answered") g s n a refl spelled halves small request status)
-        (rw (replied_read gateways g s n a named halves small request status) refl)
+    (rw (replied_read gateways g s n a named halves small request status) refl)
 
 -- ---- notices
 
@@ -284,7 +288,7 @@ selector_again s is few =
     ap (λ t. selector_in (slice_split is_comma t)) (selector_joined s)
     ∙ ap selector_in (split_behind is_comma 44 refl (prefix_text s.local) (selector_rest s)
     (each_holds (λ t. list_all is_part t ≡ true) (λ t. All (λ c. is_comma c ≡ false) t) no_comma (prefix_text s.local ∷ selector_rest s)
-        (selector_are_parts s is)))
+    (selector_are_parts s is)))
     ∙ selector_read s is few
 
 selector_graph : (s : Selector) → IsTypedSelector s → list_all is_graph (selector_text s) ≡ true
@@ -294,7 +298,7 @@ selector_graph s is =
     ∙ list_all-append is_graph (prefix_text s.local) (flat_map (λ u. 44 ∷ u) (selector_rest s))
     ∙ and_from _ _ (as_graph (prefix_text s.local) all.0)
     (all_behind is_graph 44 refl (selector_rest s) (each_holds (λ t. list_all is_part t ≡ true) (λ t. list_all is_graph t ≡ true) as_graph
-        (selector_rest s) all.1))
+    (selector_rest s) all.1))
 
 policy_name_word : (name : List ℕ) → is_spd_name name ≡ true → list_all is_graph name ≡ true
 policy_name_word name is = as_graph name (also is_path_octet is_part path_part name (and_parts _ _ is).1)

@@ -79,7 +79,7 @@ unfolding put_in
 put_spelled [] o is = cc
 put_spelled (h ∷ []) o is =
     after (IsOrderSpelled o) (half_of h) _ o is (λ e half same. let q : orders.Put e ≡ o = cc in
-        subst IsOrderSpelled q (half_fits h e half))
+    subst IsOrderSpelled q (half_fits h e half))
 put_spelled (h ∷ x ∷ ws) o is = cc
 
 remove_spelled : (ws : List (List ℕ)) (o : Order) → remove_in ws ≡ Ok o → IsOrderSpelled o
@@ -87,7 +87,7 @@ unfolding remove_in remove_of
 remove_spelled [] o is = cc
 remove_spelled (w ∷ []) o is =
     after (IsOrderSpelled o) (half_name_of w) _ o is (λ n named same. let q : orders.Remove n ≡ o = cc in
-        subst IsOrderSpelled q (half_named w n named))
+    subst IsOrderSpelled q (half_named w n named))
 remove_spelled (w ∷ x ∷ ws) o is = cc
 
 order_spelled : (w : List ℕ) (ws : List (List ℕ)) (o : Order) → order_of w ws ≡ Ok o → IsOrderSpelled o
@@ -178,7 +178,7 @@ acquire_spelled (w ∷ s ∷ []) n is =
     (λ policy named more. after P (selector_in (slice_split is_comma s)) _ n more
     (λ x _ more2. after P (packet_of x) _ n more2
     (λ y packet same. let q : notices.Acquire policy y ≡ n = cc in
-        subst IsNoticeSpelled q (policy_named w policy named, packet_is x y packet))))
+    subst IsNoticeSpelled q (policy_named w policy named, packet_is x y packet))))
 acquire_spelled (w ∷ s ∷ x ∷ ws) n is = cc
 
 expire_spelled : (ws : List (List ℕ)) (n : Notice) → expire_in ws ≡ Ok n → IsNoticeSpelled n
@@ -199,7 +199,7 @@ unfolding overflow_in overflow_of
 overflow_spelled [] n is = cc
 overflow_spelled (w ∷ []) n is =
     after (IsNoticeSpelled n) (half_name_of w) _ n is (λ name named same. let q : notices.SeqOverflow name ≡ n = cc in
-        subst IsNoticeSpelled q (half_named w name named))
+    subst IsNoticeSpelled q (half_named w name named))
 overflow_spelled (w ∷ x ∷ ws) n is = cc
 
 bad_spi_spelled : (ws : List (List ℕ)) (n : Notice) → bad_spi_in ws ≡ Ok n → IsNoticeSpelled n
@@ -207,7 +207,7 @@ unfolding bad_spi_in
 bad_spi_spelled [] n is = cc
 bad_spi_spelled (w ∷ []) n is =
     after (IsNoticeSpelled n) (number_in faults.Number (2 ^ 32 - 1) w) _ n is (λ spi _ same. let q : notices.BadSpi spi ≡ n = cc in
-        subst IsNoticeSpelled q tt)
+    subst IsNoticeSpelled q tt)
 bad_spi_spelled (w ∷ x ∷ ws) n is = cc
 
 notice_spelled : (w : List ℕ) (ws : List (List ℕ)) (n : Notice) → notice_of w ws ≡ Ok n → IsNoticeSpelled n
@@ -244,16 +244,16 @@ session_act_under gateways w ws a is =
     (λ is2. either P (bytes_eq w (codes "handled")) _ _ a is2
     (λ read. after P (replied_in gateways ws) _ a read
     (λ r replied same. let q : acts.Handled r.place.gateway r.place.session r.place.request r.answer ≡ a = cc in
-        subst (IsActUnder gateways) q (replied_under gateways ws r replied)))
+    subst (IsActUnder gateways) q (replied_under gateways ws r replied)))
     (λ is3. either P (bytes_eq w (codes "answered")) _ _ a is3
     (λ read. after P (replied_in gateways ws) _ a read
     (λ r replied same. let q : acts.Answered r.place.gateway r.place.session r.place.request r.answer ≡ a = cc in
-        subst (IsActUnder gateways) q (replied_under gateways ws r replied)))
+    subst (IsActUnder gateways) q (replied_under gateways ws r replied)))
     (λ is4. either P (bytes_eq w (codes "notice")) _ _ a is4
     (λ read. after P (noticed_in gateways ws) _ a read
     (λ n noticed same. let q : acts.Notice n.gateway n.session n.notice ≡ a = cc in
-        subst (IsActUnder gateways) q (noticed_under gateways ws n noticed)))
+    subst (IsActUnder gateways) q (noticed_under gateways ws n noticed)))
     (λ is5. passed P (bytes_eq w (codes "heard")) _ faults.Word a is5
     (λ _ read. after P (noticed_in gateways ws) _ a read
     (λ n noticed same. let q : acts.Heard n.gateway n.session n.notice ≡ a = cc in
-        subst (IsActUnder gateways) q (noticed_under gateways ws n noticed)))))))
+    subst (IsActUnder gateways) q (noticed_under gateways ws n noticed)))))))

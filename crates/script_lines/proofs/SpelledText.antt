@@ -86,7 +86,7 @@ gone_under gateways (w ∷ h ∷ y ∷ []) a is =
     (λ g known more. after P (half_name_of h) _ a more
     (λ n named more2. after P (gone_of y) _ a more2
     (λ why _ same. let e : acts.Gone g n why ≡ a = cc in
-        subst (IsActUnder gateways) e (known_named gateways w g known, half_named h n named))))
+    subst (IsActUnder gateways) e (known_named gateways w g known, half_named h n named))))
 gone_under gateways (w ∷ h ∷ y ∷ x ∷ ws) a is = cc
 
 opening_under : (gateways : List Peer) (ws : List (List ℕ)) (s : Opening) → opening_in gateways ws ≡ Ok s
@@ -119,7 +119,7 @@ under_way_under gateways (w ∷ l ∷ o ∷ []) a is =
     (λ g known more. after P (lane_of l) _ a more
     (λ lane _ more2. after P (shown_of o) _ a more2
     (λ octets few same. let e : acts.Wire g lane octets ≡ a = cc in
-        subst (IsActUnder gateways) e (known_named gateways w g known, shown_few o octets few))))
+    subst (IsActUnder gateways) e (known_named gateways w g known, shown_few o octets few))))
 under_way_under gateways (w ∷ l ∷ o ∷ x ∷ ws) a is = cc
 
 refused_under : (gateways : List Peer) (ws : List (List ℕ)) (a : Act) → refused_in ws ≡ Ok a → IsActUnder gateways a
@@ -127,7 +127,7 @@ unfolding refused_in
 refused_under gateways [] a is = cc
 refused_under gateways (w ∷ []) a is =
     after (IsActUnder gateways a) (refusal_of w) _ a is (λ why _ same. let e : acts.Refused why ≡ a = cc in
-        subst (IsActUnder gateways) e tt)
+    subst (IsActUnder gateways) e tt)
 refused_under gateways (w ∷ x ∷ ws) a is = cc
 
 base_under : (gateways : List Peer) (w : List ℕ) (ws : List (List ℕ)) (a : Act) → base_act_in gateways w ws ≡ Ok a → IsActUnder gateways a
@@ -140,7 +140,7 @@ base_under gateways w ws a is =
     (λ is3. either P (bytes_eq w (codes "opened")) _ _ a is3
     (λ read. after P (opening_in gateways ws) _ a read
     (λ s opened same. let e : acts.Opened s.gateway s.session ≡ a = cc in
-        subst (IsActUnder gateways) e (opening_under gateways ws s opened)))
+    subst (IsActUnder gateways) e (opening_under gateways ws s opened)))
     (λ is4. either P (bytes_eq w (codes "cut")) _ _ a is4
     (λ read. after P (opening_in gateways ws) _ a read
     (λ s opened same. let e : acts.Cut s.gateway s.session ≡ a = cc in subst (IsActUnder gateways) e (opening_under gateways ws s opened)))
@@ -161,7 +161,7 @@ packet_act_under gateways w ws a is =
     (λ is3. either P (bytes_eq w (codes "arrived")) _ _ a is3
     (λ read. after P (packet_in gateways ws) _ a read
     (λ p packet same. let e : acts.Arrived p.gateway p.octets ≡ a = cc in
-        subst (IsActUnder gateways) e (packet_under gateways ws p packet)))
+    subst (IsActUnder gateways) e (packet_under gateways ws p packet)))
     (λ is4. either P (bytes_eq w (codes "pass")) _ _ a is4
     (λ read. after P (packet_in gateways ws) _ a read
     (λ p packet same. let e : acts.Pass p.gateway p.octets ≡ a = cc in subst (IsActUnder gateways) e (packet_under gateways ws p packet)))
@@ -182,11 +182,11 @@ words_under gateways (w ∷ ws) a is =
     (λ is4. either P (bytes_eq w (codes "sent")) _ _ a is4
     (λ read. after P (sealed_in gateways ws) _ a read
     (λ s sealed same. let e : acts.Sent s.gateway s.half s.number s.octets ≡ a = cc in
-        subst (IsActUnder gateways) e (sealed_under gateways ws s sealed)))
+    subst (IsActUnder gateways) e (sealed_under gateways ws s sealed)))
     (λ is5. either P (bytes_eq w (codes "gave")) _ _ a is5
     (λ read. after P (sealed_in gateways ws) _ a read
     (λ s sealed same. let e : acts.Gave s.gateway s.half s.number s.octets ≡ a = cc in
-        subst (IsActUnder gateways) e (sealed_under gateways ws s sealed)))
+    subst (IsActUnder gateways) e (sealed_under gateways ws s sealed)))
     (λ is6. either P (bytes_eq w (codes "drop")) _ _ a is6 (drop_under gateways ws a) (packet_act_under gateways w ws a))))))
 
 spelled_same : (line : List ℕ) (x a : Act) → as_spelled line x ≡ Ok a → x ≡ a

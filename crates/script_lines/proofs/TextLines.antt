@@ -74,10 +74,10 @@ texts_are_of_one digits gateways xs ys spelled allx ally same =
     let readx = again xs allx in
     let ready = again ys ally in
     same_acts gateways xs ys readx ready (sym (text_split gateways xs readx) ∙ ap (slice_split is_line_end) same
-        ∙ text_split gateways ys ready)
+    ∙ text_split gateways ys ready)
   where
     again : (list : List Act) → All (λ a. IsActUnder gateways a × IsAct a) list → AllByRecursion (IsReadAgain gateways) list
     again list all =
         each_holds (λ a. IsActUnder gateways a × IsAct a) (IsReadAgain gateways) (λ a is. act_again digits gateways a spelled is.0 is.1)
-            list
+        list
         (recursion_from_All (λ a. IsActUnder gateways a × IsAct a) list all)

@@ -40,7 +40,7 @@ force_in gateways [] = Err faults.Count
 force_in gateways (gateway ∷ entries) =
     if nat_le (length entries) 256
     then known_of gateways gateway >>=
-        (λ g. entries_of entries >>= (λ list. unless_fault (spd_fault list) list >>= (λ good. Ok (acts.Policy g good))))
+    (λ g. entries_of entries >>= (λ list. unless_fault (spd_fault list) list >>= (λ good. Ok (acts.Policy g good))))
     else Err faults.Count
 
 -- a gateway, and octets
@@ -53,7 +53,7 @@ packet_in gateways _ = Err faults.Count
 unfoldable pub sealed_of : List Peer → List ℕ → List ℕ → List ℕ → List ℕ → Result Sealed LineFault
 sealed_of gateways gateway name number octets =
     known_of gateways gateway >>=
-        (λ g. half_name_of name >>= (λ n. number_in faults.Number (2 ^ 64 - 1) number >>= (λ k. octets_of octets >>= (λ o.
+    (λ g. half_name_of name >>= (λ n. number_in faults.Number (2 ^ 64 - 1) number >>= (λ k. octets_of octets >>= (λ o.
     Ok (record { gateway = g; half = n; number = k; octets = o })))))
 
 -- a gateway, a half, a sequence number and octets
@@ -125,9 +125,9 @@ unfoldable pub session_act_in : List Peer → List ℕ → List (List ℕ) → R
 session_act_in gateways w ws =
     if bytes_eq w (codes "order") then order_in gateways ws
     else if bytes_eq w (codes "handled") then replied_in gateways ws >>=
-        (λ r. Ok (acts.Handled r.place.gateway r.place.session r.place.request r.answer))
+    (λ r. Ok (acts.Handled r.place.gateway r.place.session r.place.request r.answer))
     else if bytes_eq w (codes "answered") then replied_in gateways ws >>=
-        (λ r. Ok (acts.Answered r.place.gateway r.place.session r.place.request r.answer))
+    (λ r. Ok (acts.Answered r.place.gateway r.place.session r.place.request r.answer))
     else if bytes_eq w (codes "notice") then noticed_in gateways ws >>= (λ n. Ok (acts.Notice n.gateway n.session n.notice))
     else if bytes_eq w (codes "heard") then noticed_in gateways ws >>= (λ n. Ok (acts.Heard n.gateway n.session n.notice))
     else Err faults.Word

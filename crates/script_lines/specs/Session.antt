@@ -29,7 +29,7 @@ use Rattle.line_words.specs.Limits.{limits_of}
 unfoldable pub place_of : List Peer → List ℕ → List ℕ → List ℕ → Result Place LineFault
 place_of gateways gateway session request =
     known_of gateways gateway >>= (λ g. number_in faults.Number (2 ^ 32 - 1) session >>= (λ s. number_in faults.Number (2 ^ 64 - 1) request
-        >>= (λ n.
+    >>= (λ n.
     Ok (record { gateway = g; session = s; request = n }))))
 
 -- ---- orders
@@ -83,7 +83,7 @@ names_of w = if bytes_eq w (codes "-") then Ok [] else each half_name_of (slice_
 unfoldable pub answer_of : List ℕ → List ℕ → List ℕ → Result Answer LineFault
 answer_of status tag names =
     number_in faults.Number 65535 status >>=
-        (λ n. tag_of tag >>= (λ t. names_of names >>= (λ ns. Ok (record { status = n; tag = t; names = ns }))))
+    (λ n. tag_of tag >>= (λ t. names_of names >>= (λ ns. Ok (record { status = n; tag = t; names = ns }))))
 
 -- an answer by the place of its request, and its own three words
 unfoldable pub replied_of : List Peer → List ℕ → List ℕ → List ℕ → List ℕ → List ℕ → List ℕ → Result Replied LineFault
@@ -116,7 +116,7 @@ is_one_port (r ∷ s ∷ rs) = false
 unfoldable pub is_packet : Selector → Bool
 is_packet s =
     is_whole s.local && is_whole s.remote && is_one_family s.local.addr s.remote.addr && has_proto s.proto && is_one_port s.local_ports
-        && is_one_port s.remote_ports
+    && is_one_port s.remote_ports
 
 -- a name that an entry of the SPD can have
 abbrev pub policy_name_of : List ℕ → Result (List ℕ) LineFault
@@ -130,7 +130,7 @@ packet_of s = if is_packet s then Ok s else Err faults.Entry
 unfoldable pub acquire_of : List ℕ → List ℕ → Result Notice LineFault
 acquire_of name selector =
     policy_name_of name >>= (λ n. selector_in (slice_split is_comma selector) >>=
-        (λ s. packet_of s >>= (λ good. Ok (notices.Acquire n good))))
+    (λ s. packet_of s >>= (λ good. Ok (notices.Acquire n good))))
 
 -- an acquire, with two words and no more
 unfoldable pub acquire_in : List (List ℕ) → Result Notice LineFault

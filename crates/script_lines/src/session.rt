@@ -191,7 +191,8 @@ fn replied_at(
     at: (&[u8], &[u8], &[u8]),
     says: (&[u8], &[u8], &[u8]),
 ) -> Result<Replied, OrMemory<LineFault>>
-    ensures { Gives result (replied_of gateways.now at.entry.0.now at.entry.1.now at.entry.2.now says.entry.0.now says.entry.1.now says.entry.2.now) }
+    ensures { Gives result (replied_of gateways.now at.entry.0.now at.entry.1.now at.entry.2.now says.entry.0.now says.entry.1.now
+        says.entry.2.now) }
 {
     let place = place_from(alloc, gateways, at.0, at.1, at.2)?;
     let answer = answer_from(alloc, says.0, says.1, says.2)?;

@@ -132,7 +132,8 @@ fn put_sealed(
     number: u64,
     o: &Octets,
 ) -> Result<(), NoMemory>
-    ensures { OnOk result (out.new.items ≡ out.old.items ++ line_text (what.now ∷ at.entry.0.now ∷ at.entry.1.now ∷ decimal number ∷ hex_text o.now ∷ [])) }
+    ensures { OnOk result (out.new.items ≡ out.old.items ++ line_text (what.now ∷ at.entry.0.now ∷ at.entry.1.now ∷ decimal number
+        ∷ hex_text o.now ∷ [])) }
 {
     put_half_at(out, what, at.0, at.1)?;
     put_numbered(out, number, o)

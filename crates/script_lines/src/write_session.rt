@@ -98,7 +98,8 @@ fn put_soft_word(out: &mut Vec<u8>, soft: bool) -> Result<(), NoMemory>
 }
 
 fn put_expire(out: &mut Vec<u8>, name: &Name, soft: bool, current: &Limits) -> Result<(), NoMemory>
-    ensures { OnOk result (out.new.items ≡ out.old.items ++ spaced (codes "expire" ∷ name.now ∷ softness_text soft ∷ limits_text current.now ∷ [])) }
+    ensures { OnOk result (out.new.items ≡ out.old.items ++ spaced (codes "expire" ∷ name.now ∷ softness_text soft ∷ limits_text current.now
+        ∷ [])) }
 {
     put_word(out, b"expire")?;
     put_word(out, name.as_slice())?;
@@ -138,7 +139,8 @@ fn put_place(out: &mut Vec<u8>, what: &[u8], g: &Name, s: u32, n: u64) -> Result
 
 /// The line of an order.
 pub fn put_order(out: &mut Vec<u8>, g: &Name, s: u32, n: u64, order: &Order) -> Result<(), NoMemory>
-    ensures { OnOk result (out.new.items ≡ out.old.items ++ line_text (codes "order" ∷ g.now ∷ decimal s ∷ decimal n ∷ order_words order.now)) }
+    ensures { OnOk result (out.new.items ≡ out.old.items ++ line_text (codes "order" ∷ g.now ∷ decimal s ∷ decimal n
+        ∷ order_words order.now)) }
 {
     put_place(out, b"order", g, s, n)?;
     put_order_words(out, order)
@@ -153,7 +155,8 @@ pub fn put_answer(
     n: u64,
     answer: &Answer,
 ) -> Result<(), NoMemory>
-    ensures { OnOk result (out.new.items ≡ out.old.items ++ line_text (what.now ∷ g.now ∷ decimal s ∷ decimal n ∷ answer_words answer.now)) }
+    ensures { OnOk result (out.new.items ≡ out.old.items ++ line_text (what.now ∷ g.now ∷ decimal s ∷ decimal n
+        ∷ answer_words answer.now)) }
 {
     put_place(out, what, g, s, n)?;
     put_answer_words(out, answer)

@@ -43,7 +43,8 @@ fn asked(alloc: Global, m: &HttpMessage) -> Result<Result<Ask, RcError>, NoMemor
 }
 
 fn ask(alloc: Global, octets: &[u8]) -> Result<Result<Ask, RcError>, NoMemory>
-    ensures ask { (looked : Looked) → Looks Request octets.now looked → IfOk result (λ r. r ≡ ask_in (whole_in (length octets.now) looked)) }
+    ensures ask { (looked : Looked) → Looks Request octets.now looked
+        → IfOk result (λ r. r ≡ ask_in (whole_in (length octets.now) looked)) }
     ensures request { IfOk result IsRequest }
 {
     match read_whole(Feeder::requests(alloc), octets) {
@@ -56,7 +57,8 @@ fn ask(alloc: Global, octets: &[u8]) -> Result<Result<Ask, RcError>, NoMemory>
 /// What the request asks that all these octets are, or why it is refused. Octets that aren't one whole request, or have more
 /// octets behind it, are refused as a bad head.
 pub fn read_ask(alloc: Global, octets: &[u8]) -> Result<Result<Ask, RcError>, NoMemory>
-    ensures ask { (looked : Looked) → Looks Request octets.now looked → IfOk result (λ r. r ≡ ask_in (whole_in (length octets.now) looked)) }
+    ensures ask { (looked : Looked) → Looks Request octets.now looked
+        → IfOk result (λ r. r ≡ ask_in (whole_in (length octets.now) looked)) }
     ensures request { IfOk result IsRequest }
     ensures order { (host : Address) (o : Given) → octets.now ≡ request_text (order_message host o) → IsSent host o
         → request_of (order_message host o) ≡ Ok (ask_of o) → IfOk result (λ r. r ≡ Ok (ask_of o)) }

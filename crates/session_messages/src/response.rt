@@ -38,7 +38,8 @@ fn answered(alloc: Global, o: &Order, m: &HttpMessage) -> Result<Option<Answer>,
 }
 
 fn answer(alloc: Global, o: &Order, octets: &[u8]) -> Result<Option<Answer>, NoMemory>
-    ensures { (looked : Looked) → Looks Response octets.now looked → IfOk result (λ x. x ≡ answer_in o.now (whole_in (length octets.now) looked)) }
+    ensures { (looked : Looked) → Looks Response octets.now looked
+        → IfOk result (λ x. x ≡ answer_in o.now (whole_in (length octets.now) looked)) }
 {
     match read_whole(Feeder::responses(alloc), octets) {
         Ok(message) => answered(alloc, o, &message),

@@ -67,7 +67,7 @@ no_requests request g s (acts.Opened f t ∷ h) l p = no_requests request g s h 
 no_requests request g s (acts.Order f t k o ∷ h) l p =
     let first : t ≤ openings f h = let e = l.0.1 in omega (arith, e) in
     if_not (is_session f t g s) (requests request g s h ++ request h o ∷ []) (requests request g s h)
-        (other_session f t g s (below f g t s h first p))
+    (other_session f t g s (below f g t s h first p))
     ∙ no_requests request g s h l.1 p
 no_requests request g s (_ ∷ h) l p = no_requests request g s h l.1 p
 
@@ -80,7 +80,7 @@ no_responses response g s [] l p = refl
 no_responses response g s (acts.Opened f t ∷ h) l p = no_responses response g s h l.1 (less_opened (bytes_eq f g) (openings g h) s p)
 no_responses response g s (acts.Handled f t k a ∷ h) l p =
     if_not (is_session f t g s) (responses response g s h ++ response h a ∷ []) (responses response g s h)
-        (other_session f t g s (taken_below f g t s h l.1 l.0.0 p))
+    (other_session f t g s (taken_below f g t s h l.1 l.0.0 p))
     ∙ no_responses response g s h l.1 p
 no_responses response g s (_ ∷ h) l p = no_responses response g s h l.1 p
 
@@ -90,7 +90,7 @@ no_lines line g s [] l p = refl
 no_lines line g s (acts.Opened f t ∷ h) l p = no_lines line g s h l.1 (less_opened (bytes_eq f g) (openings g h) s p)
 no_lines line g s (acts.Notice f t n ∷ h) l p =
     if_not (is_session f t g s) (lines line g s h ++ line h n ∷ []) (lines line g s h)
-        (other_session f t g s (taken_below f g t s h l.1 l.0 p))
+    (other_session f t g s (taken_below f g t s h l.1 l.0 p))
     ∙ no_lines line g s h l.1 p
 no_lines line g s (_ ∷ h) l p = no_lines line g s h l.1 p
 
@@ -149,7 +149,7 @@ one-more message h a old xs false j k e is p =
 pub place_more : {A : Type 0} (message : List Act → A → List ℕ) (h : List Act) (a : A) (old : Option A) (xs : List (List ℕ)) (here : Bool)
     (j k : ℕ) → (here ≡ true → j ≡ length xs + 1)
     → HasPlace message old xs k → HasPlace message (if here && (j == k + 1) then Some a else old) (if here then xs ++ message h a
-        ∷ [] else xs) k
+    ∷ [] else xs) k
 place_more message h a old xs true j k is p = one-more message h a old xs (j == k + 1) j k refl (is refl) p
 place_more message h a old xs false j k is p = p
 
@@ -168,7 +168,7 @@ pub order_place : (request : List Act → Order → List ℕ) (g : List ℕ) (s 
 order_place request g s k [] l = refl
 order_place request g s k (acts.Order f t j o ∷ h) l =
     place_more request h o (order_at g s (k + 1) h) (requests request g s h) (is_session f t g s) j k
-        (order_number request f t j g s h l.0.2) (order_place request g s k h l.1)
+    (order_number request f t j g s h l.0.2) (order_place request g s k h l.1)
 order_place request g s k (_ ∷ h) l = order_place request g s k h l.1
 
 answer_number : (response : List Act → Answer → List ℕ) (f : List ℕ) (t k : ℕ) (g : List ℕ) (s : ℕ) (h : List Act) → k ≡ handled f t h + 1
@@ -186,7 +186,7 @@ pub answer_place : (response : List Act → Answer → List ℕ) (g : List ℕ) 
 answer_place response g s k [] l = refl
 answer_place response g s k (acts.Handled f t j a ∷ h) l =
     place_more response h a (answer_at g s (k + 1) h) (responses response g s h) (is_session f t g s) j k
-        (answer_number response f t j g s h l.0.1) (answer_place response g s k h l.1)
+    (answer_number response f t j g s h l.0.1) (answer_place response g s k h l.1)
 answer_place response g s k (_ ∷ h) l = answer_place response g s k h l.1
 
 -- ---- no more is handled or heard than there is
@@ -237,7 +237,7 @@ request_there request f t o h l is e =
     let n = session_taken f h in
     let at = where_none (n == 0) (order_at f n (handled f n h + 1) h) o e in
     subst P (sym is) (place_within request (order_at f n (handled f n h + 1) h) o (requests request f n h) (handled f n h) at.1
-        (order_place request f n (handled f n h) h l))
+    (order_place request f n (handled f n h) h l))
 
 pub handled_bound : (request : List Act → Order → List ℕ) (g : List ℕ) (s : ℕ) (h : List Act) → KeepsSessions h
     → handled g s h ≤ length (requests request g s h)
@@ -256,7 +256,7 @@ answer_there response f t a h l is e =
     let n = openings f h in
     let at = else_none (is_open f h) (answer_at f n (answered f n h + 1) h) a e in
     subst P (sym is) (place_within response (answer_at f n (answered f n h + 1) h) a (responses response f n h) (answered f n h) at.1
-        (answer_place response f n (answered f n h) h l))
+    (answer_place response f n (answered f n h) h l))
 
 pub answered_bound : (response : List Act → Answer → List ℕ) (g : List ℕ) (s : ℕ) (h : List Act) → KeepsSessions h
     → answered g s h ≤ length (responses response g s h)
@@ -307,7 +307,7 @@ notice_there line f t n h is e =
     let s = openings f h in
     let at = else_none (is_open f h) (slice_get (notices f s h) (notices_heard f s h)) n e in
     subst P (sym is) (place_within line (slice_get (notices f s h) (notices_heard f s h)) n (lines line f s h) (notices_heard f s h) at.1
-        (notice_place line f s (notices_heard f s h) h))
+    (notice_place line f s (notices_heard f s h) h))
 
 pub heard_bound : (line : List Act → Notice → List ℕ) (g : List ℕ) (s : ℕ) (h : List Act) → KeepsSessions h
     → notices_heard g s h ≤ length (lines line g s h)

@@ -55,7 +55,7 @@ split x v k p m e = ap (λ n. x * n + v) e ∙ omega arith
 -- the first bits of a first octet and more: the octet, and the first bits of the others
 front-bits : (bits all x v : ℕ) → 8 ≤ bits → v < 2 ^ all
     → ((x * 2 ^ all + v) / 2 ^ ((8 + all) - bits) ≡ x * 2 ^ (all - (all - (bits - 8))) + v / 2 ^ (all - (bits - 8)))
-        × (v / 2 ^ (all - (bits - 8)) < 2 ^ (all - (all - (bits - 8))))
+    × (v / 2 ^ (all - (bits - 8)) < 2 ^ (all - (all - (bits - 8))))
 front-bits bits all x v long small =
     let e = all - (bits - 8) in
     let m = all - e in

@@ -34,7 +34,7 @@ apart-removed name xs None p apart =
     ap (λ ys. are_names_apart (names_of ys)) (without-absent name xs (none-there (is_half_named name) xs p)) ∙ apart
 apart-removed name xs (Some i) p apart =
     let kept = kept-without name xs (map spi_key (entries_of xs)) (map reqid_key (entries_of xs)) i (kept-of xs apart)
-        (removed-there name xs i apart p) in
+    (removed-there name xs i apart p) in
     kept.apart
 
 apart-same : (xs ys : List Half) → entries_of ys ≡ entries_of xs → are_names_apart (names_of xs) ≡ true

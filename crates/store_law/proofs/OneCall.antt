@@ -170,7 +170,7 @@ joined h e now (d ∷ es) joins away =
 
 put-halves : (h : List Call) (e : SadEntry) (now : ℕ) (b : Bool) → may_join e (there h) ≡ b →
     map (half_of (Install e now ∷ h)) (there (Install e now ∷ h)) ≡ (if may_join e (there h) then map (half_of h) (there h) ++ fresh now e
-        ∷ [] else map (half_of h) (there h))
+    ∷ [] else map (half_of h) (there h))
 put-halves h e now true joins =
     let parts = and_parts (not (has_entry_named e.name (there h))) _ joins in
     ap (map (half_of (Install e now ∷ h))) (chosen (may_join e (there h)) (there h ++ e ∷ []) (there h) joins)
@@ -179,7 +179,7 @@ put-halves h e now true joins =
 put-halves h e now false stays =
     ap (map (half_of (Install e now ∷ h))) (left (may_join e (there h)) (there h ++ e ∷ []) (there h) stays)
     ∙ (map-same (half_of h) (half_of (Install e now ∷ h))
-        (λ d. kept-half h e now d (and_right (bytes_eq e.name d.name) (may_join e (there h)) stays)) (there h)
+    (λ d. kept-half h e now d (and_right (bytes_eq e.name d.name) (may_join e (there h)) stays)) (there h)
     ∙ sym (left (may_join e (there h)) (map (half_of h) (there h) ++ fresh now e ∷ []) (map (half_of h) (there h)) stays))
 
 -- the reasons against it are the same of halves and of their entries
@@ -204,7 +204,7 @@ installed-halves : (h : List Call) (e : SadEntry) (now : ℕ) (es : List SadEntr
     did (map (half_of h) es) (Install e now) ≡ (if may_join e es then map (half_of h) es ++ fresh now e ∷ [] else map (half_of h) es)
 installed-halves h e now es =
     installed-by e now (map (half_of h) es) (has_entry_named e.name es) (is_inbound e.name && list_any (is_entry_of_spi e.spi) es)
-        (nat_le 4096 (length es))
+    (nat_le 4096 (length es))
     (named-back h e.name es) (ap (λ b. is_inbound e.name && b) (spis-back h e.spi es)) (ap (nat_le 4096) (length-map es (half_of h)))
 
 none-by : (e : SadEntry) (xs : List Half) (a b c : Bool) → has_half_named e.name xs ≡ a → is_spi_taken e xs ≡ b → is_full xs ≡ c →
@@ -217,7 +217,7 @@ none-by e xs false false false p q r = rw (p, q, r) refl
 pub none-against : (h : List Call) (e : SadEntry) (es : List SadEntry) → is_none (install_fault e (map (half_of h) es)) ≡ may_join e es
 none-against h e es =
     none-by e (map (half_of h) es) (has_entry_named e.name es) (is_inbound e.name && list_any (is_entry_of_spi e.spi) es)
-        (nat_le 4096 (length es))
+    (nat_le 4096 (length es))
     (named-back h e.name es) (ap (λ b. is_inbound e.name && b) (spis-back h e.spi es)) (ap (nat_le 4096) (length-map es (half_of h)))
 
 -- ---- one call

@@ -28,7 +28,8 @@ pub fn looks_back_over_calls()
     ensures there { (name : List ℕ) (calls : List Call) → has_entry_named name (there calls) ≡ is_there name calls }
     ensures places { (calls : List Call) (i : ℕ) → option_map (λ x. x.entry) (slice_get (did_all calls) i) ≡ slice_get (there calls) i }
     ensures joins { (calls : List Call) (e : SadEntry) → is_none (install_fault e (did_all calls)) ≡ may_join e (there calls) }
-    ensures window { (calls : List Call) (e : SadEntry) (n : ℕ) → judged (half_of calls e).window n ≡ verdict_over e.window (numbers_marked e.name calls) n }
+    ensures window { (calls : List Call) (e : SadEntry) (n : ℕ) → judged (half_of calls e).window n ≡ verdict_over e.window
+        (numbers_marked e.name calls) n }
     ensures counts { (calls : List Call) (e : SadEntry) (now : ℕ) →
         counts_of now (half_of calls e).life ≡ lives.counts_after (installed_at e.name calls) now (befell e.name calls) }
     ensures event { (calls : List Call) (e : SadEntry) (call : lives.Call) →

@@ -84,7 +84,7 @@ abbrev does_view_open : List ℕ → Addr → List Act → Result Packet NotPack
 does_view_open g own h (Err fault) = false
 does_view_open g own h (Ok v) =
     arrive.is_sealed_for own v
-        && (not (nat_lt (length v.payload) 34) && does_half_open g h v.payload (by_spi (spi_of v.payload) (live g h)))
+    && (not (nat_lt (length v.payload) 34) && does_half_open g h v.payload (by_spi (spi_of v.payload) (live g h)))
 
 if-opened : (b : Bool) (x y : Act) → was_opened x ≡ true → was_opened y ≡ true → was_opened (if b then x else y) ≡ true
 if-opened true x y p q = p

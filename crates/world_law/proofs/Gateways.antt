@@ -91,8 +91,11 @@ pub ready-took : (header : Header) (p : Past) (w : World) → IsSpelledHeader he
     → Ready header (took p.world) × IsLawful header.gateways (took p.world)
 ready-took header p w i s =
     let l : IsLawful header.gateways (took p.world) = (s.told.lawful.ready, s.told.lawful.lawful) in
-    let meet : Meet header.gateways (took p.world) p.controller = record { part = s.told.lawful.meet.part; past = s.told.lawful.meet.past;
-        fit = s.told.lawful.meet.fit } in (
+    let meet : Meet header.gateways (took p.world) p.controller = record {
+      part = s.told.lawful.meet.part;
+      past = s.told.lawful.meet.past;
+      fit = s.told.lawful.meet.fit;
+    } in (
       record {
         apart = apart-named header.gateways i.sound.named;
         order = λ g. orderly header.gateways (took p.world) p.controller g l meet i.sound.named s.told.plain;

@@ -27,13 +27,17 @@ pub fn begins()
 /// forged arrival. If it isn't, the world that is left stands for what happened with the block. So do the steps of an event that a
 /// line can spell, while fewer than 2^32 - 1 were taken.
 pub fn steps_follow()
-    ensures acts { (header : Header) (p : Past) (e : Event) (w : World) → IsSpelledHeader header → IsSpelledEvent header.gateways e → StandsFor header p w
+    ensures acts { (header : Header) (p : Past) (e : Event) (w : World) → IsSpelledHeader header → IsSpelledEvent header.gateways e
+        → StandsFor header p w
         → w.taken < 2 ^ 32 - 1 → (step (found p.world e) e w).acts ≡ block (under_way header) header p e }
-    ensures genuine { (header : Header) (p : Past) (e : Event) (w : World) → IsSpelledHeader header → IsSpelledEvent header.gateways e → StandsFor header p w
+    ensures genuine { (header : Header) (p : Past) (e : Event) (w : World) → IsSpelledHeader header → IsSpelledEvent header.gateways e
+        → StandsFor header p w
         → w.taken < 2 ^ 32 - 1 → is_forged_event header p e ≡ false → (step (found p.world e) e w).is_forged ≡ false }
-    ensures forged { (header : Header) (p : Past) (e : Event) (w : World) → IsSpelledHeader header → IsSpelledEvent header.gateways e → StandsFor header p w
+    ensures forged { (header : Header) (p : Past) (e : Event) (w : World) → IsSpelledHeader header → IsSpelledEvent header.gateways e
+        → StandsFor header p w
         → w.taken < 2 ^ 32 - 1 → is_forged_event header p e ≡ true → (step (found p.world e) e w).is_forged ≡ true }
-    ensures stands { (header : Header) (p : Past) (e : Event) (w : World) → IsSpelledHeader header → IsSpelledEvent header.gateways e → StandsFor header p w
+    ensures stands { (header : Header) (p : Past) (e : Event) (w : World) → IsSpelledHeader header → IsSpelledEvent header.gateways e
+        → StandsFor header p w
         → w.taken < 2 ^ 32 - 1 → is_forged_event header p e ≡ false → StandsFor header (past_after (under_way header) header p e) (step (found p.world e) e w).world }
 {
     steps();
@@ -44,7 +48,8 @@ pub fn steps_follow()
 
 /// Such a step can be carried out: what its messages are can be read and written, and its numbers fit their types.
 pub fn can_step()
-    ensures { (header : Header) (p : Past) (e : Event) (w : World) → IsSpelledHeader header → IsSpelledEvent header.gateways e → StandsFor header p w
+    ensures { (header : Header) (p : Past) (e : Event) (w : World) → IsSpelledHeader header → IsSpelledEvent header.gateways e
+        → StandsFor header p w
         → w.taken < 2 ^ 32 - 1 → CanStep (found p.world e) e w }
 {
     steps();

@@ -94,8 +94,10 @@ after_event e n = record n {
 
 -- it handles the next request, which asks what this order asks
 abbrev pub after_request : Order → Node → Node
-after_request o n = record (after_event (Handle (Ok (ask_of o))) (record n { pipe = after_take lanes.Down n.pipe })) { handled =
-    n.handled + 1 }
+after_request o n = record (after_event (Handle (Ok (ask_of o))) (record n { pipe = after_take lanes.Down n.pipe })) {
+  handled =
+      n.handled + 1;
+}
 
 -- a session is opened, where the controller sees none open; the gateway takes it
 abbrev pub opened : Node → Node

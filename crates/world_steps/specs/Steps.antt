@@ -106,7 +106,7 @@ boot_at w (Some n) = did (acts.Boot n.name ∷ []) (with_node (restarted w.clock
 abbrev pub handle : Order → World → Node → Done
 handle o w n =
     did (acts_told n (outcome n (Handle (Ok (ask_of o)))).acts) (sent_with (outcome n (Handle (Ok (ask_of o)))).acts
-        (with_node (after_request o n) w))
+    (with_node (after_request o n) w))
 
 -- the gateway handles the next request, if one was found
 abbrev pub down_at : Option Order → World → Option Node → Done
@@ -158,7 +158,7 @@ cut_at w (Some n) =
 abbrev pub answer : Answer → World → Node → Done
 answer a w n =
     behind (acts.Answered n.name n.pipe.openings (n.answered + 1) a ∷ []) (controlled (told.Answered (number_of n.name w) a)
-        (with_node (heard_answer n) w))
+    (with_node (heard_answer n) w))
 
 -- the controller hears the next answer, if one was found
 abbrev pub up_at : Option Answer → World → Option Node → Done

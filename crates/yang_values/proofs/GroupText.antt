@@ -142,7 +142,7 @@ halves_again front back front_small back_small =
     let at : double_colon text ≡ Some (length (joined front)) =
     double_joined front (58 ∷ 58 ∷ joined back) front_small ∙ ap Some (omega arith) in
     let before : take (length (joined front)) text ≡ joined front = take_at (joined front) (58 ∷ 58 ∷ joined back) (length (joined front))
-        refl in
+    refl in
     let marked : text ≡ (joined front ++ 58 ∷ 58 ∷ []) ++ joined back = sym (append_assoc (joined front) (58 ∷ 58 ∷ []) (joined back)) in
     let behind : drop (length (joined front) + 2) text ≡ joined back =
     ap (drop (length (joined front) + 2)) marked
@@ -213,7 +213,7 @@ filled_again gs k n size some room zeros =
     let left : 8 - (k + (8 - (k + n))) ≡ n = omega arith in
     let tail : replicate n 0 ++ drop (k + n) gs ≡ drop k gs =
     ap (λ z. z ++ drop (k + n) gs) (sym zeros) ∙ ap (λ d. take n (drop k gs) ++ d) (sym (drop-drop n k gs)) ∙ take-append-drop n (drop k gs)
-        in
+    in
     let all : take k gs ++ replicate n 0 ++ drop (k + n) gs ≡ gs =
     append_assoc (take k gs) (replicate n 0) (drop (k + n) gs) ∙ ap (λ d. take k gs ++ d) tail ∙ take-append-drop k gs in
     rw (front, back, below, left) (ap Some all)

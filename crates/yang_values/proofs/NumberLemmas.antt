@@ -23,7 +23,7 @@ pub put_more : (n : ℕ) (old middle new : List ℕ) → n < 2 ^ 64 → 10 ≤ n
     → new ≡ middle ++ (48 + n % 10) ∷ [] → new ≡ old ++ decimal n
 put_more n old middle new small big m e =
     e ∙ ap (λ x. x ++ (48 + n % 10) ∷ []) m ∙ append_assoc old (decimal (n / 10)) ((48 + n % 10) ∷ [])
-        ∙ ap (λ x. old ++ x) (sym (decimal_step n big small))
+    ∙ ap (λ x. old ++ x) (sym (decimal_step n big small))
 
 -- the one digit of a number below ten
 pub put_one : (n : ℕ) (old new : List ℕ) → n < 10 → new ≡ old ++ (48 + n % 10) ∷ [] → new ≡ old ++ decimal n

@@ -48,5 +48,5 @@ with_length-err a t fault read = by_test (is_number t) (nat_lt (bits_of a) (digi
     by_test true true e f found =
         let same : fault ≡ Range = cc in
         rw (e, same) (where_above a (digits_value 10 t) (cases_lt (bits_of a) (digits_value 10 t))
-            (ltb-true (bits_of a) (digits_value 10 t) f))
+        (ltb-true (bits_of a) (digits_value 10 t) f))
     by_test false above e f found = let same : fault ≡ Form = cc in rw (e, same) refl

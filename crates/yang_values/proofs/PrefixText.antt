@@ -132,10 +132,10 @@ prefix_again p is read =
     let fits = p.in_range in
     let small : p.len < 2 ^ 64 = omega (arith, bits, fits) in
     let cut = cut_behind is_address_octet is_slash (λ c. apart is_address_octet c 47 refl) 47 refl (address_text p.addr) (decimal p.len)
-        (address_octets p.addr is) in
+    (address_octets p.addr is) in
     let number = is_number-decimal p.len small in
     let value = digits_value-decimal decimal_model p.len small in
     rw (cut, read, number)
     (sym (where_ok p.addr (digits_value 10 (decimal p.len)) p.len p (cases_lt (bits_of p.addr) (digits_value 10 (decimal p.len)))
-        (sym value) fits refl
+    (sym value) fits refl
     (sym (same_address p.len p.addr p.cleared))))

@@ -65,7 +65,7 @@ double_colon-found (c ∷ cs) zero within before here =
 double_colon-found (c ∷ cs) (suc i) within before here =
     let e : is_colon c && begins_with_colon cs ≡ false = rw (← first_colon cs) (before 0 (omega arith)) in
     let ih = double_colon-found cs i (omega arith) (λ k lt. sym (is_double_at-cons c cs k) ∙ before (suc k) (omega arith))
-        (sym (is_double_at-cons c cs i) ∙ here) in
+    (sym (is_double_at-cons c cs i) ∙ here) in
     rw (e, ← ih) (ap Some (omega arith))
 
 pub double_colon-none : (t : List ℕ) (n : ℕ) → length t ≤ n → ((k : ℕ) → k < n → is_double_at t k ≡ false) → None ≡ double_colon t
@@ -97,7 +97,7 @@ fill_is front back n m size room =
     let none : drop (8 - (8 - m)) (drop (8 - m) (front ++ drop n (replicate 8 0))) ≡ [] =
     ap (drop (8 - (8 - m))) left ∙ drop_all (8 - (8 - m)) (replicate m 0) (rw length-replicate (omega arith)) in
     let written : take (8 - m) (front ++ drop n (replicate 8 0))
-        ++ (back ++ drop (8 - (8 - m)) (drop (8 - m) (front ++ drop n (replicate 8 0))))
+    ++ (back ++ drop (8 - (8 - m)) (drop (8 - m) (front ++ drop n (replicate 8 0))))
     ≡ (front ++ zeros) ++ (back ++ []) = rw (start, none) refl in
     written ∙ ap (λ b. (front ++ zeros) ++ b) (append-nil back)
 

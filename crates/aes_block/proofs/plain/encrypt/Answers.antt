@@ -14,7 +14,7 @@ rounds-preserved c =
     c.add_key-state-in-rounds.ensures
     ∙ ap (λ (s : List ℕ). add_key ws (c.rounds.i + 1) s)
     (c.mix_columns.ensures ∙ ap (λ (s : List ℕ). mix_columns s) (c.sub_and_shift.ensures
-        ∙ ap (λ (s : List ℕ). shift_rows (sub_octets s)) c.rounds.invariant))
+    ∙ ap (λ (s : List ℕ). shift_rows (sub_octets s)) c.rounds.invariant))
     ∙ sym (after_rounds-suc ws c.args.b.now c.rounds.i)
 
 pub returns : goal.returns
@@ -24,5 +24,5 @@ returns c =
     let done : c.rounds.i ≡ n - 1 = omega (arith, c.rounds.auto.i-end) in
     c.add_key.ensures
     ∙ ap (λ (s : List ℕ). add_key ws n s) (c.sub_and_shift-2.ensures ∙ ap (λ (s : List ℕ). shift_rows (sub_octets s)) (c.rounds.invariant
-        ∙ ap (after_rounds ws c.args.b.now) done))
+    ∙ ap (after_rounds ws c.args.b.now) done))
     ∙ sym (cipher_is ws n c.args.b.now) ∙ sym (cipher-take ws n c.args.b.now (omega arith))

@@ -18,8 +18,11 @@ first-preserved c =
     )
 
 pub later-init : goal.later-init
-later-init c = (c.first.invariant.0, words_none c.args.n c.args.k.now c.first.words c.first.i (omega (arith, c.first.auto.i-end))
-    c.first.invariant.1)
+later-init c = (
+  c.first.invariant.0,
+  words_none c.args.n c.args.k.now c.first.words c.first.i (omega (arith, c.first.auto.i-end))
+      c.first.invariant.1,
+)
 
 pub later-preserved : goal.later-preserved
 later-preserved c =

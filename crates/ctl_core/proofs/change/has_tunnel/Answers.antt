@@ -11,15 +11,17 @@ returns c =
 pub returns-then-is_live : goal.returns-then-is_live
 returns-then-is_live c =
     let s = tunnel-step c.args.reqid c.args.tunnels.now c.args.pairs.now c.loop-i.i c.index-tunnels-i.result c.pair_at-pair.result
-        (omega arith) (omega arith) c.index-tunnels-i.is c.pair_at-pair.ensures in
+    (omega arith) (omega arith) c.index-tunnels-i.is c.pair_at-pair.ensures in
     sym (c.loop-i.invariant.1 ∙ s
-        ∙ ap (λ z. z || has_tunnel c.args.reqid (drop (c.loop-i.i + 1) c.args.tunnels.now) (drop (c.loop-i.i + 1) c.args.pairs.now))
-        (sym c.is_live.ensures ∙ c.if-is_live.true))
+    ∙ ap (λ z. z || has_tunnel c.args.reqid (drop (c.loop-i.i + 1) c.args.tunnels.now) (drop (c.loop-i.i + 1) c.args.pairs.now))
+    (sym c.is_live.ensures ∙ c.if-is_live.true))
 
 pub loop-i-preserved : goal.loop-i-preserved
 loop-i-preserved c =
     let s = tunnel-step c.args.reqid c.args.tunnels.now c.args.pairs.now c.loop-i.i c.index-tunnels-i.result c.pair_at-pair.result
-        (omega arith) (omega arith) c.index-tunnels-i.is c.pair_at-pair.ensures in
-    (c.loop-i.invariant.0, c.loop-i.invariant.1 ∙ s
-        ∙ ap (λ z. z || has_tunnel c.args.reqid (drop (c.loop-i.i + 1) c.args.tunnels.now) (drop (c.loop-i.i + 1) c.args.pairs.now))
-        (sym c.is_live.ensures ∙ c.if-is_live.false))
+    (omega arith) (omega arith) c.index-tunnels-i.is c.pair_at-pair.ensures in (
+      c.loop-i.invariant.0,
+      c.loop-i.invariant.1 ∙ s
+          ∙ ap (λ z. z || has_tunnel c.args.reqid (drop (c.loop-i.i + 1) c.args.tunnels.now) (drop (c.loop-i.i + 1) c.args.pairs.now))
+          (sym c.is_live.ensures ∙ c.if-is_live.false),
+    )

@@ -17,6 +17,6 @@ returns-clause-pairs c =
 pub loop-i-preserved : goal.loop-i-preserved
 loop-i-preserved c =
     let u = unspent-turn c.args.tunnels.now c.args.pairs.now c.loop-i.i c.index-tunnels-i.result c.pair_at-pair.result c.loop-i.kept.items _
-        _ c.loop-i.come.items _ _ (omega arith) (omega arith) c.index-tunnels-i.is c.pair_at-pair.ensures c.in_ok-keep.ensures.tunnels
-        c.in_ok-keep.ensures.pairs c.loop-i.invariant.1 c.loop-i.invariant.2 in
+    _ c.loop-i.come.items _ _ (omega arith) (omega arith) c.index-tunnels-i.is c.pair_at-pair.ensures c.in_ok-keep.ensures.tunnels
+    c.in_ok-keep.ensures.pairs c.loop-i.invariant.1 c.loop-i.invariant.2 in
     (c.loop-i.invariant.0, u.0, u.1)

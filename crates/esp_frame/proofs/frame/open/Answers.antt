@@ -18,7 +18,7 @@ returns-then-not-open_text c =
     let text = c.split_at_mut-text.result.0.now in
     let icv = c.split_at_mut-text.result.1.now in
     let parts : b ≡ head ++ (text ++ icv) = c.split_at_mut-head.ensures.value
-        ∙ ap (λ (l : List ℕ). head ++ l) c.split_at_mut-text.ensures.value in
+    ∙ ap (λ (l : List ℕ). head ++ l) c.split_at_mut-text.ensures.value in
     let head_len = c.split_at_mut-head.ensures.front_len in
     let icv_len : length icv ≡ 16 = omega (arith, c.split_at_mut-text.ensures.back_len, c.split_at_mut-head.ensures.back_len) in
     let le : 34 ≤ length b = omega arith in
@@ -39,7 +39,7 @@ returns-in-Some c =
     let text = c.split_at_mut-text.result.0.now in
     let icv = c.split_at_mut-text.result.1.now in
     let parts : b ≡ head ++ (text ++ icv) = c.split_at_mut-head.ensures.value
-        ∙ ap (λ (l : List ℕ). head ++ l) c.split_at_mut-text.ensures.value in
+    ∙ ap (λ (l : List ℕ). head ++ l) c.split_at_mut-text.ensures.value in
     let head_len = c.split_at_mut-head.ensures.front_len in
     let icv_len : length icv ≡ 16 = omega (arith, c.split_at_mut-text.ensures.back_len, c.split_at_mut-head.ensures.back_len) in
     let le : 34 ≤ length b = omega arith in
@@ -52,8 +52,14 @@ returns-in-Some c =
     let next : ℕ = get_or x (length x - 1) 0 in
     let small : c.in-Some.n ≤ length x = omega (arith, found.0) in
     record {
-      by_definition = (refl, omega arith, omega (arith, found.0), same, inner_is head x icv head_len icv_len c.in-Some.n next small found.1,
-          rest);
+      by_definition = (
+        refl,
+        omega arith,
+        omega (arith, found.0),
+        same,
+        inner_is head x icv head_len icv_len c.in-Some.n next small found.1,
+        rest,
+      );
       value = result_packet k b x next c.in-Some.n opens small found.1;
       after = after;
     }
@@ -66,7 +72,7 @@ returns-in-None c =
     let text = c.split_at_mut-text.result.0.now in
     let icv = c.split_at_mut-text.result.1.now in
     let parts : b ≡ head ++ (text ++ icv) = c.split_at_mut-head.ensures.value
-        ∙ ap (λ (l : List ℕ). head ++ l) c.split_at_mut-text.ensures.value in
+    ∙ ap (λ (l : List ℕ). head ++ l) c.split_at_mut-text.ensures.value in
     let head_len = c.split_at_mut-head.ensures.front_len in
     let icv_len : length icv ≡ 16 = omega (arith, c.split_at_mut-text.ensures.back_len, c.split_at_mut-head.ensures.back_len) in
     let le : 34 ≤ length b = omega arith in

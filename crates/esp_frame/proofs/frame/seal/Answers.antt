@@ -12,16 +12,16 @@ returns-clause-octets c =
     let out = c.args.out.now in
     let rest = c.split_at_mut-icv.result.1.now in
     let opens = opens_moved (cipher_of sa.schedule) c.nonce.result (sa.salt ++ c.to_be_bytes-iv.result) c.aad-aad.result
-        c.seal_in_place-tag.new.text c.seal_in_place-tag.result _ _
+    c.seal_in_place-tag.new.text c.seal_in_place-tag.result _ _
     c.nonce.ensures c.write_padded.ensures c.seal_in_place-tag.ensures in
     let written = esp_is (keying_of sa) c.args.seq c.args.next p c.aad-aad.result c.to_be_bytes-iv.result c.seal_in_place-tag.new.text
-        c.seal_in_place-tag.result
+    c.seal_in_place-tag.result
     c.aad-aad.ensures c.to_be_bytes-iv.ensures opens in
     let n : ℕ = length p + c.pad_len.result + 2 in
     let len : 8 + 8 + n + 16 ≡ esp_len (length p) = omega (arith, c.pad_len.ensures) in
     let left = dropped n (esp_len (length p)) out c.split_at_mut-head.result.1.now c.split_at_mut-head-2.result.1.now
-        c.split_at_mut-text.result.1.now rest
+    c.split_at_mut-text.result.1.now rest
     c.split_at_mut-head.ensures.back c.split_at_mut-head-2.ensures.back c.split_at_mut-text.ensures.back c.split_at_mut-icv.ensures.back len
-        in
+    in
     all_written _ _ _ _ _ _ _ rest c.copy_from_slice.ensures.after c.copy_from_slice-2.ensures.after c.copy_from_slice-3.ensures.after
-        ∙ (λ i. written i ++ left i)
+    ∙ (λ i. written i ++ left i)

@@ -16,5 +16,5 @@ returns c =
       | inr above ↦
           c.add_rest.ensures.within k above (omega arith)
           ∙ (λ i. bit_xor (c.chunks.invariant.rest k (omega arith) i) (rest_stream e nonce c.encrypt-stream-2.result c.counter-2.result n k
-              (c.encrypt-stream-2.ensures) c.counter-2.ensures above (omega arith) i))
+          (c.encrypt-stream-2.ensures) c.counter-2.ensures above (omega arith) i))
     ])

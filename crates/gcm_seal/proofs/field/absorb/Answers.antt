@@ -8,7 +8,7 @@ chunks-init c = λ h zs _ _ fit e. absorbed_none h c.args.octets.now zs c.args.b
 pub chunks-preserved : goal.chunks-preserved
 chunks-preserved c = λ h zs small table fit e.
     c.multiply-y.ensures h table ∙ absorbed h c.args.octets.now c.chunks.i c.chunks.y c.element_at.result zs small fit
-        (c.chunks.invariant h zs small table fit e) c.element_at.ensures
+    (c.chunks.invariant h zs small table fit e) c.element_at.ensures
 
 pub returns : goal.returns
 returns c = λ h zs small table fit e.

@@ -17,7 +17,7 @@ entries-preserved c =
     let at : ℕ = 16 * i + n in
     let long = c.entries.invariant.long in
     let row = c.row_of-row.ensures (4 * i) h (omega arith) (omega arith) (power_at_is h i c.rows.p (omega arith) (omega arith)
-        c.rows.invariant.power) in
+    c.rows.invariant.power) in
     record {
       long = length-set t at v ∙ long;
       entries = λ k lt. elim (cases_lt k at) [

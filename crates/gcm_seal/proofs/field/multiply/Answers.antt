@@ -12,7 +12,7 @@ octets-preserved c = λ h table.
     let o : ℕ = get_or c.to_le_bytes-octets.result i 0 in
     let is : o ≡ y / 2 ^ (8 * i) % 256 = ap (λ (l : List ℕ). get_or l i 0) c.to_le_bytes-octets.ensures ∙ octet_at y i (omega arith) in
     eight_more y h i c.octets.z o _ _ is (omega arith) (c.octets.invariant h table) (table (32 * i + o % 16) (omega arith))
-        (table (32 * i + 16 + o / 16) (omega arith))
+    (table (32 * i + 16 + o / 16) (omega arith))
 
 pub returns : goal.returns
 returns c = λ h table. all_multiplied c.args.y h c.octets.i c.octets.z (omega arith) (omega (arith, c.octets.auto.i-end))

@@ -12,4 +12,4 @@ pub returns : goal.returns
 returns c =
     let v = c.args.octets in
     looked_up LOW_REVERSED (λ x. bit_and x 15) v _ c.fits-octets (zip2_splat bit_and v 16 15 c.fits-octets.0)
-        (λ x h. omega (arith, and_le_r x 15))
+    (λ x h. omega (arith, and_le_r x 15))

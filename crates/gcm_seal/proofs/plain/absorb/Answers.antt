@@ -8,7 +8,7 @@ chunks-init c = λ zs fit e. absorbed_none c.args.h c.args.octets.now zs c.args.
 pub chunks-preserved : goal.chunks-preserved
 chunks-preserved c = λ zs fit e.
     c.multiply-y.ensures ∙ absorbed c.args.h c.args.octets.now c.chunks.i c.chunks.y c.element_at.result zs (omega arith) fit
-        (c.chunks.invariant zs fit e) c.element_at.ensures
+    (c.chunks.invariant zs fit e) c.element_at.ensures
 
 pub returns : goal.returns
 returns c = λ zs fit e.

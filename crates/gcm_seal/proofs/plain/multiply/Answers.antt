@@ -30,4 +30,4 @@ returns c =
     let done : c.coefficients.i ≡ 128 = omega (arith, c.coefficients.auto.i-end) in
     let whole = rw done at c.coefficients.invariant.sum in
     whole ∙ sym (multiply_is 128 0x87 low_fits c.args.h c.args.y (omega arith)) ∙ multiply_comm 128 0x87 low_fits c.args.h c.args.y
-        (omega arith) (omega arith)
+    (omega arith) (omega arith)

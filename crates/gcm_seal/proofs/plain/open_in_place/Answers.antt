@@ -9,5 +9,5 @@ returns-then-eq c =
     let e : List ℕ → List ℕ = cipher_of c.args.k.now in
     let same : c.args.tag.now ≡ c.tag_for-right.result = search rules in
     let text_is = sealed_twice e c.args.nonce.now c.args.text.now ∙ ap (λ (t : List ℕ). sealed e c.args.nonce.now t)
-        (sym c.add_stream.ensures) in
+    (sym c.add_stream.ensures) in
     ((text_is, same ∙ c.tag_for-right.ensures), c.add_stream.ensures)

@@ -15,4 +15,4 @@ returns c =
     let y3 = c.absorb-third.ensures (all_blocks aad ++ all_blocks s) (fit_both aad s) y2 in
     tag_is e c.args.nonce.now aad s h c.absorb-third.result c.masked.result c.hash_key-h.ensures
     (ghash_is h c.absorb-first.result c.absorb-second.result c.absorb-third.result aad s c.length_block.result c.length_block.ensures y1 y2
-        y3) c.masked.ensures
+    y3) c.masked.ensures

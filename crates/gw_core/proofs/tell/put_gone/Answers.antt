@@ -6,4 +6,4 @@ use Rattle.gw_core.proofs.tell.put_gone.Goals as goal
 pub returns-in_err-push-clause-err : goal.returns-in_err-push-clause-err
 returns-in_err-push-clause-err c =
     on-err c.from_residual.result (kept c.args.items.now.items (map act_of_gone c.loop-name.yielded) c.push.new.self.items
-        (c.in_err-push.ensures.items ∙ c.loop-name.invariant))
+    (c.in_err-push.ensures.items ∙ c.loop-name.invariant))

@@ -10,6 +10,12 @@ returns-clause-lawful c = orderly-past
 
 pub returns-clause-history : goal.returns-clause-history
 returns-clause-history c =
-    let law : Law = record { sized = sizes-are c.sealed.ensures c.seal_law.ensures.len; acts = c.steps.ensures.acts; keeps =
-        c.steps.ensures.keeps; lawful = c.blocks_follow.ensures.block; safe = c.is_every_history_safe.ensures.lawful } in
+    let law : Law = record {
+      sized = sizes-are c.sealed.ensures c.seal_law.ensures.len;
+      acts = c.steps.ensures.acts;
+      keeps =
+          c.steps.ensures.keeps;
+      lawful = c.blocks_follow.ensures.block;
+      safe = c.is_every_history_safe.ensures.lawful;
+    } in
     λ gateway es p. orderly-on law gateway [] es tt (All-nil InstallsTunnel) p

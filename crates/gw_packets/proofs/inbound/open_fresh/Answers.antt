@@ -13,4 +13,4 @@ returns-in-Some-clause-plan c =
     let u = c.in_ok-u.ensures ∙ ap (λ (key : Keying). unsealed_by (opened key b)) c.key_of.ensures in
     let answer = sym c.in_ok-answer_to.ensures ∙ c.in-Some.is in
     if-ok-by (λ q planned k clock. planned k clock ∙ taken-by-text b c.args.i x c.args.number text c.in_ok-u.u c.in-Some.answer k u answer)
-        c.take.result c.take.ensures.plan
+    c.take.result c.take.ensures.plan

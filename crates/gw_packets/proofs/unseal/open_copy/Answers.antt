@@ -16,13 +16,13 @@ returns c =
     let said = c.in-Ok.ensures.by_definition in
     let text : opened key old ≡ Some (text_of new) = c.text_law.ensures.finds key old (text_of new) said.3 in
     let inner : inner_packet (text_of new) ≡ Some (record { next = c.in-Ok.place.next; octets = packet }) =
-        c.packet_law.ensures.finds (text_of new) packet c.in-Ok.place.next said.4 in
+    c.packet_law.ensures.finds (text_of new) packet c.in-Ok.place.next said.4 in
     let same : opened key c.args.octets.now ≡ Some (text_of new) =
-        ap (opened key) (sym c.in_ok-copy.ensures.items ∙ sym c.deref_mut.ensures.value) ∙ text in
+    ap (opened key) (sym c.in_ok-copy.ensures.items ∙ sym c.deref_mut.ensures.value) ∙ text in
     let found : unsealed_by (opened key c.args.octets.now) ≡ unsealed.Packet c.in-Ok.place.next packet = ap unsealed_by same
-        ∙ ap unsealed_by_packet inner in
+    ∙ ap unsealed_by_packet inner in
     let size : length new ≡ c.in_ok-copy.copy.len = c.open.auto.esp ∙ c.deref_mut.ensures.len in
     let cut : c.from_items.result ≡ packet =
     c.from_items.ensures ∙ (c.cut.ensures ∙ ap (λ (zs : List ℕ). slice_range zs c.in-Ok.place.start c.in-Ok.place.end)
-        (with_items_is c.in_ok-copy.copy new size)) in
+    (with_items_is c.in_ok-copy.copy new size)) in
     ap (unsealed.Packet c.in-Ok.place.next) cut ∙ sym found

@@ -14,4 +14,4 @@ returns c =
     c.used.ensures.halves
     ∙ (ap (changed (use_half c.args.octets c.args.clock) c.args.i) c.next_number.ensures.halves
     ∙ changed-twice number_next (use_half c.args.octets c.args.clock) (λ y. look_at c.args.clock (send c.args.clock c.args.octets y))
-        (λ x. refl) c.args.i c.args.halves.now)
+    (λ x. refl) c.args.i c.args.halves.now)

@@ -14,4 +14,4 @@ returns c =
     c.used.ensures.halves
     ∙ (ap (changed (use_half c.args.octets c.args.clock) c.args.i) c.mark.ensures
     ∙ changed-twice (mark_number c.args.number) (use_half c.args.octets c.args.clock)
-        (λ y. look_at c.args.clock (take_number c.args.clock c.args.octets c.args.number y)) (λ x. refl) c.args.i c.args.halves.now)
+    (λ y. look_at c.args.clock (take_number c.args.clock c.args.octets c.args.number y)) (λ x. refl) c.args.i c.args.halves.now)

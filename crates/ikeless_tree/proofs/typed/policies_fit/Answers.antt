@@ -13,4 +13,4 @@ pub returns : goal.returns
 returns c =
     let P : List SpdEntry → Type 0 = λ xs. All IsTypedPolicy xs in
     subst P c.as_slice-entry-items.ensures
-        (subst P (take_all c.loop-entry.entry-index c.as_slice-entry-items.result.now c.loop-entry-test.false) c.loop-entry.invariant)
+    (subst P (take_all c.loop-entry.entry-index c.as_slice-entry-items.result.now c.loop-entry-test.false) c.loop-entry.invariant)

@@ -13,4 +13,4 @@ pub returns : goal.returns
 returns c =
     let P : List Range → Type 0 = λ xs. All IsTypedRange xs in
     subst P c.as_slice-range-items.ensures
-        (subst P (take_all c.loop-range.range-index c.as_slice-range-items.result.now c.loop-range-test.false) c.loop-range.invariant)
+    (subst P (take_all c.loop-range.range-index c.as_slice-range-items.result.now c.loop-range-test.false) c.loop-range.invariant)

@@ -13,4 +13,4 @@ pub returns : goal.returns
 returns c =
     let P : List SadRow → Type 0 = λ xs. All IsTypedRow xs in
     subst P c.as_slice-row-items.ensures (subst P (take_all c.loop-row.row-index c.as_slice-row-items.result.now c.loop-row-test.false)
-        c.loop-row.invariant)
+    c.loop-row.invariant)

@@ -11,4 +11,4 @@ returns-clause-octets c =
     let first : c.put.new.octets ≡ front ++ drop 8 old = c.put.ensures in
     let second = piece-next front src old c.put.new.octets c.put-2.new.octets 8 24 first refl (omega arith) c.put-2.ensures in
     piece-next (front ++ src) c.args.dst.now old c.put-2.new.octets c.put-3.new.octets 24 40 second (omega (arith, length-append front src))
-        (omega arith) c.put-3.ensures
+    (omega arith) c.put-3.ensures

@@ -17,5 +17,5 @@ written-requires-clause-shallow c =
 pub returns-clause-again : goal.returns-clause-again
 returns-clause-again c = λ window.
     of_written c.written.result (command_data c.args.c.now) _ (λ text. c.commands_read_again.ensures text c.args.c.now c.numbers_fit.ensures
-        c.requires window) c.written.ensures.utf8
+    c.requires window) c.written.ensures.utf8
     (IfOk-weaker c.written.result _ _ (λ text h. h ∙ ap Some c.in_ok-value.ensures) c.written.ensures.reads)

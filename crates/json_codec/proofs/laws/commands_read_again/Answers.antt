@@ -10,5 +10,5 @@ use Rattle.json_codec.proofs.laws.commands_read_again.Goals as goal
 pub returns : goal.returns
 returns c = λ text x typed lawful window utf8 reads.
     body_of (command_in (operation_of x)) (λ d. IsCommand (operation_of x) x d × (command_fault x ≡ None)) x
-        (λ d k. command_back (operation_of x) x d k.0 k.1) text
+    (λ d k. command_back (operation_of x) x d k.0 k.1) text
     (utf8, command_data x, reads, (command_again c.hex_read_again.ensures x typed lawful window, no_command_fault x lawful))

@@ -11,12 +11,12 @@ returns c = sym c.loop-place.invariant ∙ items-done spd_entry_in c.loop-place.
 pub returns-in-Err : goal.returns-in-Err
 returns-in-Err c =
     item-refuses spd_entry_in c.loop-place.list c.args.items.now c.loop-place.place c.index-items-place.result c.in-Err.refused _
-        c.loop-place-test.true c.index-items-place.is c.loop-place.invariant
+    c.loop-place-test.true c.index-items-place.is c.loop-place.invariant
     (c.in-Err.ensures (spd_entry_in (view c.index-items-place.result)) c.entry.ensures)
 
 pub loop-place-preserved : goal.loop-place-preserved
 loop-place-preserved c =
     rw c.in_ok-push-in-Ok.ensures.ok
     (item-more spd_entry_in c.loop-place.list c.args.items.now c.loop-place.place c.index-items-place.result c.in-Ok.entry _
-        c.loop-place-test.true c.index-items-place.is c.loop-place.invariant
+    c.loop-place-test.true c.index-items-place.is c.loop-place.invariant
     (c.in-Ok.ensures (spd_entry_in (view c.index-items-place.result)) c.entry.ensures))

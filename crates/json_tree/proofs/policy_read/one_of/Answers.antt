@@ -8,5 +8,5 @@ use Rattle.json_tree.proofs.policy_read.one_of.Goals as goal
 pub returns-in-len2-up : goal.returns-in-len2-up
 returns-in-len2-up c =
     let list : as_array (view c.args.value.now) ≡ Some (items_view c.as_slice.result.now) = sym c.in-Some.ensures
-        ∙ ap (λ vs. Some (items_view vs)) (sym c.as_slice.ensures.value) in
+    ∙ ap (λ vs. Some (items_view vs)) (sym c.as_slice.ensures.value) in
     rw c.refused-in-len2-up.ensures (one-of_many spd_entry_in _ c.as_slice.result.now list c.in-len2-up.len_at_least)

@@ -15,6 +15,6 @@ pub loop-entry-preserved : goal.loop-entry-preserved
 loop-entry-preserved c =
     let wrote : view c.in_ok-entry_value.field-0 ≡ spd_entry_data c.entry-item.result = c.in_ok-entry_value.ensures in
     let here : view c.in_ok-entry_value.field-0 ≡ spd_entry_data (get_or c.args.list.now c.loop-entry.entry-index c.entry-item.result) =
-        wrote ∙ ap spd_entry_data c.entry-item.is in
+    wrote ∙ ap spd_entry_data c.entry-item.is in
     rw c.in_ok-push.ensures.items (more spd_entry_data c.args.list.now c.loop-entry.entry-index c.entry-item.result
-        c.loop-entry.values.items c.in_ok-entry_value.field-0 c.loop-entry-test.true c.loop-entry.invariant here)
+    c.loop-entry.values.items c.in_ok-entry_value.field-0 c.loop-entry-test.true c.loop-entry.invariant here)

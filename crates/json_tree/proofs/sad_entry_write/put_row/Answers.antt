@@ -9,5 +9,5 @@ pub returns : goal.returns
 returns c =
     let plain : has_float (view c.in_ok-value.value) ≡ false = rw c.in_ok-value.ensures (flat_row c.args.row.now).plain in
     let wrote : c.as_str.result.now ≡ compact_text (row_data c.args.row.now) = c.as_str.ensures.value ∙ c.in_ok-object.ensures.text plain
-        ∙ ap compact_text c.in_ok-value.ensures in
+    ∙ ap compact_text c.in_ok-value.ensures in
     c.in_ok-push_str.ensures.bytes ∙ ap (λ s. string_bytes c.args.text.now ++ s) wrote

@@ -18,4 +18,4 @@ loop-row-preserved c =
     let wrote : string_bytes c.put_row.new.text ≡ (string_bytes c.loop-row.text ++ comma_if c.loop-row.later) ++ compact_text (row_data r) =
     c.in_ok-put_row.ensures ∙ ap (λ s. s ++ compact_text (row_data r)) c.in_ok-put_comma_if.ensures in
     rw wrote (one_more_row c.args.rows.now c.loop-row.row-index r c.loop-row.later (string_bytes c.loop-row.text) _ c.loop-row-test.true
-        c.row-item.is c.loop-row.invariant)
+    c.row-item.is c.loop-row.invariant)

@@ -21,10 +21,10 @@ pub returns-clause-text : goal.returns-clause-text
 returns-clause-text c =
     let rows : c.as_slice.result.now ≡ c.args.rows.now = c.as_slice.ensures in
     let octets : c.from_items.result ≡ string_bytes c.push_str.new.self = c.from_items.ensures
-        ∙ ap (λ v. v.items) c.into_bytes.ensures.value in
+    ∙ ap (λ v. v.items) c.into_bytes.ensures.value in
     let front : string_bytes c.in_ok-text.text ≡ codes "{\"ietf-i2nsf-ikeless:sad\":{\"sad-entry\":[" = c.in_ok-text.ensures.ok in
     let until : string_bytes c.put_rows.new.text ≡ codes "{\"ietf-i2nsf-ikeless:sad\":{\"sad-entry\":["
-        ++ items_text false (row_items c.args.rows.now) =
+    ++ items_text false (row_items c.args.rows.now) =
     c.in_ok-put_rows.ensures ∙ ap₂ (λ s rs. s ++ items_text false (row_items rs)) front rows in
     octets ∙ c.in_ok-push_str.ensures.bytes ∙ ap (λ s. s ++ codes "}}") until ∙ all_rows_text c.args.rows.now
 
@@ -32,7 +32,7 @@ pub returns-clause-reads : goal.returns-clause-reads
 returns-clause-reads c =
     let deep : depth (all_rows c.args.rows.now) ≤ 8 = (flat_all_rows c.args.rows.now).shallow in
     ap read (returns-clause-text c) ∙ read_again (all_rows c.args.rows.now) (write_rows c.args.rows.now c.rows_fit.ensures c.requires)
-        (omega arith)
+    (omega arith)
 
 pub returns-clause-keyless : goal.returns-clause-keyless
 returns-clause-keyless c = (all_rows c.args.rows.now, returns-clause-reads c, (free_all_rows c.args.rows.now).free)
@@ -40,5 +40,5 @@ returns-clause-keyless c = (all_rows c.args.rows.now, returns-clause-reads c, (f
 pub returns-clause-utf8 : goal.returns-clause-utf8
 returns-clause-utf8 c =
     let octets : c.from_items.result ≡ string_bytes c.push_str.new.self = c.from_items.ensures
-        ∙ ap (λ v. v.items) c.into_bytes.ensures.value in
+    ∙ ap (λ v. v.items) c.into_bytes.ensures.value in
     subst IsUtf8 (sym octets) (IsUtf8-string_bytes c.push_str.new.self)

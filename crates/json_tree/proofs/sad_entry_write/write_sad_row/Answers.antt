@@ -20,4 +20,4 @@ written-requires-clause-shallow c =
 pub returns-clause-keyless : goal.returns-clause-keyless
 returns-clause-keyless c =
     IfOk-weaker c.written.result _ _ (λ text h. (one_row c.args.row.now, h ∙ ap Some c.in_ok-value.ensures, free_row c.args.row.now))
-        c.written.ensures.reads
+    c.written.ensures.reads

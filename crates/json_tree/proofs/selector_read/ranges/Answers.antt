@@ -10,12 +10,12 @@ returns c = sym c.loop-place.invariant ∙ items-done range_in c.loop-place.list
 pub returns-in-Err : goal.returns-in-Err
 returns-in-Err c =
     item-refuses range_in c.loop-place.list c.args.items.now c.loop-place.place c.index-items-place.result c.in-Err.refused _
-        c.loop-place-test.true c.index-items-place.is c.loop-place.invariant
+    c.loop-place-test.true c.index-items-place.is c.loop-place.invariant
     (c.in-Err.ensures (range_in (view c.index-items-place.result)) c.range.ensures)
 
 pub loop-place-preserved : goal.loop-place-preserved
 loop-place-preserved c =
     rw c.in_ok-push-in-Ok.ensures.ok
     (item-more range_in c.loop-place.list c.args.items.now c.loop-place.place c.index-items-place.result c.in-Ok.range _
-        c.loop-place-test.true c.index-items-place.is c.loop-place.invariant
+    c.loop-place-test.true c.index-items-place.is c.loop-place.invariant
     (c.in-Ok.ensures (range_in (view c.index-items-place.result)) c.range.ensures))

@@ -11,5 +11,5 @@ unfolding selector_in
 returns c =
     let d = view c.args.value.now in
     let proto : at_member (codes "inner-protocol") (protocol_leaf (get (codes "inner-protocol") d)) ≡ Ok c.in_ok-proto.proto =
-        search rules in
+    search rules in
     rw (c.in_ok-is_selector.ensures, proto, c.in_ok-local.ensures, c.in_ok-remote.ensures) refl

@@ -8,4 +8,4 @@ invariant-loop-key l =
     (goal.iterator-loop-key).can_next l.key-iterator ×
     (goal.iterator-loop-key).is_finite l.key-iterator ×
     (has_unknown (names_in l.fn.names) (members_view l.key-iterator) ≡ has_unknown (names_in l.fn.names)
-        (members_view l.fn.members.entries))
+    (members_view l.fn.members.entries))

@@ -23,13 +23,13 @@ pub returns-in-Ok-Some-clause-replied : goal.returns-in-Ok-Some-clause-replied
 returns-in-Ok-Some-clause-replied g c =
     let brings = rw c.in-Ok-Some.field-0-is at c.in-Ok-Some.ensures.brings in
     replied_told _ _ _ c.turns._turn c.args.turns c.turns.reading.octets.items c.read_once.new.reading.octets.items
-        c.read_once.new.reading.feeder
+    c.read_once.new.reading.feeder
     c.in-Ok-Some.told c.turns.invariant.gave c.turns-test.true brings
 
 pub returns-in-Err-clause-replied : goal.returns-in-Err-clause-replied
 returns-in-Err-clause-replied g c =
     replied_fault _ _ _ c.turns._turn c.args.turns c.turns.reading.octets.items c.read_once.new.reading.octets.items
-        c.read_once.new.reading.feeder
+    c.read_once.new.reading.feeder
     c.in-Err.fault c.turns.invariant.gave c.turns-test.true c.turns.invariant.waiting.waits c.in-Err.ensures.brings
 
 pub turns-preserved : goal.turns-preserved
@@ -45,9 +45,15 @@ turns-preserved g c =
       up = c.in-Ok-None.ensures.up;
       kept = c.in-Ok-None.ensures.link.kept refl ∙ was.kept;
       calm = c.in-Ok-None.ensures.link.last;
-      others = (λ k other. c.in-Ok-None.ensures.others.0 k other ∙ was.others.0 k other, λ k other. c.in-Ok-None.ensures.others.1 k other
-          ∙ was.others.1 k other);
-      counts = (λ k other. c.in-Ok-None.ensures.counts.0 k other ∙ was.counts.0 k other, λ k other. c.in-Ok-None.ensures.counts.1 k other
-          ∙ was.counts.1 k other);
+      others = (
+        λ k other. c.in-Ok-None.ensures.others.0 k other ∙ was.others.0 k other,
+        λ k other. c.in-Ok-None.ensures.others.1 k other
+            ∙ was.others.1 k other,
+      );
+      counts = (
+        λ k other. c.in-Ok-None.ensures.counts.0 k other ∙ was.counts.0 k other,
+        λ k other. c.in-Ok-None.ensures.counts.1 k other
+            ∙ was.counts.1 k other,
+      );
       peers = c.in-Ok-None.ensures.peers ∙ was.peers;
     }

@@ -16,8 +16,12 @@ loop-rest-preserved g c =
     let old = c.loop-rest.invariant.so_far in
     let cut : c.split_at.result.1.now ≡ drop c.in-Ok.n c.loop-rest.rest.now = cc in
     record {
-      so_far = (old.0 ++ take c.in-Ok.n c.loop-rest.rest.now, front_and_rest old.0 c.loop-rest.rest.now c.in-Ok.n c.split_at.result.1.now
-          c.args.piece.now cut old.1, gains_more _ _ _ _ _ old.2 c.in-Ok.ensures.takes.octets);
+      so_far = (
+        old.0 ++ take c.in-Ok.n c.loop-rest.rest.now,
+        front_and_rest old.0 c.loop-rest.rest.now c.in-Ok.n c.split_at.result.1.now
+            c.args.piece.now cut old.1,
+        gains_more _ _ _ _ _ old.2 c.in-Ok.ensures.takes.octets,
+      );
       kept = c.in-Ok.ensures.cause.kept refl ∙ c.loop-rest.invariant.kept;
       calm = λ before. c.in-Ok.ensures.outcome;
     }

@@ -7,10 +7,19 @@ abbrev pub invariant-loop-act : goal.invariant-loop-act
 invariant-loop-act g l = record {
   gateway : l.node.gateway ≡ l.initial.node.gateway;
   carries : Carries l.initial.node.gateway.kept.clock (take l.act-index l.act-items) l.initial.node.session l.node.session
-      (record { inside = g.A.Wire.held l.initial.inside; outside = g.B.Wire.held l.initial.outside; dock = g.D.Dock.held l.initial.dock;
-          faults = g.D.Dock.faults l.initial.dock })
-      (record { inside = g.A.Wire.held l.inside; outside = g.B.Wire.held l.outside; dock = g.D.Dock.held l.dock; faults =
-          g.D.Dock.faults l.dock });
+      (record {
+        inside = g.A.Wire.held l.initial.inside;
+        outside = g.B.Wire.held l.initial.outside;
+        dock = g.D.Dock.held l.initial.dock;
+        faults = g.D.Dock.faults l.initial.dock;
+      })
+      (record {
+        inside = g.A.Wire.held l.inside;
+        outside = g.B.Wire.held l.outside;
+        dock = g.D.Dock.held l.dock;
+        faults =
+            g.D.Dock.faults l.dock;
+      });
   may : MayWrite l.node.session (g.D.Dock.is_taken l.dock);
   session : StaysOrEnds l.initial.node.session l.node.session;
   inside_tells : Tells (g.A.Wire.faults l.initial.inside) (g.A.Wire.faults l.inside) (g.A.Wire.last_failed l.initial.inside)

@@ -7,10 +7,19 @@ use Rattle.live_gateway.proofs.serve.serve.Given as goal
 abbrev pub invariant-turns : goal.invariant-turns
 invariant-turns g l = record {
   served : (HasRisen (g.D.Dock.faults l.initial.dock) (g.D.Dock.faults l.dock) → ⊥) → SoFar l.initial.node.gateway.config l._turn
-      (record { inside = g.A.Wire.held l.initial.inside; outside = g.B.Wire.held l.initial.outside; dock = g.D.Dock.held l.initial.dock;
-          faults = g.D.Dock.faults l.initial.dock })
-      (record { inside = g.A.Wire.held l.inside; outside = g.B.Wire.held l.outside; dock = g.D.Dock.held l.dock; faults =
-          g.D.Dock.faults l.dock })
+      (record {
+        inside = g.A.Wire.held l.initial.inside;
+        outside = g.B.Wire.held l.initial.outside;
+        dock = g.D.Dock.held l.initial.dock;
+        faults = g.D.Dock.faults l.initial.dock;
+      })
+      (record {
+        inside = g.A.Wire.held l.inside;
+        outside = g.B.Wire.held l.outside;
+        dock = g.D.Dock.held l.dock;
+        faults =
+            g.D.Dock.faults l.dock;
+      })
       (g.C.Clock.readings l.initial.clock) (g.C.Clock.readings l.clock) l.node.gateway l.node.session;
   size : length l.buf ≡ 65575;
   later : g.D.Dock.faults l.initial.dock ≤ g.D.Dock.faults l.dock;

@@ -9,13 +9,13 @@ returns-in-None-clause-feeds c = feeds_none c.args.session.now c.args.session.no
 pub returns-in-Some-clause-feeds : goal.returns-in-Some-clause-feeds
 returns-in-Some-clause-feeds c =
     IfOk-weaker c.feed_next.result _ _ (λ b goes. feeds_some c.args.session.now _ c.feed_next.new.feeder c.args.piece.now b c.in-Some.is
-        goes)
+    goes)
     c.feed_next.ensures.goes
 
 pub returns-in-Some-clause-read : goal.returns-in-Some-clause-read
 returns-in-Some-clause-read c =
     read_fed c.feed_next.result _ c.feed_next.new.feeder c.args.piece.now (is_read c.args.session.now _ c.in-Some.is c.requires)
-        c.feed_next.ensures.goes
+    c.feed_next.ensures.goes
     c.feed_next.ensures.memory
 
 pub returns-in-Some-clause-stays : goal.returns-in-Some-clause-stays

@@ -37,9 +37,9 @@ returns-then-n-eq0-clause-goes g c = λ cfg start past st.
       end-goes c.readers_hold.ensures cfg start _ (g.D.Dock.held c.read.new.self) (g.D.Dock.faults c.read.new.self) past _ _ None
           (c.in-Ok-Some.ensures.cause.kept refl) (some_there _ c.requires.there) refl st
           (reads-makes _ _ (Some c.in-Ok-Some.n) c.read.new.buf End (λ a b r. read-end a b c.in-Ok-Some.n c.read.new.buf room
-              c.if-n-eq0.true r) gives.1)
+          c.if-n-eq0.true r) gives.1)
           (reads-found _ _ (Some c.in-Ok-Some.n) c.read.new.buf End (λ a b r. read-end a b c.in-Ok-Some.n c.read.new.buf room
-              c.if-n-eq0.true r) gives.1),
+          c.if-n-eq0.true r) gives.1),
     )
 
 pub returns-else-n-eq0-clause-goes : goal.returns-else-n-eq0-clause-goes

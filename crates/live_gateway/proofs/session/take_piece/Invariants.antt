@@ -10,12 +10,21 @@ abbrev pub invariant-loop-rest : goal.invariant-loop-rest
 invariant-loop-rest g l = record {
   goes : (c : Config) (start : Devices) (past : List Item)
       → Stands c start past l.piece
-      (record { inside = g.A.Wire.held l.initial.inside; outside = g.B.Wire.held l.initial.outside; dock = g.D.Dock.held l.initial.dock;
-          faults = g.D.Dock.faults l.initial.dock })
+      (record {
+        inside = g.A.Wire.held l.initial.inside;
+        outside = g.B.Wire.held l.initial.outside;
+        dock = g.D.Dock.held l.initial.dock;
+        faults = g.D.Dock.faults l.initial.dock;
+      })
       l.initial.node.gateway l.initial.node.session
       → (more : List Item) × AreTaken more × Stands c start (more ++ past) l.rest
-      (record { inside = g.A.Wire.held l.inside; outside = g.B.Wire.held l.outside; dock = g.D.Dock.held l.dock; faults =
-          g.D.Dock.faults l.dock })
+      (record {
+        inside = g.A.Wire.held l.inside;
+        outside = g.B.Wire.held l.outside;
+        dock = g.D.Dock.held l.dock;
+        faults =
+            g.D.Dock.faults l.dock;
+      })
       l.node.gateway l.node.session;
   later : g.D.Dock.faults l.initial.dock ≤ g.D.Dock.faults l.dock;
   may : MayWrite l.node.session (g.D.Dock.is_taken l.dock);

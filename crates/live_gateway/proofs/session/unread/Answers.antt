@@ -7,4 +7,4 @@ use Rattle.live_gateway.proofs.session.unread.Goals as goal
 pub returns-clause-written : goal.returns-clause-written
 returns-clause-written c =
     subst (λ e. IsWritableResponse (reply_message (refusal e))) (sym c.message_fault.ensures)
-        (c.replies_can_be_written.ensures.faults c.args.fault)
+    (c.replies_can_be_written.ensures.faults c.args.fault)

@@ -9,7 +9,7 @@ returns-in-Ok-NoneYet-clause-goes c =
 pub returns-in-Ok-Whole-clause-goes : goal.returns-in-Ok-Whole-clause-goes
 returns-in-Ok-Whole-clause-goes c =
     message-goes c.octets_amount_to_one_thing.ensures c.messages_are_whole.ensures.whole c.pieces_join.ensures c.args.feeder.now
-        c.feed.new.self
+    c.feed.new.self
     c.args.piece.now c.in-Ok-Whole.message c.in-Ok-Whole.taken c.requires c.in-Ok-Whole.ensures.kind
     (λ since is. rw c.in-Ok-Whole.field-0-is at (c.in-Ok-Whole.ensures.gives since is))
 

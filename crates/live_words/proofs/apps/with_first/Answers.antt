@@ -8,5 +8,5 @@ pub returns : goal.returns
 returns c =
     IfOk-weaker c.with_value-3.result _ _
     (λ d h. h ∙ ap (λ (a : App). with_option a (codes "turns")) (c.in_ok-command-2.ensures
-        ∙ ap (λ (a : App). with_option a (codes "seq-last")) c.in_ok-command.ensures))
+    ∙ ap (λ (a : App). with_option a (codes "seq-last")) c.in_ok-command.ensures))
     c.with_value-3.ensures

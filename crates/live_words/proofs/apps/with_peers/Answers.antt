@@ -11,4 +11,4 @@ returns c =
     rw (c.new-2.ensures.start, c.new-2.ensures.end) at (some-is _ _ c.num_args.ensures.1) in
     let rule : rule_of c.help-peers.result ≡ peers_rule = search (rules, range) in
     IfOk-weaker c.arg.result _ _ (λ d h. h.shape (search (rules, range)) ∙ ap (λ (r : Rule). with_rule (app_of c.args.command) r) rule)
-        c.arg.ensures
+    c.arg.ensures

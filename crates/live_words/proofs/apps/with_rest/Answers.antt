@@ -12,4 +12,4 @@ returns c =
     some-is _ _ c.num_args.ensures.1 in
     let rule : rule_of c.help-words.result ≡ rest_rule = search (rules, range) in
     IfOk-weaker c.arg.result _ _ (λ d h. h.shape (search (rules, range)) ∙ ap (λ (r : Rule). with_rule (app_of c.args.command) r) rule)
-        c.arg.ensures
+    c.arg.ensures

@@ -9,7 +9,7 @@ returns-then-piece-wanted-clause-step c =
 pub read_message-requires-clause-reads : goal.read_message-requires-clause-reads
 read_message-requires-clause-reads c =
     body_reads c.args.kind _ _ _ c.requires _ _ _ (c.deref.ensures.value ∙ c.in_ok-extend_from_slice-2.ensures.items)
-        c.split_at-2.ensures.front
+    c.split_at-2.ensures.front
 
 pub returns-clause-step : goal.returns-clause-step
 returns-clause-step c =

@@ -18,4 +18,4 @@ refused_answerable m can (Err failures.NoMemory) is = tt
 pub returns-clause-answerable : goal.returns-clause-answerable
 returns-clause-answerable c =
     refused_answerable c.args.m.now (c.refusals_can_be_answered.ensures.requests c.args.m.now) c.command_of_request.result
-        c.command_of_request.ensures.command
+    c.command_of_request.ensures.command

@@ -18,10 +18,10 @@ returns-clause-text c =
 pub returns-clause-looks : goal.returns-clause-looks
 returns-clause-looks c =
     let P : HttpMessage → Type 0 = λ m. IfOk c.write_request.result (λ text. (rest : List ℕ)
-        → Looks Request (text ++ rest) (Gives (request_again m) (length text))) in
+    → Looks Request (text ++ rest) (Gives (request_again m) (length text))) in
     subst P c.in_ok-message.ensures.message c.write_request.ensures.again
 
 pub returns-clause-again : goal.returns-clause-again
 returns-clause-again c =
     IfOk-weaker c.write_request.result _ _ (λ text is. command_requested c.args.c.now c.in_ok-message.ensures.reads)
-        c.write_request.ensures.text
+    c.write_request.ensures.text

@@ -8,4 +8,4 @@ pub returns : goal.returns
 returns c =
     let small = All-from_get_or IsByte c.args.name.now 0 (λ i within. omega (arith, c.type_inv.name i)) in
     rw (c.in_ok-append_to.ensures.ok, c.percent_encode.ensures.text)
-        (ap (λ t. string_bytes c.args.path.now ++ t) (text_same c.args.name.now small))
+    (ap (λ t. string_bytes c.args.path.now ++ t) (text_same c.args.name.now small))

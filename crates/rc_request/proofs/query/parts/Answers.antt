@@ -6,4 +6,4 @@ use Rattle.rc_request.proofs.query.parts.Goals as goal
 pub returns : goal.returns
 returns c = map_from_collect _ c.collect.ensures.ran
     (YieldsList-from_slice_split _ (λ x. x == 38) c.args.query.now c.split.ensures.rest c.split.ensures.done c.split.ensures.closure
-        (λ x b q k. search rules))
+    (λ x b q k. search rules))

@@ -45,5 +45,5 @@ pub returns-clause-bits : goal.returns-clause-bits
 returns-clause-bits c = λ k.
     let end : c.loop-block.block ≡ c.args.end = omega arith in
     c.loop-block.invariant.bits k
-        ∙ ap (λ e. not (is_block_word (length c.args.words.now) c.args.first (e - c.args.first) (k / 64 % length c.args.words.now))
-        && is_bit_set c.args.words.now k) end
+    ∙ ap (λ e. not (is_block_word (length c.args.words.now) c.args.first (e - c.args.first) (k / 64 % length c.args.words.now))
+    && is_bit_set c.args.words.now k) end

@@ -9,4 +9,4 @@ returns c =
     let i = c.args.i in
     let x = c.index_mut.result.now in
     ap (λ w. slice_set xs i (with_window w x)) c.mark.ensures ∙ ap (λ z. slice_set xs i (mark_number c.args.s z)) c.index_mut.ensures.value
-        ∙ changed-at (mark_number c.args.s) xs i x
+    ∙ changed-at (mark_number c.args.s) xs i x

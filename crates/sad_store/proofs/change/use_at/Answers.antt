@@ -9,4 +9,4 @@ returns-clause-halves c =
     let i = c.args.i in
     let x = c.index_mut.result.now in
     ap (λ l. slice_set xs i (with_life l x)) c.used.ensures.life ∙ ap (λ z. slice_set xs i (use_half c.args.bytes c.args.now z))
-        c.index_mut.ensures.value ∙ changed-at (use_half c.args.bytes c.args.now) xs i x
+    c.index_mut.ensures.value ∙ changed-at (use_half c.args.bytes c.args.now) xs i x

@@ -26,4 +26,4 @@ returns-then-seals_at c =
     let next : j + 1 ≡ i = omega arith in
     let within : j < length c.args.halves.now = omega arith in
     sym (newest-back c.args.reqid (seen c.args.v.now) c.args.halves.now i j true next within c.loop-i.invariant.rest (c.seals_at.ensures
-        ∙ ap Some c.if-seals_at.true))
+    ∙ ap Some c.if-seals_at.true))

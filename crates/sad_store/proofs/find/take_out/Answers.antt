@@ -9,7 +9,7 @@ returns-in-None-clause-found c =
     let name = c.args.name.now in
     let place : c.place_of.result ≡ position (is_half_named name) c.args.halves.now.items =
     c.place_of.ensures ∙ (ap (λ n. position (is_half_named n) c.deref.result.now) c.as_slice.ensures
-        ∙ ap (position (is_half_named name)) c.deref.ensures.value) in
+    ∙ ap (position (is_half_named name)) c.deref.ensures.value) in
     sym (none-there (is_half_named name) c.args.halves.now.items (sym place ∙ c.in-None.is))
 
 pub returns-in-None-clause-halves : goal.returns-in-None-clause-halves
@@ -17,7 +17,7 @@ returns-in-None-clause-halves c =
     let name = c.args.name.now in
     let place : c.place_of.result ≡ position (is_half_named name) c.args.halves.now.items =
     c.place_of.ensures ∙ (ap (λ n. position (is_half_named n) c.deref.result.now) c.as_slice.ensures
-        ∙ ap (position (is_half_named name)) c.deref.ensures.value) in
+    ∙ ap (position (is_half_named name)) c.deref.ensures.value) in
     sym (without-absent name c.args.halves.now.items (none-there (is_half_named name) c.args.halves.now.items (sym place ∙ c.in-None.is)))
 
 pub returns-in-Some-clause-stored : goal.returns-in-Some-clause-stored
@@ -26,7 +26,7 @@ returns-in-Some-clause-stored c =
     let xs = c.args.halves.now.items in
     let place : c.place_of.result ≡ position (is_half_named name) c.args.halves.now.items =
     c.place_of.ensures ∙ (ap (λ n. position (is_half_named n) c.deref.result.now) c.as_slice.ensures
-        ∙ ap (position (is_half_named name)) c.deref.ensures.value) in
+    ∙ ap (position (is_half_named name)) c.deref.ensures.value) in
     let gone = removed-there name xs c.in-Some.i c.requires.stored.kept.apart (sym place ∙ c.in-Some.is) in
     rw (c.remove-gone.ensures.items, gone)
     (stored-without name xs c.args.spis.now c.args.reqids.now c.remove.new.self c.remove-in-Some.new.self c.in-Some.i c.requires.stored gone
@@ -37,7 +37,7 @@ returns-in-Some-clause-found c =
     let name = c.args.name.now in
     let place : c.place_of.result ≡ position (is_half_named name) c.args.halves.now.items =
     c.place_of.ensures ∙ (ap (λ n. position (is_half_named n) c.deref.result.now) c.as_slice.ensures
-        ∙ ap (position (is_half_named name)) c.deref.ensures.value) in
+    ∙ ap (position (is_half_named name)) c.deref.ensures.value) in
     sym (some-there (is_half_named name) c.args.halves.now.items c.in-Some.i (sym place ∙ c.in-Some.is)).0
 
 pub returns-in-Some-clause-halves : goal.returns-in-Some-clause-halves
@@ -45,6 +45,6 @@ returns-in-Some-clause-halves c =
     let name = c.args.name.now in
     let place : c.place_of.result ≡ position (is_half_named name) c.args.halves.now.items =
     c.place_of.ensures ∙ (ap (λ n. position (is_half_named n) c.deref.result.now) c.as_slice.ensures
-        ∙ ap (position (is_half_named name)) c.deref.ensures.value) in
+    ∙ ap (position (is_half_named name)) c.deref.ensures.value) in
     c.remove-gone.ensures.items ∙ removed-there name c.args.halves.now.items c.in-Some.i c.requires.stored.kept.apart (sym place
-        ∙ c.in-Some.is)
+    ∙ c.in-Some.is)

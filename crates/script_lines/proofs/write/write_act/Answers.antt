@@ -6,4 +6,4 @@ use Rattle.script_lines.proofs.write.write_act.Goals as goal
 pub returns-clause-again : goal.returns-clause-again
 returns-clause-again c = λ gateways spelled under.
     IfOk-weaker c.act_line.result _ _ (λ text is. ap (act_of gateways) is ∙ c.act_read_again.ensures gateways c.args.a.now spelled under
-        c.act_fits.ensures) c.act_line.ensures
+    c.act_fits.ensures) c.act_line.ensures

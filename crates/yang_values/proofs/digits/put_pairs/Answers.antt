@@ -11,7 +11,7 @@ returns-in_err-push c =
     let xs = c.args.octets.now in
     adds-refused _ _ _ _ c.from_residual.ensures.0
     (front-whole _ _ _ (flat_map f (take c.loop-octet.octet-index xs)) _ (each_before f xs c.loop-octet.octet-index)
-        (c.in_err-push.ensures.items ∙ c.loop-octet.invariant))
+    (c.in_err-push.ensures.items ∙ c.loop-octet.invariant))
 
 pub returns-in_err-put_digits : goal.returns-in_err-put_digits
 returns-in_err-put_digits c =
@@ -22,6 +22,6 @@ returns-in_err-put_digits c =
     let tail = flat_map f (drop (suc i) xs) in
     adds-refused _ _ _ _ c.from_residual-in_err-put_digits.ensures.0
     (front-then _ _ _ c.push.new.self.items (front ++ 58 ∷ []) (pair_text (get_or xs i 0) ++ tail)
-        (each_behind 58 pair_text xs i c.loop-octet-test.true)
+    (each_behind 58 pair_text xs i c.loop-octet-test.true)
     (c.in_ok-push.ensures.items ∙ ap (λ y. y ++ 58 ∷ []) c.loop-octet.invariant ∙ append_assoc c.args.out.now.items front (58 ∷ []))
     (front-first _ _ _ (pair_text (get_or xs i 0)) tail refl c.in_err-put_digits.ensures))

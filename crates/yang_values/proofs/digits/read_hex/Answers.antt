@@ -16,7 +16,7 @@ pub returns-in_default-pair : goal.returns-in_default-pair
 returns-in_default-pair c =
     hex_of_parts _ _ c.if-is_empty.ensures
     (next_none is_colon pair_of _ _ _ _ _ (option_copied c.first_part.result.1) c.loop-rest.invariant (ap option_copied c.in-Some.is)
-        c.first_part.ensures.value (sym c.in_default-pair.ensures))
+    c.first_part.ensures.value (sym c.in_default-pair.ensures))
 
 pub loop-rest-preserved : goal.loop-rest-preserved
 loop-rest-preserved c =
@@ -24,7 +24,7 @@ loop-rest-preserved c =
     c.push.ensures.items ∙ rw c.if-is_err.ensures.negation refl in
     rw pushed
     (next_value is_colon pair_of _ _ _ _ _ (option_copied c.first_part.result.1) _ c.loop-rest.invariant (ap option_copied c.in-Some.is)
-        c.first_part.ensures.value (sym c.in-Some-pair.ensures))
+    c.first_part.ensures.value (sym c.in-Some-pair.ensures))
 
 pub returns : goal.returns
 returns c =

@@ -11,14 +11,14 @@ overflow_mul-n c =
 pub overflow_add-n : goal.overflow_add-n
 overflow_add-n c =
     let small = shift_small c.loop-c.c-index c.loop-c.n c.from.result (omega arith) c.loop-c.invariant.small
-        (omega (arith, c.from.ensures, c.digit.ensures.small)) in
+    (omega (arith, c.from.ensures, c.digit.ensures.small)) in
     omega (arith, small)
 
 pub loop-c-preserved : goal.loop-c-preserved
 loop-c-preserved c =
     let more = digits_value_more 16 c.args.t.now c.loop-c.c-index c.loop-c-test.true in
     let small = shift_small c.loop-c.c-index c.loop-c.n c.from.result (omega arith) c.loop-c.invariant.small
-        (omega (arith, c.from.ensures, c.digit.ensures.small)) in
+    (omega (arith, c.from.ensures, c.digit.ensures.small)) in
     record {
       value = omega (arith, more, c.from.ensures, c.digit.ensures.value);
       small = small.1;

@@ -10,10 +10,10 @@ pub returns : goal.returns
 returns c = elim c.if-o-lt1.branch [
   | in_default w ↦
       c.from_items.ensures ∙ ap (λ v. v.items) w.out-is ∙ c.new-out.ensures.items
-          ∙ joined_none 58 pair_text c.args.o.now w.in_default.len_below
+      ∙ joined_none 58 pair_text c.args.o.now w.in_default.len_below
   | in-len1-up+in_ok-put_digits+in_ok-put_pairs w ↦
       c.from_items.ensures ∙ ap (λ v. v.items) w.out-is
       ∙ joined_end 58 pair_text c.args.o.now _ _ _ _ w.in-len1-up.len_at_least (take_rest c.args.o.now 1) w.in_ok-put_digits.ensures
-          w.in_ok-put_pairs.ensures
+      w.in_ok-put_pairs.ensures
       ∙ ap (λ start. start ++ join_with_byte 58 (map pair_text c.args.o.now)) c.new-out.ensures.items
 ]

@@ -17,22 +17,22 @@ returns-in-empty-clause-length t c = longest_run-empty _ c.in-empty.len_below
 pub returns-then-here-length-clause-place : goal.returns-then-here-length-clause-place
 returns-then-here-length-clause-place t c =
     first_run-here _ c.in-len1-up.len_at_least
-        (omega (arith, tail c.args.groups.now, c.longest-place.ensures.length, c.zeros-here.ensures.value))
+    (omega (arith, tail c.args.groups.now, c.longest-place.ensures.length, c.zeros-here.ensures.value))
 
 pub returns-then-here-length-clause-length : goal.returns-then-here-length-clause-length
 returns-then-here-length-clause-length t c =
     c.zeros-here.ensures.value
     ∙ longest_run-here _ c.in-len1-up.len_at_least
-        (omega (arith, tail c.args.groups.now, c.longest-place.ensures.length, c.zeros-here.ensures.value))
+    (omega (arith, tail c.args.groups.now, c.longest-place.ensures.length, c.zeros-here.ensures.value))
 
 pub returns-else-here-length-clause-place : goal.returns-else-here-length-clause-place
 returns-else-here-length-clause-place t c =
     ap (λ k. k + 1) (c.longest-place.ensures.place ∙ ap (λ r. first_run (longest_run r) r) (take_rest c.args.groups.now 1))
     ∙ first_run-later _ c.in-len1-up.len_at_least
-        (omega (arith, tail c.args.groups.now, c.longest-place.ensures.length, c.zeros-here.ensures.value))
+    (omega (arith, tail c.args.groups.now, c.longest-place.ensures.length, c.zeros-here.ensures.value))
 
 pub returns-else-here-length-clause-length : goal.returns-else-here-length-clause-length
 returns-else-here-length-clause-length t c =
     c.longest-place.ensures.length ∙ tail c.args.groups.now
     ∙ longest_run-later _ c.in-len1-up.len_at_least
-        (omega (arith, tail c.args.groups.now, c.longest-place.ensures.length, c.zeros-here.ensures.value))
+    (omega (arith, tail c.args.groups.now, c.longest-place.ensures.length, c.zeros-here.ensures.value))

@@ -20,13 +20,13 @@ pub returns-in_err-put_group : goal.returns-in_err-put_group
 returns-in_err-put_group t c =
     adds-refused _ _ _ _ c.from_residual.ensures.0
     (front-first _ _ _ (digits 16 false (c.args.group / 16)) (digit_glyph false (c.args.group % 16) ∷ [])
-        (hex_step c.args.group c.if-group-ge16.true (omega arith)) c.in_err-put_group.ensures)
+    (hex_step c.args.group c.if-group-ge16.true (omega arith)) c.in_err-put_group.ensures)
 
 pub returns-in_err-push : goal.returns-in_err-push
 returns-in_err-push t c = adds-refused _ _ _ _ c.from_residual-in_err-push.ensures.0 (elim c.if-group-ge16.branch [
   | then-group-ge16+in_ok-put_group w ↦
       front-whole _ _ _ (digits 16 false (c.args.group / 16)) (digit_glyph false (c.args.group % 16) ∷ [])
-          (hex_step c.args.group w.if-group-ge16.true (omega arith))
+      (hex_step c.args.group w.if-group-ge16.true (omega arith))
       (c.in_err-push.ensures.items ∙ ap (λ v. v.items) w.out-is ∙ w.in_ok-put_group.ensures)
   | else-group-ge16 w ↦ front-none _ _ _ (c.in_err-push.ensures.items ∙ ap (λ v. v.items) w.out-is)
 ])

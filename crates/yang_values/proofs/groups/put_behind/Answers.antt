@@ -11,7 +11,7 @@ returns-in_err-push c =
     let xs = c.args.groups.now in
     adds-refused _ _ _ _ c.from_residual.ensures.0
     (front-whole _ _ _ (flat_map f (take c.loop-group.group-index xs)) _ (each_before f xs c.loop-group.group-index)
-        (c.in_err-push.ensures.items ∙ c.loop-group.invariant))
+    (c.in_err-push.ensures.items ∙ c.loop-group.invariant))
 
 pub returns-in_err-put_group : goal.returns-in_err-put_group
 returns-in_err-put_group c =
@@ -22,6 +22,6 @@ returns-in_err-put_group c =
     let tail = flat_map f (drop (suc i) xs) in
     adds-refused _ _ _ _ c.from_residual-in_err-put_group.ensures.0
     (front-then _ _ _ c.push.new.self.items (front ++ 58 ∷ []) (group_text (get_or xs i 0) ++ tail)
-        (each_behind 58 group_text xs i c.loop-group-test.true)
+    (each_behind 58 group_text xs i c.loop-group-test.true)
     (c.in_ok-push.ensures.items ∙ ap (λ y. y ++ 58 ∷ []) c.loop-group.invariant ∙ append_assoc c.args.out.now.items front (58 ∷ []))
     (front-first _ _ _ (group_text (get_or xs i 0)) tail refl c.in_err-put_group.ensures))

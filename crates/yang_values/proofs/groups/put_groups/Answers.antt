@@ -10,7 +10,7 @@ returns c =
     let place = c.longest-place.result.0 in
     let n = c.longest-place.result.1 in
     adds-then _ _ _ _ c.extend_from_slice.new.self.items (joined (take place groups) ++ 58 ∷ 58 ∷ [])
-        (joined (take (8 - (place + n)) (drop (place + n) groups)))
+    (joined (take (8 - (place + n)) (drop (place + n) groups)))
     (ap groups_text (sym c.to_groups-groups.ensures)
     ∙ shortened_text groups place n (omega arith) c.longest-place.ensures.place c.longest-place.ensures.length c.if-length-lt2.false)
     (c.in_ok-extend_from_slice.ensures.items ∙ ap (λ x. x ++ 58 ∷ 58 ∷ []) c.in_ok-put_joined.ensures

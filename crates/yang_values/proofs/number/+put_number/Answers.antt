@@ -18,7 +18,7 @@ pub returns-in_err-put_number : goal.returns-in_err-put_number
 returns-in_err-put_number t c =
     adds-refused _ _ _ _ c.from_residual.ensures.0
     (front-first _ _ _ (decimal (c.args.n / 10)) ((48 + c.args.n % 10) ∷ []) (decimal_step c.args.n c.if-n-ge10.true (omega arith))
-        c.in_err-put_number.ensures)
+    c.in_err-put_number.ensures)
 
 pub returns-in_err-push : goal.returns-in_err-push
 returns-in_err-push t c = adds-refused _ _ _ _ c.from_residual-in_err-push.ensures.0 (elim c.if-n-ge10.branch [

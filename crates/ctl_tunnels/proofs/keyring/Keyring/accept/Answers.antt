@@ -9,9 +9,9 @@ pub returns-clause-ok : goal.returns-clause-ok
 returns-clause-ok c =
     let part = c.in_ok-aes.ensures.items ∙ c.aes_key.ensures in
     let none = absent (λ v. v.items) salt_octets (λ _. refl) c.args.key.now c.in_ok-aes.aes.items part c.self.inside.salts.entries
-        c.args.self.now c.self.view_is c.requires in
+    c.args.self.now c.self.view_is c.requires in
     one-more (λ v. v.items) salt_octets c.self.inside.salts.entries c.insert.new.self.entries c.in_ok-aes.aes c.salt_of.result
-        c.args.key.now c.args.self.now c.self.view_is
+    c.args.key.now c.args.self.now c.self.view_is
     (c.in_ok-insert.ensures.entries ∙ insert_entry-new _ c.self.inside.salts c.in_ok-aes.aes c.salt_of.result none)
     (ap (λ x. x ++ salt_octets c.salt_of.result) part ∙ ap (λ x. take (length c.args.key.now - 4) c.args.key.now ++ x) c.salt_of.ensures
-        ∙ take-append-drop (length c.args.key.now - 4) c.args.key.now)
+    ∙ take-append-drop (length c.args.key.now - 4) c.args.key.now)

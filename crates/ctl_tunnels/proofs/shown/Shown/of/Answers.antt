@@ -9,9 +9,9 @@ loop-name-preserved c = (
   λ n. one-name-more (λ x. names_in (half_named x) n) c.args.names.now c.loop-name.name-index c.name-item.result
       (contains nat_eq c.loop-name.shown.inbound n) _ (omega arith) c.name-item.is (c.loop-name.invariant.0 n)
       (c.in_ok-add.ensures.inbound n ∙ ap (λ y. contains nat_eq c.loop-name.shown.inbound n || names_in (half_named y) n)
-          c.as_slice.ensures),
+      c.as_slice.ensures),
   λ n. one-name-more (λ x. names_out (half_named x) n) c.args.names.now c.loop-name.name-index c.name-item.result
       (contains nat_eq c.loop-name.shown.outbound n) _ (omega arith) c.name-item.is (c.loop-name.invariant.1 n)
       (c.in_ok-add.ensures.outbound n ∙ ap (λ y. contains nat_eq c.loop-name.shown.outbound n || names_out (half_named y) n)
-          c.as_slice.ensures),
+      c.as_slice.ensures),
 )

@@ -10,4 +10,4 @@ returns-clause-within c =
     let spi = c.args.spi in
     let place = c.by_spi.ensures.place ∙ ap (λ (k : Kept). position (is_half_of_spi spi) k.halves) c.self.view_is in
     if-some c.by_spi.result (length c.args.self.now.halves) (λ i at. some-within (is_half_of_spi spi) c.args.self.now.halves i (sym place
-        ∙ at))
+    ∙ at))

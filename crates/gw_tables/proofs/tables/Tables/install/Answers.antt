@@ -8,7 +8,7 @@ pub invariant_of-self-then-not-is_in : goal.invariant_of-self-then-not-is_in
 invariant_of-self-then-not-is_in c = (
   sound-else c.unstand.new.names.items c.self.inside.clock
       (sound-installed c.self.inside.clock c.args.e c.install.new.self c.in-Ok.ensures.ok c.requires.sound
-          (ap (λ (k : Kept). install_fault c.args.e k.halves) c.self.view_is ∙ c.requires.free) c.self.invariant.0),
+      (ap (λ (k : Kept). install_fault c.args.e k.halves) c.self.view_is ∙ c.requires.free) c.self.invariant.0),
   c.self.invariant.1,
 )
 

@@ -10,4 +10,4 @@ returns-clause-within c =
     let v = seen c.args.v.now in
     let place = c.pick_out.ensures.place ∙ ap (λ (k : Kept). newest_place c.args.reqid v k.halves) c.self.view_is in
     if-some c.pick_out.result (length c.args.self.now.halves) (λ i at. newest-within c.args.reqid v c.args.self.now.halves i (sym place
-        ∙ at))
+    ∙ at))

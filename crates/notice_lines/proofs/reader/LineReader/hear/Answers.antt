@@ -16,11 +16,13 @@ returns-in-Ok c =
     let count = ap length kept in
     let front : line_end c.args.self.now.kept ≡ None = ap line_end kept ∙ c.self.invariant.0 in
     let line : c.deref.result.now ++ take c.args.end c.args.piece.now ≡ c.args.self.now.kept ++ take c.args.end c.args.piece.now =
-        ap (λ l. l ++ take c.args.end c.args.piece.now) (c.deref.ensures.value ∙ sym kept) in
+    ap (λ l. l ++ take c.args.end c.args.piece.now) (c.deref.ensures.value ∙ sym kept) in
     let none : c.self.inside.fault ≡ None = sym fault ∙ c.requires.fresh in
-    let empty = c.clear.ensures.items in
-    (hears c.args.self.now c.args.piece.now _ c.args.end c.in-Ok.notice front c.requires.line (omega (arith, count)) line
-        c.in-Ok.ensures.notice, cc)
+    let empty = c.clear.ensures.items in (
+      hears c.args.self.now c.args.piece.now _ c.args.end c.in-Ok.notice front c.requires.line (omega (arith, count)) line
+          c.in-Ok.ensures.notice,
+      cc,
+    )
 
 pub returns-in-Err-Refused : goal.returns-in-Err-Refused
 returns-in-Err-Refused c =
@@ -28,10 +30,12 @@ returns-in-Err-Refused c =
     let count = ap length kept in
     let front : line_end c.args.self.now.kept ≡ None = ap line_end kept ∙ c.self.invariant.0 in
     let line : c.deref.result.now ++ take c.args.end c.args.piece.now ≡ c.args.self.now.kept ++ take c.args.end c.args.piece.now =
-        ap (λ l. l ++ take c.args.end c.args.piece.now) (c.deref.ensures.value ∙ sym kept) in
-    let P : OrMemory NoticeFault → Type 0 = λ e. IsNoneOrMemory e (c.deref.result.now ++ take c.args.end c.args.piece.now) in
-    (no_notice c.in-Err-Refused.fault c.args.self.now.kept c.args.piece.now _ c.args.end front c.requires.line (omega (arith, count)) line
-        (subst P c.in-Err-Refused.field-0-is c.in-Err-Refused.ensures.fault), refl)
+    ap (λ l. l ++ take c.args.end c.args.piece.now) (c.deref.ensures.value ∙ sym kept) in
+    let P : OrMemory NoticeFault → Type 0 = λ e. IsNoneOrMemory e (c.deref.result.now ++ take c.args.end c.args.piece.now) in (
+      no_notice c.in-Err-Refused.fault c.args.self.now.kept c.args.piece.now _ c.args.end front c.requires.line (omega (arith, count)) line
+          (subst P c.in-Err-Refused.field-0-is c.in-Err-Refused.ensures.fault),
+      refl,
+    )
 
 pub returns-then-end-room : goal.returns-then-end-room
 returns-then-end-room c =

@@ -12,7 +12,7 @@ returns c =
     let new = c.mark_bit.new.words in
     let with_inside : List ℕ → Marks = λ inside. record { size = w.size; top = max w.top s; inside = inside } in
     let held = subst (λ (ws : List ℕ). (k : ℕ) → max w.top s < k + 64 * (length ws - 1)
-        → is_held new (max w.top s) k ≡ ((s == k) || is_held ws w.top k)) c.deref_mut.ensures.value c.mark_bit.ensures.held in
+    → is_held new (max w.top s) k ≡ ((s == k) || is_held ws w.top k)) c.deref_mut.ensures.value c.mark_bit.ensures.held in
     let room = c.self.invariant.room in
     let size : length new ≡ w.words.len = c.mark_bit.ensures.length ∙ (ap length c.deref_mut.ensures.value ∙ sym w.words.ok.0) in
     ap (view_of w.size c.max-self-inside.result) (with_items_is w.words new size)

@@ -8,4 +8,4 @@ pub invariant_of-self : goal.invariant_of-self
 invariant_of-self c =
     let s = c.self.inside in
     stored-same s.halves.items c.tell_overflow.new.halves.items s.spis s.reqids (ap entries_of c.tell_overflow.ensures.halves
-        ∙ changed-entries (with_overflow true) (λ x. refl) c.args.i s.halves.items) c.self.invariant
+    ∙ changed-entries (with_overflow true) (λ x. refl) c.args.i s.halves.items) c.self.invariant

@@ -10,4 +10,4 @@ returns-clause-half c =
     let r = c.args.reqid in
     let v = seen c.args.v.now in
     ap (λ place. option_and_then (slice_get xs) place) (c.newest_of.ensures
-        ∙ ap (newest_place r v) (c.deref.ensures.value ∙ c.self.view_is)) ∙ newest-there r v xs
+    ∙ ap (newest_place r v) (c.deref.ensures.value ∙ c.self.view_is)) ∙ newest-there r v xs

@@ -8,4 +8,4 @@ pub invariant_of-self : goal.invariant_of-self
 invariant_of-self c =
     let s = c.self.inside in
     stored-same s.halves.items c.hush.new.halves.items s.spis s.reqids (ap entries_of c.hush.ensures
-        ∙ mapped-entries hushed (λ x. refl) s.halves.items) c.self.invariant
+    ∙ mapped-entries hushed (λ x. refl) s.halves.items) c.self.invariant

@@ -8,4 +8,4 @@ pub invariant_of-self : goal.invariant_of-self
 invariant_of-self c =
     let s = c.self.inside in
     stored-same s.halves.items c.tick_at.new.halves.items s.spis s.reqids (ap entries_of c.tick_at.ensures.halves
-        ∙ changed-entries (look_at c.args.now) (λ x. refl) c.args.i s.halves.items) c.self.invariant
+    ∙ changed-entries (look_at c.args.now) (λ x. refl) c.args.i s.halves.items) c.self.invariant

@@ -8,4 +8,4 @@ pub invariant_of-self : goal.invariant_of-self
 invariant_of-self c =
     let s = c.self.inside in
     stored-same s.halves.items c.use_at.new.halves.items s.spis s.reqids (ap entries_of c.use_at.ensures.halves
-        ∙ changed-entries (use_half c.args.bytes c.args.now) (λ x. refl) c.args.i s.halves.items) c.self.invariant
+    ∙ changed-entries (use_half c.args.bytes c.args.now) (λ x. refl) c.args.i s.halves.items) c.self.invariant

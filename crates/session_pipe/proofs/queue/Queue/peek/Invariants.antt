@@ -9,4 +9,4 @@ invariant-loop-message l =
     (goal.iterator-loop-message).is_finite l.message-iterator ×
     (length l.octets.items ≤ l.k) ×
     (take l.k (l.octets.items ++ flat_map (λ message. message) (deque_iter_rest l.message-iterator)) ≡ take l.k
-        (flat_map (λ message. message) l.fn.self))
+    (flat_map (λ message. message) l.fn.self))
