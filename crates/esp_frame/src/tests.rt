@@ -30,7 +30,7 @@ const SEALED: [u8; 88] = [
 ];
 
 #[test]
-fn worked_octets(rt: HostRuntime) {
+fn worked_octets_are_sealed_and_opened(rt: HostRuntime) {
     let key = SealKey::of(257, &KEY);
     let mut esp = [0u8; 88];
     assert_eq!(rt; seal(&key, 1, 41, &PACKET, &mut esp), 88);
@@ -45,7 +45,7 @@ fn worked_octets(rt: HostRuntime) {
 }
 
 #[test]
-fn worked_fields(rt: HostRuntime) {
+fn worked_octets_have_their_fields(rt: HostRuntime) {
     match fields(&SEALED) {
         Ok(f) => {
             assert_eq!(rt; f.spi, 257);
@@ -61,7 +61,7 @@ fn worked_fields(rt: HostRuntime) {
 
 // A long key: the test cases for AES-GCM in ESP (draft-mcgrew-gcm-test) have this packet of 48 octets.
 #[test]
-fn long_key(rt: HostRuntime) {
+fn a_key_of_256_bits_opens_a_published_packet(rt: HostRuntime) {
     let material = [
         0xab, 0xbc, 0xcd, 0xde, 0xf0, 0x01, 0x12, 0x23, 0x34, 0x45, 0x56, 0x67, 0x78, 0x89, 0x9a,
         0xab, 0xab, 0xbc, 0xcd, 0xde, 0xf0, 0x01, 0x12, 0x23, 0x34, 0x45, 0x56, 0x67, 0x78, 0x89,
@@ -95,7 +95,7 @@ fn long_key(rt: HostRuntime) {
 }
 
 #[test]
-fn lengths(rt: HostRuntime) {
+fn sealed_lengths_are_a_multiple_of_four(rt: HostRuntime) {
     assert_eq!(rt; esp_len(20), 56);
     assert_eq!(rt; esp_len(21), 56);
     assert_eq!(rt; esp_len(22), 56);
@@ -116,7 +116,7 @@ fn trailer(rt: &impl Abort, len: usize, expected: &[u8])
 }
 
 #[test]
-fn trailers(rt: HostRuntime) {
+fn trailers_pad_to_a_multiple_of_four(rt: HostRuntime) {
     trailer(&rt, 20, &[1, 2, 2, 4]);
     trailer(&rt, 21, &[1, 1, 4]);
     trailer(&rt, 22, &[0, 4]);
@@ -144,7 +144,7 @@ fn round_trip(rt: &impl Abort, key: &SealKey, len: usize)
 }
 
 #[test]
-fn every_length(rt: HostRuntime) {
+fn every_length_is_opened_again(rt: HostRuntime) {
     let key = SealKey::of(4294967295, &KEY);
     for len in 0..201usize {
         round_trip(&rt, &key, len);
@@ -162,7 +162,7 @@ fn refused(rt: &impl Abort, key: &SealKey, esp: &mut [u8], fault: OpenFault)
 }
 
 #[test]
-fn every_cut(rt: HostRuntime) {
+fn octets_cut_anywhere_are_refused(rt: HostRuntime) {
     let key = SealKey::of(257, &KEY);
     let mut esp = SEALED;
     for len in 0..34usize {
@@ -174,7 +174,7 @@ fn every_cut(rt: HostRuntime) {
 }
 
 #[test]
-fn every_changed_bit(rt: HostRuntime) {
+fn each_changed_bit_is_refused(rt: HostRuntime) {
     let key = SealKey::of(257, &KEY);
     let mut esp = SEALED;
     for i in 0..88usize {
@@ -189,7 +189,7 @@ fn every_changed_bit(rt: HostRuntime) {
 
 // These three were sealed by another program.
 #[test]
-fn too_long_padding(rt: HostRuntime) {
+fn padding_longer_than_the_text_is_refused(rt: HostRuntime) {
     let key = SealKey::of(257, &KEY);
     let mut esp = [
         0x00, 0x00, 0x01, 0x01, 0x00, 0x00, 0x00, 0x01, 0x00, 0x00, 0x00, 0x00, 0x00, 0x00, 0x00,
@@ -202,7 +202,7 @@ fn too_long_padding(rt: HostRuntime) {
 }
 
 #[test]
-fn wrong_padding(rt: HostRuntime) {
+fn padding_other_than_1_2_3_is_refused(rt: HostRuntime) {
     let key = SealKey::of(257, &KEY);
     let mut esp = [
         0x00, 0x00, 0x01, 0x01, 0x00, 0x00, 0x00, 0x01, 0x00, 0x00, 0x00, 0x00, 0x00, 0x00, 0x00,

@@ -89,7 +89,7 @@ fn tried<'a>(
 }
 
 #[test]
-fn requests(rt: HostRuntime) -> Result<(), Fail> {
+fn requests_are_whole_or_refused_for_a_reason(rt: HostRuntime) -> Result<(), Fail> {
     let alloc = rt.alloc();
     for row in REQUESTS.lines() {
         let (said, want) = tried(alloc, Feeder::requests(alloc), row)?;
@@ -119,7 +119,7 @@ HTTP/1.1 200 OK~Transfer-Encoding: chunked~~|chunked\n\
 ";
 
 #[test]
-fn responses(rt: HostRuntime) -> Result<(), Fail> {
+fn responses_are_whole_or_refused_for_a_reason(rt: HostRuntime) -> Result<(), Fail> {
     let alloc = rt.alloc();
     for row in RESPONSES.lines() {
         let (said, want) = tried(alloc, Feeder::responses(alloc), row)?;

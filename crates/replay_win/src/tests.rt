@@ -48,7 +48,7 @@ fn keeps_all_numbers_that_it_spans(rt: HostRuntime) -> Result<(), Fail> {
 
 // A jump ahead, over words of the bitmap and over all of it, keeps what the window still spans and nothing else.
 #[test]
-fn jumps_ahead(rt: HostRuntime) -> Result<(), Fail> {
+fn a_jump_ahead_keeps_what_the_window_spans(rt: HostRuntime) -> Result<(), Fail> {
     let mut window = Window::new(rt.alloc(), 130).map_err(|_| "no memory")?;
     for s in [63, 64, 65, 190, 192, 255, 319] {
         assert_eq!(rt; window.judge(s), Verdict::Fresh, "{s}");

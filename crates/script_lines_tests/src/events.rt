@@ -200,7 +200,7 @@ fn said(alloc: Global, line: &[u8]) -> &'static str {
 }
 
 #[test]
-fn events(rt: HostRuntime) {
+fn events_are_read_or_refused_for_a_reason(rt: HostRuntime) {
     for line in EVENTS.lines() {
         let (text, want) = row(line);
         assert!(rt; said(rt.alloc(), text.as_bytes()) == want, "{text}");

@@ -46,7 +46,7 @@ fn said(alloc: Global, line: &str) -> &'static str {
 }
 
 #[test]
-fn headers(rt: HostRuntime) {
+fn headers_are_read_or_refused_for_a_reason(rt: HostRuntime) {
     for line in HEADERS.lines() {
         let (text, want) = row(line);
         assert!(rt; said(rt.alloc(), text) == want, "{text}");

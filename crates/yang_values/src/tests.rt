@@ -260,7 +260,7 @@ A75B:A838:F:344:0::0:0|a75b:a838:f:344::\n\
 ";
 
 #[test]
-fn numbers(rt: HostRuntime) {
+fn numbers_are_read_and_written_again(rt: HostRuntime) {
     for line in NUMBERS.lines() {
         let (text, want) = row(line);
         is_text(&rt, u64_again(rt.alloc(), text), text, want);
@@ -268,7 +268,7 @@ fn numbers(rt: HostRuntime) {
 }
 
 #[test]
-fn limited_numbers(rt: HostRuntime) {
+fn a_number_above_its_limit_is_refused(rt: HostRuntime) {
     assert!(rt; read_number(b"255", 255) == Ok(255));
     assert!(rt; read_number(b"256", 255) == Err(BadValue::Range));
     assert!(rt; read_number(b"0256", 255) == Err(BadValue::Form));
@@ -276,14 +276,14 @@ fn limited_numbers(rt: HostRuntime) {
 }
 
 #[test]
-fn ports(rt: HostRuntime) {
+fn a_port_has_at_most_16_bits(rt: HostRuntime) {
     assert!(rt; read_port(0) == Ok(0));
     assert!(rt; read_port(65535) == Ok(65535));
     assert!(rt; read_port(65536) == Err(BadValue::Range));
 }
 
 #[test]
-fn hex_strings(rt: HostRuntime) {
+fn hex_strings_are_read_and_written_again(rt: HostRuntime) {
     for line in HEX.lines() {
         let (text, want) = row(line);
         is_text(&rt, hex_again(rt.alloc(), text), text, want);
@@ -291,7 +291,7 @@ fn hex_strings(rt: HostRuntime) {
 }
 
 #[test]
-fn digits(rt: HostRuntime) {
+fn digits_are_read_and_written_again(rt: HostRuntime) {
     for line in DIGITS.lines() {
         let (text, want) = row(line);
         is_text(&rt, digits_again(rt.alloc(), text), text, want);
@@ -300,7 +300,7 @@ fn digits(rt: HostRuntime) {
 
 // What they are read and written as was computed by another program.
 #[test]
-fn addresses(rt: HostRuntime) {
+fn addresses_are_read_and_written_again(rt: HostRuntime) {
     for line in ADDRESSES.lines() {
         let (text, want) = row(line);
         is_text(&rt, address_again(rt.alloc(), text), text, want);
@@ -308,7 +308,7 @@ fn addresses(rt: HostRuntime) {
 }
 
 #[test]
-fn prefixes(rt: HostRuntime) {
+fn prefixes_are_read_and_written_again(rt: HostRuntime) {
     for line in PREFIXES.lines() {
         let (text, want) = row(line);
         is_text(&rt, prefix_again(rt.alloc(), text), text, want);
@@ -317,7 +317,7 @@ fn prefixes(rt: HostRuntime) {
 
 // Each number is put behind what is there.
 #[test]
-fn put_behind(rt: HostRuntime) -> Result<(), Fail> {
+fn a_number_is_put_behind_what_is_there(rt: HostRuntime) -> Result<(), Fail> {
     let mut out = Vec::from_slice(rt.alloc(), b"x=")?;
     let put = put_number(&mut out, 4096);
     assert!(rt; put.is_ok());
