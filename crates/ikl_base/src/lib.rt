@@ -13,6 +13,7 @@ mod octets;
 mod outside;
 mod standard;
 mod status;
+mod writing;
 
 pub use address::{Addr, Prefix};
 pub use duplicate::Duplicate;
@@ -23,3 +24,4 @@ pub use octets::{Name, Octets};
 pub use outside::{Sink, Source};
 pub use standard::{FromReader, ToWriter};
 pub use status::{LineFault, Status, reasons_read_again};
+pub use writing::write_all;

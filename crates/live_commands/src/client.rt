@@ -14,9 +14,8 @@ ghost use Rattle.live_commands.specs.Client.{EndsBy, IsWhole, Printed, SinkTells
 ghost use Rattle.live_commands.specs.Lines.{told_line};
 
 use crate::line::line_of;
-use crate::output::write_all;
 use event_lines::read_events_are_spelled;
-use ikl_base::{Failed, NoMemory, OrMemory, Sink, Status};
+use ikl_base::{Failed, NoMemory, OrMemory, Sink, Status, write_all};
 use live_client::{AskFault, Told, ask_once};
 use live_devices::Dialer;
 use live_words::{ClientWords, read_client_words};

@@ -5,7 +5,6 @@ mod client;
 mod controller;
 mod gateway;
 mod line;
-mod output;
 
 pub use client::run_client;
 pub use controller::run_controller;

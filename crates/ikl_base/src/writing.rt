@@ -1,10 +1,11 @@
-// Writes to a sink.
+// Writes of whole pieces to a sink.
 ghost use Rattle.std.specs.Prelude.{◌≡◌, ◌++◌, List, ℕ, OnErr, OnOk};
 ghost use Rattle.ikl_base.specs.Outside.{Gains, HasCause, HasFailed, IsCalm};
 
-use ikl_base::{Failed, Sink};
+use crate::fault::Failed;
+use crate::outside::Sink;
 
-/// Writes all of a piece.
+/// Writes all of a piece, in as many calls as the sink needs. Where one fails, a front of the piece was written.
 pub fn write_all<K: Sink>(output: &mut K, piece: &[u8]) -> Result<(), Failed>
     ensures ok { OnOk result (Gains (K.written output.old) (K.written output.new) piece.now) }
     ensures err { OnErr result ((part more : List ℕ) × (part ++ more ≡ piece.now) × Gains (K.written output.old) (K.written output.new)

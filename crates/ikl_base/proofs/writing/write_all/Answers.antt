@@ -1,8 +1,8 @@
 use Rattle.std.proofs.Common.{◌≡◌, ℕ, List, ◌++◌, take, drop, refl, ◌∙◌, ap, append_assoc, arith}
 use Rattle.std.proofs.lemmas.List.{take-append-drop}
 use Rattle.std.proofs.lemmas.Grind.{common_steps}
-use Rattle.live_commands.proofs.Gaining.{gains_more}
-use Rattle.live_commands.proofs.output.write_all.Goals as goal
+use Rattle.ikl_base.proofs.Gaining.{gains_more}
+use Rattle.ikl_base.proofs.writing.write_all.Goals as goal
 
 front_and_rest : (front rest : List ℕ) (n : ℕ) (tail piece : List ℕ) → tail ≡ drop n rest → front ++ rest ≡ piece → (front ++ take n rest)
     ++ tail ≡ piece

@@ -1,6 +1,6 @@
 use Rattle.std.proofs.Common.{◌≡◌, ◌++◌, List, ℕ, length}
 use Rattle.ikl_base.specs.Outside.{Gains, IsCalm}
-use Rattle.live_commands.proofs.output.write_all.Given as goal
+use Rattle.ikl_base.proofs.writing.write_all.Given as goal
 
 abbrev pub invariant-loop-rest : goal.invariant-loop-rest
 invariant-loop-rest g l = record {
