@@ -1,6 +1,6 @@
--- What the state of a run between two octets stands for.
-use Rattle.std.specs.Prelude.{◌≡◌, ◌≤◌, ◌+◌, ℕ, Bool, true, false, List, [], ◌∷◌, ◌++◌, length, Option, Some, None, Result, Ok, Err, vec_len}
-use Rattle.ikl_base.specs.Outside.{HasRisen, IsCalm, HasFailed}
+-- What the state of a run between two octets stands for, and what octets make of it.
+use Rattle.std.specs.Prelude.{◌≡◌, ◌≤◌, ◌+◌, ℕ, Bool, true, false, List, [], ◌∷◌, ◌++◌, length, Option, Some, None, Result, Ok, Err}
+use Rattle.ikl_base.specs.Outside.{Gains, HasRisen, IsCalm, HasFailed}
 use Rattle.ikl_base.specs.declared.status.Status.{Status}
 use Rattle.ikl_base.specs.declared.status.Status.TheVariants as statuses
 use Rattle.ikl_base.specs.declared.status.LineFault.{LineFault}
@@ -19,9 +19,8 @@ use Rattle.world_run.specs.declared.go.Go.{Go}
 use Rattle.world_run.specs.declared.go.Go.TheVariants as goes
 use Rattle.script_lines.specs.Text.{text_of}
 use Rattle.ikeless_cli.specs.declared.running.Running.{Running}
-use Rattle.ikeless_cli.specs.declared.reader.Reader.{Reader}
 use Rattle.ikeless_cli.specs.Script.{HasNoLf, IsLine, AreLines, joined, IsScript}
-use Rattle.ikeless_cli.specs.Run.{AreGenuine, IsLastArrival, Refuses, Ran, is_write_fault}
+use Rattle.ikeless_cli.specs.Run.{AreGenuine, IsLastArrival, Refuses, Ran, is_read_fault, is_write_fault}
 
 -- ---- what was taken
 
@@ -116,37 +115,60 @@ ends_forged line (Some octets) = Err (statuses.Forged line octets)
 
 -- ---- octets
 
+-- what is kept between two octets: the world once there is a header, the line that has begun, and how many octets the lines before it have
+pub record State : Type 0 where
+  pub running : Option Running
+  pub line : List ℕ
+  pub whole : ℕ
+
+abbrev pub kept : Option Running → List ℕ → ℕ → State
+kept running line whole = record { running = running; line = line; whole = whole }
+
+-- nothing was read
+abbrev pub fresh : State
+fresh = kept None [] 0
+
 -- The octets read are the lines taken and the line that has begun; the octets written are the text of what happened.
-pub record Reads (input text : List ℕ) (running : Option Running) (line : List ℕ) (whole : ℕ) : Type 0 where
+pub record Reads (input text : List ℕ) (s : State) : Type 0 where
   pub lines : List (List ℕ)
   pub events : List Event
-  pub octets : input ≡ joined lines ++ line
-  pub stands : Stands running lines events
-  pub written : text ≡ text_of (acts_of (header_kept running) events)
-  pub inside : HasNoLf line
-  pub short : length line ≤ 1048576
-  pub count : whole ≡ length (joined lines)
-  pub within : whole + length line ≤ 67108864
+  pub octets : input ≡ joined lines ++ s.line
+  pub stands : Stands s.running lines events
+  pub written : text ≡ text_of (acts_of (header_kept s.running) events)
+  pub inside : HasNoLf s.line
+  pub short : length s.line ≤ 1048576
+  pub count : s.whole ≡ length (joined lines)
+  pub within : s.whole + length s.line ≤ 67108864
 
--- the counts of a run stay within the limit on a script, and its world can be stepped
-pub record IsCounted (r : Reader) : Type 0 where
-  pub taken : taken_of r.running ≤ r.whole
-  pub limit : r.whole + vec_len r.line ≤ 67108864
-  pub live : IsLive r.running
+-- so many more octets of the line are within the limits
+pub record Fits (s : State) (count : ℕ) : Type 0 where
+  pub short : length s.line + count ≤ 1048576
+  pub within : s.whole + length s.line + count ≤ 67108864
+
+-- the counts of a run stay within the limits on a line and on a script, and its world can be stepped
+pub record IsCounted (s : State) : Type 0 where
+  pub taken : taken_of s.running ≤ s.whole
+  pub fits : Fits s 0
+  pub live : IsLive s.running
 
 -- whatever stood before: these octets are read, more is written, and the new state stands for it
-abbrev pub Goes : (List ℕ → List ℕ → Type 0) → (List ℕ → List ℕ → Type 0) → (List ℕ → Type 0) → List ℕ → Type 0
-Goes old new gains octets = (input text : List ℕ) → old input text → (more : List ℕ) × gains more × new (input ++ octets) (text ++ more)
+abbrev pub Goes : State → State → Option (List ℕ) → Option (List ℕ) → List ℕ → Type 0
+Goes old new told told' octets = (input text : List ℕ) → Reads input text old → (more : List ℕ) × Gains told told' more × Reads (input ++ octets) (text ++ more) new
 
--- whatever stood before: the run ends at these octets, whatever comes after them
-abbrev pub EndsWith : Status → (List ℕ → List ℕ → Type 0) → (List ℕ → Type 0) → List ℕ → Type 0
-EndsWith status old gains octets = (input text : List ℕ) → old input text → (more : List ℕ) × gains more
+-- whatever stood before: the run ends within these octets, whatever comes after them
+abbrev pub EndsWith : Status → State → Option (List ℕ) → Option (List ℕ) → List ℕ → Type 0
+EndsWith status old told told' octets = (input text : List ℕ) → Reads input text old → (more : List ℕ) × Gains told told' more
     × ((left : Option (List ℕ)) (after : List ℕ) → Ran status left (input ++ (octets ++ after)) (text ++ more))
 
--- whatever stood before: the run ends with this status within these octets
-abbrev pub Finishes : Status → (List ℕ → List ℕ → Type 0) → (List ℕ → Type 0) → List ℕ → Type 0
-Finishes status old gains octets = (input text : List ℕ) → old input text → (more : List ℕ) × gains more
-    × ((left : Option (List ℕ)) → Ran status left (input ++ octets) (text ++ more))
+-- these octets are taken: the run goes on, or ends within them and not for its source
+abbrev pub Takes : Result Unit Status → State → State → Option (List ℕ) → Option (List ℕ) → List ℕ → Type 0
+Takes (Ok x) old new told told' octets = Goes old new told told' octets
+Takes (Err status) old new told told' octets = EndsWith status old told told' octets × (is_read_fault status ≡ false)
+
+-- the run ends within so many octets of a line, which pass a limit; only the last of them may be an LF
+abbrev pub Overflows : Status → State → ℕ → Type 0
+Overflows status s count = (octets end : List ℕ) (told : Option (List ℕ)) → HasNoLf octets → length end ≤ 1 → count ≡ length (octets ++ end)
+    → EndsWith status s told told (octets ++ end) × (is_read_fault status ≡ false)
 
 -- whether the sink ended it
 abbrev pub broke_of : {A : Type 0} → Result A Status → Bool

@@ -1,81 +1,21 @@
 // The command `replay`.
-ghost use Rattle.std.specs.Prelude.{◌≡◌, ◌+◌, ◌<◌, ◌^◌, ◌↔◌, ◌⊎◌, List, ℕ, Option, IfErr, IfSome, OnOk, Some, true, false};
-ghost use Rattle.ikl_base.specs.Outside.{AtEnd, Gains, Loses, HasRisen};
+ghost use Rattle.std.specs.Prelude.{◌≡◌, ◌↔◌, ◌⊎◌, List, ℕ, IfSome, Some, true, false};
+ghost use Rattle.ikl_base.specs.Outside.{Gains, Loses, HasRisen};
 ghost use Rattle.ikl_base.specs.declared.status.Status.TheVariants as statuses;
-ghost use Rattle.ikl_base.specs.declared.status.LineFault.TheVariants as faults;
 ghost use Rattle.hist_acts.specs.declared.act.Act.{Act};
 ghost use Rattle.script_lines.specs.Text.{text_of};
 ghost use Rattle.ikeless_cli.specs.Script.{Taken};
 ghost use Rattle.ikeless_cli.specs.Run.{Cause, IsHistoryOf, IsSafe, IsWhole, IsWritten, Ran, is_read_fault, is_write_fault};
-ghost use Rattle.ikeless_cli.specs.Reader.{taken_of, lines_of, Reads, Goes, Finishes, IsCounted, SinkTells, broke_of};
+ghost use Rattle.ikeless_cli.specs.Reader.{SinkTells};
 ghost use Rattle.ikeless_cli.specs.Words.{is_replay};
 
-use crate::reader::{Reader, take_octet};
-use crate::running::next_line;
-use ikl_base::{Failed, LineFault, Sink, Source, Status};
+use crate::reader::Reader;
+use ikl_base::{Failed, Sink, Source, Status};
 use std::alloc::Global;
 
 const PIECE: usize = 65_536;
 // One more than the octets of the longest script.
 const TURNS: u64 = 67_108_865;
-
-// Takes the octets of a piece, one by one.
-fn take_piece<K: Sink>(
-    alloc: Global,
-    reader: &mut Reader,
-    output: &mut K,
-    piece: &[u8],
-) -> Result<(), Status>
-    requires counted { IsCounted reader.old }
-    ensures ok { OnOk result (Goes
-        (λ i t. Reads i t reader.old.running reader.old.line.items reader.old.whole)
-        (λ i t. Reads i t reader.new.running reader.new.line.items reader.new.whole)
-        (Gains (K.written output.old) (K.written output.new)) piece.now) }
-    ensures counted { OnOk result (IsCounted reader.new) }
-    ensures err { IfErr result (λ status. Finishes status
-        (λ i t. Reads i t reader.old.running reader.old.line.items reader.old.whole)
-        (Gains (K.written output.old) (K.written output.new)) piece.now) }
-    ensures no_read_fault { IfErr result (λ status. is_read_fault status ≡ false) }
-    ensures sink { SinkTells (K.faults output.old) (K.faults output.new) (K.last_failed output.old) (K.last_failed output.new) (broke_of result) }
-{
-    for octet in piece {
-        match take_octet(alloc, reader, output, *octet) {
-            Ok(()) => (),
-            Err(status) => return Err(status),
-        }
-    }
-    Ok(())
-}
-
-// The refusal of a line that the input ends in.
-fn cut_off(reader: &Reader) -> Status
-    requires { taken_of reader.now.running < 2 ^ 63 }
-    ensures { result ≡ statuses.Line (lines_of reader.now.running + 1) faults.End }
-{
-    Status::Line {
-        line: next_line(&reader.running),
-        reason: LineFault::End,
-    }
-}
-
-// How a run ends where its input does.
-fn at_end(reader: &Reader) -> Status
-    requires { taken_of reader.now.running < 2 ^ 63 }
-    ensures ran { (input text : List ℕ) (left : Option (List ℕ)) → Reads input text reader.now.running reader.now.line.items reader.now.whole → AtEnd left → Ran result left input text }
-    ensures no_read_fault { is_read_fault result ≡ false }
-    ensures no_write_fault { is_write_fault result ≡ false }
-{
-    match &reader.running {
-        None => cut_off(reader),
-        Some(_) => {
-            if reader.line.is_empty() {
-                Status::Done
-            } else {
-                cut_off(reader)
-            }
-        }
-    }
-}
 
 // Whether the words are `replay` alone.
 fn are_replay(words: &[String]) -> bool
@@ -95,11 +35,7 @@ pub fn run<S: Source, K: Sink>(alloc: Global, input: &mut S, output: &mut K) -> 
     ensures sink { SinkTells (K.faults output.old) (K.faults output.new) (K.last_failed output.old) (K.last_failed output.new) (is_write_fault result) }
     ensures last { IfSome (S.last_failed input.new) (λ failed. failed ≡ is_read_fault result) }
 {
-    let mut reader = Reader {
-        running: None,
-        line: Vec::new(alloc),
-        whole: 0,
-    };
+    let mut reader = Reader::new(alloc);
     let mut buf = [0u8; PIECE];
     'turns: for _turn in 0..TURNS {
         let n = match input.read(&mut buf) {
@@ -107,10 +43,10 @@ pub fn run<S: Source, K: Sink>(alloc: Global, input: &mut S, output: &mut K) -> 
             Err(Failed) => return Status::ReadFault,
         };
         if n == 0 {
-            return at_end(&reader);
+            return reader.at_end();
         }
         let (piece, _) = buf.split_at(n);
-        match take_piece(alloc, &mut reader, output, piece) {
+        match reader.take_piece(alloc, piece, output) {
             Ok(()) => (),
             Err(status) => return status,
         }
