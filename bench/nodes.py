@@ -188,10 +188,11 @@ class Talk:
 
 
 class Session(Talk):
-    """A session with a gateway, which welcomed it."""
+    """A session with a gateway, which welcomed it. Octets that are given early stand in its control stream before it is taken."""
 
-    def __init__(self, ports, limit=10.0):
+    def __init__(self, ports, early=b"", limit=10.0):
         super().__init__(ports.control, limit)
+        self.send(early)
         self.notices = socket.create_connection((HERE, ports.notice), limit)
         if self.notices.recv(1) != b"+":
             raise EOFError("the session was not welcomed")
@@ -206,10 +207,13 @@ class Session(Talk):
             raise ValueError("%s %s: %d and not %d: %s" % (method, path, found, status, text))
         return text
 
-    def names(self):
-        """The names of the halves that the gateway has."""
-        body = json.loads(self.must(200, "GET", TREE + "/sad"))
-        return [entry["name"] for entry in body["ietf-i2nsf-ikeless:sad"]["sad-entry"]]
+
+def halves_of(ports):
+    """The names of the halves that a gateway has. The controller's session ends by that, and comes back."""
+    session = Session(ports, request("GET", TREE + "/sad"))
+    body = json.loads(session.answer()[1])
+    session.close()
+    return [entry["name"] for entry in body["ietf-i2nsf-ikeless:sad"]["sad-entry"]]
 
 
 class Commands(Talk):
