@@ -12,7 +12,7 @@
 #include <unistd.h>
 
 enum { MODE = 1, DIRECTION, SIZE, AMOUNT, SPACE, FIRST, INSIDE, INSIDE_TO, OUTSIDE, OUTSIDE_TO, KEY_OUT, KEY_IN, WORDS };
-enum { PATIENCE = 1, LONGEST = 60, MARK = 28, MOST = 1000000, LEAST = 40 };
+enum { PATIENCE = 1, LONGEST = 60, MARK = 28, MOST = 1000000, LEAST = 40, MOST_SIZE = 2048 };
 
 // What is let in at one side and comes out at the other.
 struct way {
@@ -20,7 +20,7 @@ struct way {
     struct sockaddr_in port;
     struct half half;
     uint64_t let, given, wrong;
-    uint8_t packet[2048];
+    uint8_t packet[MOST_SIZE];
     size_t size;
 };
 
@@ -123,13 +123,8 @@ static void make(struct way *w, size_t size, const uint8_t *from, const uint8_t 
     put16(w->packet + 26, 0);
 }
 
-int main(int count, char **words) {
-    static struct way ways[2];
-    if (count != WORDS) return 2;
-    size_t size = (size_t)atol(words[SIZE]);
-    long amount = atol(words[AMOUNT]), space = atol(words[SPACE]);
-    if (size < LEAST || size > sizeof ways[0].packet || amount < 1 || amount > MOST || space < 0 || space > MOST) return 2;
-    alarm(LONGEST);
+// The way from inside to outside, and the way back, as far as the direction has them.
+static void make_ways(struct way *ways, char **words, size_t size) {
     int inside = bound(SOCK_DGRAM, atoi(words[INSIDE_TO])), outside = bound(SOCK_DGRAM, atoi(words[OUTSIDE_TO]));
     ways[0] = (struct way){.is_used = strcmp(words[DIRECTION], "in") != 0, .to = inside, .from = outside};
     ways[0].half = half_of(words[KEY_OUT], 257, 0);
@@ -140,6 +135,15 @@ int main(int count, char **words) {
     ways[1].half.number = (uint32_t)atol(words[FIRST]) - 1;
     ways[1].port = port_here(atoi(words[OUTSIDE]));
     make(&ways[1], size, FAR, NEAR);
+}
+
+int main(int count, char **words) {
+    static struct way ways[2];
+    if (count != WORDS) return 2;
+    long size = atol(words[SIZE]), amount = atol(words[AMOUNT]), space = atol(words[SPACE]);
+    if (size < LEAST || size > MOST_SIZE || amount < 1 || amount > MOST || space < 0 || space > MOST) return 2;
+    alarm(LONGEST);
+    make_ways(ways, words, (size_t)size);
     if (strcmp(words[MODE], "delay") == 0) {
         print_delays(&ways[ways[0].is_used ? 0 : 1], amount, (useconds_t)space);
     } else {

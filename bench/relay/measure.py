@@ -99,8 +99,9 @@ def compare_delays(folder, keys, sides):
                 one = load(folder, keys, side, "delay", "out", size, DELAYS, PAUSE)
                 found[side.name].append((one["median"] * 1e6, one["ninth"] * 1e6, one["most"] * 1e6))
         medians = {name: [statistics.median(column) for column in zip(*rows)] for name, rows in found.items()}
-        print("%d octets through an idle node: gateway median %.0f us, nine in ten below %.0f, most %.0f; relay %.0f, %.0f, %.0f; above it %.0f us (wanted: 300)"
-              % (size, *medians["gateway"], *medians["relay"], medians["gateway"][0] - medians["relay"][0]))
+        print("%d octets through an idle node: gateway median %.0f us, nine in ten below %.0f, most %.0f; relay %.0f, %.0f, %.0f; "
+              "the median is above the relay's by %.0f us (wanted: 300)"
+              % (size, *medians["gateway"], *medians["relay"], medians["gateway"][0] - medians["relay"][0]), flush=True)
 
 
 def share(node, length):

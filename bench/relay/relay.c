@@ -46,54 +46,76 @@ static int newest(int listener, int *came) {
     return found;
 }
 
+// What a relay has: its sockets, its session, and whether anything came since it last waited.
+struct relay {
+    struct half outbound, inbound;
+    struct sockaddr_in inside_to, outside_to;
+    int inside, outside, control_door, notice_door, control, notices, poll, came;
+};
+
+static void pass(struct relay *r) {
+    long n = receive(r->inside);
+    if (n >= 0) {
+        r->came = 1;
+        send_on(r->outside, seal(&r->outbound, buf, (size_t)n, out, OWN, PEER), &r->outside_to);
+    }
+    n = receive(r->outside);
+    if (n >= 0) {
+        r->came = 1;
+        long given = opened(&r->inbound, buf, (size_t)n, out);
+        if (given >= 0) send_on(r->inside, (size_t)given, &r->inside_to);
+    }
+}
+
+static void accept_session(struct relay *r) {
+    struct epoll_event events[EVENTS];
+    if (!r->came) epoll_wait(r->poll, events, EVENTS, WAIT_MILLIS);
+    r->came = 0;
+    int notices = newest(r->notice_door, &r->came), control = newest(r->control_door, &r->came);
+    if (control >= 0) {
+        if (r->control >= 0) close(r->control);
+        r->control = control;
+        watch(r->poll, control);
+    }
+    if (notices >= 0) {
+        if (r->notices >= 0) close(r->notices);
+        r->notices = notices;
+        if (write(notices, "+", 1) != 1) fail("write");
+    }
+}
+
+static void read_session(struct relay *r) {
+    if (r->control < 0 || r->notices < 0) return;
+    long n = recv(r->control, buf, PIECE, 0);
+    if (n > 0) r->came = 1;
+    if (n == 0) {
+        close(r->control);
+        r->control = -1;
+    }
+}
+
 int main(int count, char **words) {
     if (count != WORDS) {
         fprintf(stderr, "relay SECONDS INSIDE INSIDE-TO OUTSIDE OUTSIDE-TO CONTROL NOTICE KEY-OUT KEY-IN\n");
         return 2;
     }
     alarm((unsigned)atoi(words[1]));
-    struct half outbound = half_of(words[KEY_OUT], 257, 1), inbound = half_of(words[KEY_IN], 258, 0);
-    struct sockaddr_in inside_to = port_here(atoi(words[INSIDE_TO])), outside_to = port_here(atoi(words[OUTSIDE_TO]));
-    int control_door = bound(SOCK_STREAM, atoi(words[CONTROL])), notice_door = bound(SOCK_STREAM, atoi(words[NOTICE]));
-    int inside = bound(SOCK_DGRAM, atoi(words[INSIDE])), outside = bound(SOCK_DGRAM, atoi(words[OUTSIDE]));
-    int poll = epoll_create1(EPOLL_CLOEXEC), control = -1, notices = -1, came = 0;
-    int all[] = {control_door, notice_door, inside, outside};
-    for (int i = 0; i < 4; i++) watch(poll, all[i]);
+    struct relay r = {.control = -1, .notices = -1, .poll = epoll_create1(EPOLL_CLOEXEC)};
+    r.outbound = half_of(words[KEY_OUT], 257, 1);
+    r.inbound = half_of(words[KEY_IN], 258, 0);
+    r.inside_to = port_here(atoi(words[INSIDE_TO]));
+    r.outside_to = port_here(atoi(words[OUTSIDE_TO]));
+    r.control_door = bound(SOCK_STREAM, atoi(words[CONTROL]));
+    r.notice_door = bound(SOCK_STREAM, atoi(words[NOTICE]));
+    r.inside = bound(SOCK_DGRAM, atoi(words[INSIDE]));
+    r.outside = bound(SOCK_DGRAM, atoi(words[OUTSIDE]));
+    int all[] = {r.control_door, r.notice_door, r.inside, r.outside};
+    for (int i = 0; i < 4; i++) watch(r.poll, all[i]);
     for (;;) {
         struct timespec now;
-        struct epoll_event events[EVENTS];
         clock_gettime(CLOCK_REALTIME, &now);
-        long n = receive(inside);
-        if (n >= 0) {
-            came = 1;
-            send_on(outside, seal(&outbound, buf, (size_t)n, out, OWN, PEER), &outside_to);
-        }
-        n = receive(outside);
-        if (n >= 0) {
-            came = 1;
-            long given = opened(&inbound, buf, (size_t)n, out);
-            if (given >= 0) send_on(inside, (size_t)given, &inside_to);
-        }
-        if (!came) epoll_wait(poll, events, EVENTS, WAIT_MILLIS);
-        came = 0;
-        int notice = newest(notice_door, &came), next = newest(control_door, &came);
-        if (next >= 0) {
-            if (control >= 0) close(control);
-            control = next;
-            watch(poll, control);
-        }
-        if (notice >= 0) {
-            if (notices >= 0) close(notices);
-            notices = notice;
-            if (write(notices, "+", 1) != 1) fail("write");
-        }
-        if (control >= 0 && notices >= 0) {
-            n = recv(control, buf, PIECE, 0);
-            if (n > 0) came = 1;
-            if (n == 0) {
-                close(control);
-                control = -1;
-            }
-        }
+        pass(&r);
+        accept_session(&r);
+        read_session(&r);
     }
 }
