@@ -20,7 +20,8 @@ class Seen:
         same = expected == came
         self.tried += 1
         self.failed += not same
-        print("%s %s: expected %s%s" % ("ok    " if same else "FAILED", what, shown(expected), "" if same else ", came " + shown(came)), flush=True)
+        end = "" if same else ", came " + shown(came)
+        print("%s %s: expected %s%s" % ("ok    " if same else "FAILED", what, shown(expected), end), flush=True)
 
 
 def shown(said):

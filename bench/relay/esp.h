@@ -97,7 +97,8 @@ static size_t seal(struct half *h, const uint8_t *inner, size_t size, uint8_t *o
     text[length - 2] = (uint8_t)pad;
     text[length - 1] = 4;
     begin(h, esp);
-    if (EVP_CipherUpdate(h->cipher, text, &n, text, (int)length) != 1 || EVP_CipherFinal_ex(h->cipher, text + length, &n) != 1) fail("seal");
+    if (EVP_CipherUpdate(h->cipher, text, &n, text, (int)length) != 1) fail("seal");
+    if (EVP_CipherFinal_ex(h->cipher, text + length, &n) != 1) fail("seal");
     if (EVP_CIPHER_CTX_ctrl(h->cipher, EVP_CTRL_AEAD_GET_TAG, ICV, text + length) != 1) fail("tag");
     put_head(out, OUTER + ESP_HEAD + length + ICV, h->number & 0xffff, 50, from, to);
     return OUTER + ESP_HEAD + length + ICV;

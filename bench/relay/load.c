@@ -102,8 +102,8 @@ static void print_delays(struct way *w, long count, useconds_t pause) {
         all[i] = delay(w);
     }
     qsort(all, (size_t)count, sizeof *all, by_size);
-    printf("{\"let\": %lu, \"given\": %lu, \"wrong\": %lu, \"median\": %.9f, \"ninth\": %.9f, \"most\": %.9f}\n", w->let, w->given, w->wrong,
-           all[count / 2], all[count * 9 / 10], all[count - 1]);
+    printf("{\"let\": %lu, \"given\": %lu, \"wrong\": %lu, ", w->let, w->given, w->wrong);
+    printf("\"median\": %.9f, \"ninth\": %.9f, \"most\": %.9f}\n", all[count / 2], all[count * 9 / 10], all[count - 1]);
 }
 
 static void print_rate(struct way *ways, double length, uint64_t window) {
