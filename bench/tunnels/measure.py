@@ -106,7 +106,8 @@ def rekey_all(commands, between, ends, pace, rate):
     cpu = [nodes.processor_seconds(node) - used for node, used in zip(between.nodes, cpu)]
     way = "%.0f commands a second" % (1 / pace) if pace else "all commands at once"
     print("a rekey of all %d, %s, %d packets a second each way: told in %.2f s, %d refused, done in %s (wanted: 20 s); %s; "
-          "processor seconds of west, east and controller %.2f, %.2f, %.2f" % (TUNNELS, way, rate, told, refused, took, traffic.told(), *cpu), flush=True)
+          "processor seconds of west, east and controller %.2f, %.2f, %.2f"
+          % (TUNNELS, way, rate, told, refused, took, traffic.told(), *cpu), flush=True)
 
 
 def main(program, folder):
