@@ -129,6 +129,13 @@ def processor_seconds(node):
         return int(figures.read().split()[0]) / 1e9
 
 
+def overflown(*ports):
+    """How many datagrams the system dropped at these ports, since nobody took them in time."""
+    wanted = {"%04X" % port for port in ports}
+    with open("/proc/net/udp") as rows:
+        return sum(int(row.split()[-1]) for row in list(rows)[1:] if row.split()[1].split(":")[1] in wanted)
+
+
 # ---- HTTP
 
 def request(method, path, body=None):

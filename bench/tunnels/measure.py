@@ -12,9 +12,12 @@ from traffic import Traffic, one_each  # noqa: E402
 
 WEST, EAST = "192.0.2.1", "198.51.100.1"
 TUNNELS = int(os.environ.get("TUNNELS", "1024"))
+SOFT = int(os.environ.get("SOFT", "3600"))
 RATE = int(os.environ.get("RATE", "500"))
 GROUP = 256
 AT_ONCE = 64
+# How many packets are under way at most: as many as come, and fewer than a port of a gateway has room for.
+FREE, FEW = 1000000, 128
 LONGEST = 60.0
 
 
@@ -61,7 +64,7 @@ def give_keys(commands, count):
 def tunnel(reqid):
     first, second = prefixes(reqid)
     return {"reqid": str(reqid), "mode": "now", "first": "west", "second": "east", "first-prefix": first, "second-prefix": second,
-            "anti-replay-window-size": 64, "soft": {"time": 3600}}
+            "anti-replay-window-size": 64, "soft": {"time": SOFT}}
 
 
 def give_policies(commands, group):
@@ -89,25 +92,48 @@ def try_all(commands, ends):
     print("a packet each way through each tunnel: %d let, %d given" % (2 * TUNNELS, given), flush=True)
 
 
-def rekey_all(commands, between, ends, pace, rate):
-    """Rekeys all tunnels with traffic through 256 of them."""
+def wires(ends):
+    """The ports at which gateways take datagrams."""
+    return [port for ports in ends.ports.values() for port in (ports.inside, ports.outside)]
+
+
+def by_commands(commands, between, pace):
+    """Commands all rekeys, so many seconds apart. Answers when it began, and how it went."""
     give_keys(commands, 2 * TUNNELS)
-    before, cpu = dict(between.counts), [nodes.processor_seconds(node) for node in between.nodes]
-    wanted = {b"201": before[b"201"] + 4 * TUNNELS, b"204": before[b"204"] + 4 * TUNNELS}
-    traffic = Traffic(ends, [prefixes(reqid) for reqid in reqids(0)], rate)
+    begin = time.monotonic()
+    refused = tell_all(commands, [("rekey", {"reqid": str(reqid)}) for reqid in range(1, TUNNELS + 1)], pace)
+    told = time.monotonic() - begin
+    return begin, "%s, told in %.2f s, %d refused" % ("%.0f a second" % (1 / pace) if pace else "at once", told, refused)
+
+
+def by_limits(between):
+    """Waits until the first half is installed anew since its tunnel's soft limit was met."""
+    begin = between.await_counts({b"201": between.counts[b"201"] + 1}, time.monotonic() + LONGEST)
+    return begin or time.monotonic(), "by their soft limit of %d s" % SOFT
+
+
+def rekey_all(between, ends, most, begins):
+    """Sees all tunnels rekeyed, with traffic through 256 of them."""
+    dropped, cpu = nodes.overflown(*wires(ends)), [nodes.processor_seconds(node) for node in between.nodes]
+    wanted = {status: between.counts[status] + 4 * TUNNELS for status in (b"201", b"204")}
+    traffic = Traffic(ends, [prefixes(reqid) for reqid in reqids(0)], RATE, most)
     with traffic:
         time.sleep(1)
-        begin = time.monotonic()
-        refused = tell_all(commands, [("rekey", {"reqid": str(reqid)}) for reqid in range(1, TUNNELS + 1)], pace)
-        told = time.monotonic() - begin
+        begin, how = begins()
         done = between.await_counts(wanted, begin + LONGEST)
         time.sleep(1)
     took = "%.2f s" % (done - begin) if done else "more than %.0f s" % LONGEST
     cpu = [nodes.processor_seconds(node) - used for node, used in zip(between.nodes, cpu)]
-    way = "%.0f commands a second" % (1 / pace) if pace else "all commands at once"
-    print("a rekey of all %d, %s, %d packets a second each way: told in %.2f s, %d refused, done in %s (wanted: 20 s); %s; "
-          "processor seconds of west, east and controller %.2f, %.2f, %.2f"
-          % (TUNNELS, way, rate, told, refused, took, traffic.told(), *cpu), flush=True)
+    print("a rekey of all %d, %s: done in %s (wanted: 20 s); %d packets a second each way, at most %d under way"
+          % (TUNNELS, how, took, RATE, most))
+    print("    %s; dropped by the system at the gateways' ports %d; processor seconds of west, east and controller %.2f, %.2f, %.2f"
+          % (traffic.told(), nodes.overflown(*wires(ends)) - dropped, *cpu), flush=True)
+
+
+def rekey_in_turn(commands, between, ends):
+    """Rekeys all tunnels again and again, each time in another way."""
+    for pace, most in ((0.010, FREE), (0.0, FEW), (0.0, FREE)):
+        rekey_all(between, ends, most, lambda: by_commands(commands, between, pace))
 
 
 def main(program, folder):
@@ -127,8 +153,11 @@ def main(program, folder):
         try_all(commands, ends)
         give_policies(commands, 0)
         time.sleep(0.5)
-        rekey_all(commands, between, ends, 0.010, RATE)
-        rekey_all(commands, between, ends, 0.0, RATE)
+        if SOFT < 3600:
+            give_keys(commands, 4 * TUNNELS)
+            rekey_all(between, ends, FREE, lambda: by_limits(between))
+        else:
+            rekey_in_turn(commands, between, ends)
         commands.close()
         halves = [len(nodes.halves_of(p)) for p in ports]
         print("halves at the end: %d and %d (wanted: %d each); load %s" % (*halves, 2 * TUNNELS, " ".join(map(str, os.getloadavg()))))

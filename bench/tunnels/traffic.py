@@ -38,10 +38,13 @@ def one_each(ends, tunnels):
 
 
 class Traffic:
-    """Lets packets in at both ends at a steady pace from when it is entered until it is left, and counts what is given."""
+    """Lets packets in at both ends at a steady pace from when it is entered until it is left, and counts what is given.
 
-    def __init__(self, ends, tunnels, rate):
-        self.ends, self.tunnels, self.rate = ends, tunnels, rate
+    It waits as long as more than so many packets are under way.
+    """
+
+    def __init__(self, ends, tunnels, rate, most):
+        self.ends, self.tunnels, self.rate, self.most = ends, tunnels, rate, most
         self.let = {name: {} for name, _ in WAYS}
         self.given = {name: {} for name, _ in WAYS}
         self.others = 0
@@ -59,13 +62,18 @@ class Traffic:
         begin, next_number = time.monotonic(), 0
         while self.goes_on:
             due = int((time.monotonic() - begin) * self.rate)
+            if self.under_way() > self.most:
+                due = next_number
             if next_number < due:
                 self.let_in(next_number)
                 next_number += 1
             self.take(0.0 if next_number < due else 1 / self.rate)
         till = time.monotonic() + PATIENCE
-        while time.monotonic() < till and any(len(self.given[other]) < len(self.let[name]) for name, other in WAYS):
+        while time.monotonic() < till and self.under_way():
             self.take(0.1)
+
+    def under_way(self):
+        return sum(len(self.let[name]) - len(self.given[name]) for name, _ in WAYS)
 
     def let_in(self, number):
         for name, _ in WAYS:
