@@ -225,6 +225,13 @@ def try_clients(seen, three):
     seen.see("a client sends a body that is no JSON, and then a command", (fault(400, "malformed-message", "json"), "204"), came)
 
 
+def try_many_clients(seen, three):
+    many = [socket.create_connection((nodes.HERE, three.commands), SOON) for _ in range(100)]
+    with closing(*many):
+        came = three.goes_on()
+    seen.see("100 clients come at once, and another one", True, came)
+
+
 def try_slow_client(seen, three):
     """Its place is taken by the next client."""
     commands = nodes.Commands(three.commands)
@@ -242,7 +249,7 @@ def try_port(seen, three, running):
 def try_controller(seen, running):
     three = Three(running)
     seen.see("a tunnel between two gateways", True, three.ends.until_both_ways() and three.goes_on())
-    for trial in (try_answers, try_notices, try_cut, try_slow, try_welcomes, try_clients, try_slow_client, try_deaf):
+    for trial in (try_answers, try_notices, try_cut, try_slow, try_welcomes, try_clients, try_many_clients, try_slow_client, try_deaf):
         trial(seen, three)
     try_port(seen, three, running)
     three.ends.close()

@@ -1,5 +1,7 @@
 """A gateway whose sessions and ports bring what they shouldn't. It has no controller, so that no session takes another's place."""
+import random
 import socket
+import struct
 import time
 
 import nodes
@@ -123,6 +125,49 @@ def try_deaf(seen, pair):
     seen.see("a peer asks and reads nothing: packets pass again, here after %.1f s" % held, (True, True, True), came)
 
 
+def esp_of(spi, rest):
+    """An ESP packet to south with this SPI, the number 1 and this rest, which doesn't open."""
+    octets = struct.pack(">II", spi, 1) + rest
+    head = struct.pack(">BBHHHBBH", 0x45, 0, 20 + len(octets), 1, 0, 64, 50, 0) + socket.inet_aton(WEST) + socket.inet_aton(EAST)
+    return head[:10] + struct.pack(">H", nodes.checksum(head)) + head[12:] + octets
+
+
+def try_notice_octets(seen, pair):
+    """A gateway reads nothing of a notice stream."""
+    session = nodes.Session(pair.ports[0])
+    with closing(session):
+        session.notices.sendall(b"a" * 65536)
+        came = session.ask("GET", nodes.TREE + "/sad")[0], pair.goes_on()
+    seen.see("65,536 octets come on a notice stream", (200, True), came)
+
+
+def drawn(chance, octets):
+    """These octets with one to four of them changed, or cut."""
+    made = bytearray(octets)
+    for _ in range(chance.randint(1, 4)):
+        made[chance.randrange(len(made))] = chance.randrange(256)
+    return bytes(made[:chance.randrange(len(made))] if chance.random() < 0.3 else made)
+
+
+def try_drawn(seen, pair):
+    """What a session and the ports bring is drawn, always the same. Packets may pass or be dropped; nothing may end."""
+    chance = random.Random(9061)
+    clear = nodes.packet("10.1.0.1", "10.2.0.1", b"a" * 40)
+    esp = esp_of(257, b"a" * 60)
+    with nodes.port_socket(0) as stranger:
+        for _ in range(1000):
+            pair.ends.let("west", drawn(chance, clear))
+            for octets in (drawn(chance, clear), drawn(chance, esp)):
+                stranger.sendto(octets, (nodes.HERE, pair.ports[1].outside))
+            time.sleep(0.001)
+    came = pair.ends.until_both_ways(3.0), pair.goes_on()
+    seen.see("3,000 drawn datagrams come", (True, True), came)
+    for _ in range(200):
+        session = nodes.Session(pair.ports[0], drawn(chance, READ))
+        session.close()
+    seen.see("200 sessions with drawn octets come", True, pair.goes_on())
+
+
 def from_outside(pair, octets):
     """What south's inside is given of a datagram from outside."""
     with nodes.port_socket(0) as stranger:
@@ -137,16 +182,11 @@ def try_datagrams(seen, pair):
                                 ("a packet of 65,507 octets", longest, False), ("a packet of 65,000 octets", sealed, True)):
         pair.ends.let("west", octets)
         seen.see("inside brings %s" % what, (given, True), (pair.ends.came("east", octets, 0.5), pair.goes_on()))
-    back = nodes.packet("10.1.0.1", "10.2.0.1", b"a" * (65507 - 28))
-    esp = bytearray(nodes.packet(WEST, EAST, b"a" * 60))
-    esp[9], esp[10:12] = 50, b"\0\0"
-    esp[10:12] = nodes.checksum(bytes(esp[:20])).to_bytes(2, "big")
-    short = bytearray(esp[:40])
-    short[2:4], short[10:12] = b"\0\x28", b"\0\0"
-    short[10:12] = nodes.checksum(bytes(short[:20])).to_bytes(2, "big")
     for what, octets, given in (("no octets", b"", False), ("65,507 octets that are no packet", b"a" * 65507, False),
-                                ("ESP of a half that isn't there", bytes(esp), False), ("ESP of 20 octets", bytes(short), False),
-                                ("a packet that bypasses, of 65,507 octets", back, True)):
+                                ("ESP of a half that isn't there", esp_of(9, b"a" * 60), False),
+                                ("ESP that doesn't open", esp_of(257, b"a" * 60), False),
+                                ("ESP of 20 octets", esp_of(257, b"a" * 12), False),
+                                ("a packet that bypasses, of 65,507 octets", longest, True)):
         seen.see("outside brings %s" % what, (given, True), (from_outside(pair, octets), pair.goes_on()))
 
 
@@ -166,7 +206,9 @@ def try_gateway(seen, running):
     try_cut(seen, pair)
     try_slow(seen, pair)
     try_halves_of_sessions(seen, pair)
+    try_notice_octets(seen, pair)
     try_datagrams(seen, pair)
+    try_drawn(seen, pair)
     try_ports(seen, pair, running)
     try_deaf(seen, pair)
     pair.ends.close()
