@@ -21,9 +21,11 @@ class Between:
 
     def __init__(self, gateways):
         self.counts, self.changed = collections.Counter(), threading.Condition()
-        self.ports, self.doors, self.other, self.tails, self.nodes = [], {}, {}, {}, ()
+        self.ports, self.doors, self.other, self.tails, self.is_control, self.nodes = [], {}, {}, {}, {}, ()
+        self.controls = []
         for gateway in gateways:
             control, notice = nodes.free_ports(2)
+            self.controls.append(gateway.control)
             self.ports.append(gateway._replace(control=control, notice=notice))
             # The doors for requests stand before those for notices, as their connections come first.
             self.doors[listener(control)] = gateway.control
@@ -45,7 +47,7 @@ class Between:
             one.setsockopt(socket.IPPROTO_TCP, socket.TCP_NODELAY, 1)
             one.settimeout(10.0)
         self.other[near], self.other[far] = far, near
-        self.tails[far] = b""
+        self.tails[far], self.is_control[far] = b"", self.doors[door] in self.controls
 
     def hand_on(self, one):
         other = self.other[one]
@@ -60,20 +62,25 @@ class Between:
                 self.tails.pop(end, None)
                 end.close()
         elif one in self.tails:
-            self.count(one, came)
+            with self.changed:
+                count = self.count_answers if self.is_control[one] else self.count_notices
+                self.tails[one] = count(self.tails[one] + came)
+                self.changed.notify_all()
 
-    def count(self, far, came):
-        """Counts the status lines in what a gateway said. The end of what came may be the front of one."""
-        text = self.tails[far] + came
-        lines = text.split(b"HTTP/1.1 ")
-        with self.changed:
-            for line in lines[1:]:
-                if len(line) >= 3:
-                    self.counts[line[:3]] += 1
-            self.changed.notify_all()
+    def count_answers(self, text):
+        """Counts the status lines in what a gateway said, and answers the end of it that may be the front of one."""
+        for line in text.split(b"HTTP/1.1 ")[1:]:
+            if len(line) >= 3:
+                self.counts[line[:3]] += 1
         last = text.rfind(b"HTTP/1.1 ")
-        whole = last >= 0 and len(text) - last >= 12
-        self.tails[far] = text[-8:] if whole or last < 0 else text[last:]
+        is_whole = last >= 0 and len(text) - last >= 12
+        return text[-8:] if is_whole or last < 0 else text[last:]
+
+    def count_notices(self, text):
+        """Counts the notices of a bad SPI, and answers the line that isn't whole."""
+        *lines, last = text.split(b"\n")
+        self.counts[b"bad-spi"] += sum(b"sadb-bad-spi" in line for line in lines)
+        return last
 
     def await_counts(self, wanted, till):
         """The moment at which there are so many answers, or None where they don't come in time."""

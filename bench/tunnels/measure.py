@@ -115,6 +115,7 @@ def by_limits(between):
 def rekey_all(between, ends, most, begins):
     """Sees all tunnels rekeyed, with traffic through 256 of them."""
     dropped, cpu = nodes.overflown(*wires(ends)), [nodes.processor_seconds(node) for node in between.nodes]
+    bad = between.counts[b"bad-spi"]
     wanted = {status: between.counts[status] + 4 * TUNNELS for status in (b"201", b"204")}
     traffic = Traffic(ends, [prefixes(reqid) for reqid in reqids(0)], RATE, most)
     with traffic:
@@ -126,8 +127,9 @@ def rekey_all(between, ends, most, begins):
     cpu = [nodes.processor_seconds(node) - used for node, used in zip(between.nodes, cpu)]
     print("a rekey of all %d, %s: done in %s (wanted: 20 s); %d packets a second each way, at most %d under way"
           % (TUNNELS, how, took, RATE, most))
-    print("    %s; dropped by the system at the gateways' ports %d; processor seconds of west, east and controller %.2f, %.2f, %.2f"
-          % (traffic.told(), nodes.overflown(*wires(ends)) - dropped, *cpu), flush=True)
+    print("    %s; dropped by the system at the gateways' ports %d; notices of a bad SPI %d; "
+          "processor seconds of west, east and controller %.2f, %.2f, %.2f"
+          % (traffic.told(), nodes.overflown(*wires(ends)) - dropped, between.counts[b"bad-spi"] - bad, *cpu), flush=True)
 
 
 def rekey_in_turn(commands, between, ends):
@@ -155,7 +157,8 @@ def main(program, folder):
         time.sleep(0.5)
         if SOFT < 3600:
             give_keys(commands, 4 * TUNNELS)
-            rekey_all(between, ends, FREE, lambda: by_limits(between))
+            for most in (FEW, FREE):
+                rekey_all(between, ends, most, lambda: by_limits(between))
         else:
             rekey_in_turn(commands, between, ends)
         commands.close()
