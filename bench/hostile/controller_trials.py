@@ -1,4 +1,5 @@
 """A controller one of whose peers, or one of whose clients, says what it shouldn't."""
+import select
 import socket
 import time
 
@@ -75,9 +76,15 @@ class Odd:
                 door.settimeout(SOON)
 
     def streams(self):
-        """The streams of the controller's next call."""
-        self.turn_away()
-        return self.doors[0].accept()[0], self.doors[1].accept()[0]
+        """The streams of the controller's next call: not of one of which a stream was turned away, so that it ends at once."""
+        for _ in range(5):
+            self.turn_away()
+            control, notices = self.doors[0].accept()[0], self.doors[1].accept()[0]
+            if not select.select([control], [], [], 0.1)[0]:
+                break
+            control.close()
+            notices.close()
+        return control, notices
 
     def meet(self):
         """A session with the controller, whose first request was read. It calls again within a second or two."""
