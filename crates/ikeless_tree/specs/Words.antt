@@ -177,7 +177,7 @@ abbrev pub direction_word : Direction → List ℕ
 direction_word directions.In = codes "inbound"
 direction_word directions.Out = codes "outbound"
 
--- the direction of this word
+-- which direction of a policy `inbound` and `outbound` say
 unfoldable pub direction_of_word : List ℕ → Option Direction
 direction_of_word text = find (λ x. bytes_eq (direction_word x) text) all_directions
 

@@ -128,6 +128,15 @@ fn lists_have_their_first_fault(rt: HostRuntime) -> Result<(), Fail> {
 }
 
 #[test]
+fn a_list_that_is_appended_stands_behind(rt: HostRuntime) -> Result<(), Fail> {
+    let mut list = list_of(rt.alloc(), &["p1", "p2"], false)?;
+    list.append(list_of(rt.alloc(), &["p3", "p1"], false)?)?;
+    assert!(rt; list.len() == 4);
+    assert!(rt; check_spd(&list).err() == Some(TreeFault::DuplicateName));
+    Ok(())
+}
+
+#[test]
 fn lists_have_at_most_256_entries(rt: HostRuntime) -> Result<(), Fail> {
     let alloc = rt.alloc();
     let full = many(alloc, 256)?;

@@ -67,6 +67,19 @@ impl<T: Drop> ListOf<T> {
     {
         Ok(self.items.push(x)?)
     }
+
+    /// Adds the items of another list at the end: all, or none for want of memory.
+    pub fn append(&mut self, more: ListOf<T>) -> Result<(), NoMemory>
+        ensures ok { OnOk result (self.new ≡ self.old ++ more) }
+        ensures err { OnErr result (self.new ≡ self.old) }
+    {
+        if let [] = self.items.as_slice() {
+            *self = more;
+            return Ok(());
+        }
+        let mut added = more.into_items();
+        Ok(self.items.append(&mut added)?)
+    }
 }
 
 impl<T: Duplicate> Duplicate for ListOf<T> {
