@@ -1,5 +1,5 @@
 -- Columns of 32 bits.
-use Rattle.std.proofs.Common.{◌≡◌, ℕ, ◌/◌, ◌%◌, ◌^◌, ◌<◌, Bool, List, [], ◌∷◌, map, refl, true, bit_xor, arith, ap, sym, ◌∙◌, lit<, zero-add, ◌+◌, ◌*◌, ◌≤◌, length, get_or}
+use Rattle.std.proofs.Common.{◌≡◌, ℕ, ◌/◌, ◌%◌, ◌^◌, ◌<◌, Bool, List, [], ◌∷◌, map, refl, true, bit_xor, arith, ap, sym, ◌∙◌, lit<, ◌+◌, ◌*◌, ◌≤◌, length, get_or}
 use Rattle.std.specs.Prelude.{slice_index, ◌==◌}
 use Rattle.std.specs.Int.{w32, to_be_bytes}
 use Rattle.std.proofs.lemmas.Bool.{eqb-true}
@@ -7,6 +7,7 @@ use Rattle.std.proofs.lemmas.List.{get_or-map, get_or_default, length-map, same_
 use Rattle.std.proofs.lemmas.Nat.{xor_mod, xor_shr}
 use Rattle.gf_poly.specs.Poly.{product, times_x, remainder, multiply}
 use Rattle.aes_block.specs.Aes.{add_key, add_words, contribution, matrix, mix_columns, mix_word, s_box, shift_rows, square, sub_octets, sub_word, times}
+use Rattle.aes_block.specs.Columns.{column_of, entry}
 use Rattle.aes_block.specs.declared.tables.TheConstants.{S_TABLE, T}
 use Rattle.gf_poly.proofs.Tables.{all_below, all_below_at}
 use Rattle.aes_block.proofs.Computed.{s_table_at}
@@ -58,16 +59,13 @@ entry_of at k x lt h =
     let e3 = row 3 (lit< tt) in
     (λ i. e0 i ∷ e1 i ∷ e2 i ∷ e3 i ∷ [])
 
-pub t0_at : (x : ℕ) → x < 256 → to_be_bytes w32 (slice_index T x) ≡ contribution 0 x
-t0_at x lt = ap (λ (n : ℕ). to_be_bytes w32 (slice_index T n)) (sym (zero-add x)) ∙ entry_of 0 0 x lt t0_is
-
-pub t1_at : (x : ℕ) → x < 256 → to_be_bytes w32 (slice_index T (256 + x)) ≡ contribution 1 x
+t1_at : (x : ℕ) → x < 256 → to_be_bytes w32 (slice_index T (256 + x)) ≡ contribution 1 x
 t1_at x lt = entry_of 256 1 x lt t1_is
 
-pub t2_at : (x : ℕ) → x < 256 → to_be_bytes w32 (slice_index T (512 + x)) ≡ contribution 2 x
+t2_at : (x : ℕ) → x < 256 → to_be_bytes w32 (slice_index T (512 + x)) ≡ contribution 2 x
 t2_at x lt = entry_of 512 2 x lt t2_is
 
-pub t3_at : (x : ℕ) → x < 256 → to_be_bytes w32 (slice_index T (768 + x)) ≡ contribution 3 x
+t3_at : (x : ℕ) → x < 256 → to_be_bytes w32 (slice_index T (768 + x)) ≡ contribution 3 x
 t3_at x lt = entry_of 768 3 x lt t3_is
 
 pub column_is : (p q r s k a b c d : ℕ) → to_be_bytes w32 p ≡ contribution 0 a → to_be_bytes w32 q ≡ contribution 1 b
@@ -79,6 +77,15 @@ column_is p q r s k a b c d ep eq er es =
     let three = octets_xor (bit_xor p q) r ∙ (λ i. add_words (two i) (er i)) in
     let four = octets_xor (bit_xor (bit_xor p q) r) s ∙ (λ i. add_words (three i) (es i)) in
     octets_xor (bit_xor (bit_xor (bit_xor p q) r) s) k ∙ ap (λ (l : List ℕ). add_words l (to_be_bytes w32 k)) four
+
+-- a column by the table is the column of the round
+pub column_of_is : (a b c d k : ℕ) → to_be_bytes w32 (column_of a b c d k) ≡ add_words
+    (mix_word (sub_word (slice_index (to_be_bytes w32 a) 0
+    ∷ slice_index (to_be_bytes w32 b) 1 ∷ slice_index (to_be_bytes w32 c) 2 ∷ slice_index (to_be_bytes w32 d) 3 ∷ []))) (to_be_bytes w32 k)
+column_of_is a b c d k =
+    column_is (entry 0 a) (entry 1 b) (entry 2 c) (entry 3 d) k _ _ _ _
+    (entry_of 0 0 (slice_index (to_be_bytes w32 a) 0) (omega arith) t0_is) (t1_at (slice_index (to_be_bytes w32 b) 1) (omega arith))
+    (t2_at (slice_index (to_be_bytes w32 c) 2) (omega arith)) (t3_at (slice_index (to_be_bytes w32 d) 3) (omega arith))
 
 unfoldable pub mixed : List ℕ → ℕ → List ℕ
 mixed s c = mix_word (sub_word (slice_index (to_be_bytes w32 (slice_index s c)) 0

@@ -2,40 +2,39 @@
 
 ghost use Rattle.std.specs.Prelude.{◌≡◌, ◌<◌, [], ◌∷◌, map, slice_index};
 ghost use Rattle.std.specs.Int.{w32, to_be_bytes};
-ghost use Rattle.aes_block.specs.Aes.{add_key, add_words, contribution, mix_columns, mix_word, shift_rows, square, sub_octets, sub_word};
+ghost use Rattle.aes_block.specs.Aes.{add_key, add_words, mix_columns, shift_rows, square, sub_octets, sub_word};
+ghost use Rattle.aes_block.specs.Columns.{column_of, entry};
 
 use crate::octets::{packed, s_box};
 use crate::tables::T;
 
-fn entry_0(w: u32) -> u32
-    ensures { to_be_bytes w32 result ≡ contribution 0 (slice_index (to_be_bytes w32 w) 0) }
+pub(crate) fn entry_0(w: u32) -> u32
+    ensures { result ≡ entry 0 w }
 {
     T[w.to_be_bytes()[0] as usize]
 }
 
-fn entry_1(w: u32) -> u32
-    ensures { to_be_bytes w32 result ≡ contribution 1 (slice_index (to_be_bytes w32 w) 1) }
+pub(crate) fn entry_1(w: u32) -> u32
+    ensures { result ≡ entry 1 w }
 {
     T[256 + w.to_be_bytes()[1] as usize]
 }
 
-fn entry_2(w: u32) -> u32
-    ensures { to_be_bytes w32 result ≡ contribution 2 (slice_index (to_be_bytes w32 w) 2) }
+pub(crate) fn entry_2(w: u32) -> u32
+    ensures { result ≡ entry 2 w }
 {
     T[512 + w.to_be_bytes()[2] as usize]
 }
 
-fn entry_3(w: u32) -> u32
-    ensures { to_be_bytes w32 result ≡ contribution 3 (slice_index (to_be_bytes w32 w) 3) }
+pub(crate) fn entry_3(w: u32) -> u32
+    ensures { result ≡ entry 3 w }
 {
     T[768 + w.to_be_bytes()[3] as usize]
 }
 
 // One column of a round: row r comes from column r of the four.
-fn column(a: u32, b: u32, c: u32, d: u32, k: u32) -> u32
-    ensures { to_be_bytes w32 result ≡ add_words (mix_word (sub_word (slice_index (to_be_bytes w32 a) 0
-        ∷ slice_index (to_be_bytes w32 b) 1 ∷ slice_index (to_be_bytes w32 c) 2 ∷ slice_index (to_be_bytes w32 d) 3 ∷ [])))
-        (to_be_bytes w32 k) }
+pub(crate) fn column(a: u32, b: u32, c: u32, d: u32, k: u32) -> u32
+    ensures { result ≡ column_of a b c d k }
 {
     entry_0(a) ^ entry_1(b) ^ entry_2(c) ^ entry_3(d) ^ k
 }

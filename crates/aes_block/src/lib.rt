@@ -10,11 +10,13 @@ mod columns;
 mod octets;
 pub mod plain;
 mod schedule;
+mod shared;
 mod tables;
 #[cfg(test)]
 mod tests;
 
 pub use schedule::KeySchedule;
+pub use shared::SharedRounds;
 
 /// The law of the inverses in GF(2^8) that the S-box is made of (FIPS 197, section 5.1.1): the
 /// inverse of an octet other than 0, times the octet, is 1, and 0 stands for the inverse of 0.

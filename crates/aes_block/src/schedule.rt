@@ -1,11 +1,12 @@
 //! The key schedule (FIPS 197, section 5.2) and the cipher (section 5.1).
 
-ghost use Rattle.std.specs.Prelude.{◌≡◌, ◌+◌, ◌%◌, ◌*◌, ◌<◌, ◌≤◌, length, map, take};
+ghost use Rattle.std.specs.Prelude.{◌≡◌, ℕ, ◌+◌, ◌%◌, ◌*◌, ◌<◌, ◌≤◌, List, length, map, take};
 ghost use Rattle.std.specs.Int.{w32, to_be_bytes};
 ghost use Rattle.aes_block.specs.Aes.{aes, cipher, first_words, key_word, next_word, round_constant, words};
 
 use crate::columns::{first, last, round};
 use crate::octets::{add_words, packed, rotate_word, sub_word};
+use crate::shared::{SharedRounds, after_two, shared};
 use crate::tables::ROUND_CONSTANTS;
 
 /// An expanded key: the words of the schedule of a key of 16 or 32 octets.
@@ -14,7 +15,7 @@ pub struct KeySchedule {
     // Words 0, .., 4 rounds + 3, then zeros.
     pub(crate) words: [u32; 60],
     pub(crate) rounds: usize,
-    ghost some: { 2 ≤ rounds },
+    ghost some: { 4 ≤ rounds },
     ghost few: { rounds < 15 },
     ghost even: { rounds % 2 ≡ 0 },
 }
@@ -89,6 +90,7 @@ fn packed_words(words: &[[u8; 4]; 60]) -> [u32; 60]
 
 impl KeySchedule {
     ghost use Rattle.aes_block.specs.Schedule.{cipher_of};
+    ghost use Rattle.aes_block.specs.Shared.{Shares, with_last};
 
     /// The schedule of a key of 16 octets: 10 rounds.
     pub fn of_128(k: &[u8; 16]) -> KeySchedule
@@ -118,6 +120,27 @@ impl KeySchedule {
         'pairs: for i in 0..(self.rounds - 2) / 2 {
             let middle = round(&self.words, 2 * i + 2, &state);
             state = round(&self.words, 2 * i + 3, &middle);
+        }
+        last(&self.words, self.rounds, &state)
+    }
+
+    /// What the ciphers of the blocks have in common that are `b` but for the last octet: the first
+    /// two rounds, almost whole.
+    pub fn shared_rounds(&self, b: &[u8; 16]) -> SharedRounds
+        ensures { Shares result self.now b.now }
+    {
+        shared(&self.words, b)
+    }
+
+    /// The cipher of a block that ends in `octet`, by what it shares with the blocks that are
+    /// the same but for that octet.
+    pub fn encrypt_after(&self, shared: &SharedRounds, octet: u8) -> [u8; 16]
+        ensures { (b : List ℕ) → Shares shared.now self.now b → result ≡ cipher_of self.now (with_last b octet) }
+    {
+        let mut state = round(&self.words, 3, &after_two(shared, octet));
+        'pairs: for i in 0..(self.rounds - 4) / 2 {
+            let middle = round(&self.words, 2 * i + 4, &state);
+            state = round(&self.words, 2 * i + 5, &middle);
         }
         last(&self.words, self.rounds, &state)
     }
