@@ -4,3 +4,5 @@ pub mod BodyLaws
 pub mod CommandLaws
 pub mod CommandAgain
 pub mod WrittenBodies
+pub mod WritableCommand
+pub mod CommandTokens

@@ -12,7 +12,7 @@ use Rattle.ikeless_tree.specs.Words.{mode_text}
 use Rattle.json_values.specs.Written.{count, wide, word, only, spd_entries_data}
 use Rattle.json_tree.specs.SadEntryWritten.{with_lifetime}
 
--- the input of `policy`
+-- what a request for `policy` carries: the gateway and its whole list
 unfoldable pub policy_input : List ℕ → List SpdEntry → Data
 policy_input gateway list = object (put (codes "gateway") (string gateway) (put (codes "spd-entry") (spd_entries_data list) no_members))
 

@@ -6,8 +6,44 @@ use Rattle.ikeless_tree.specs.declared.sad.SadEntry.{SadEntry}
 use Rattle.ikeless_tree.specs.declared.sad.SadRow.{SadRow}
 use Rattle.ikeless_tree.specs.declared.sad.SaState.{SaState}
 use Rattle.json_values.specs.Written.{count, wide, only}
-use Rattle.json_tree.specs.SadEntryWritten.{with_count, with_wide, limits_members, has_no_limits, with_lifetime, with_soft, tunnel_data, encryption_data, with_key, with_sealing, with_fixed, with_ends, config_data, sad_entry_data, counts_data, state_data, with_state, row_data, row_items, one_sad_entry, all_rows}
-use Rattle.json_tree.proofs.Flat.{IsFlat, AreFlat, AreFlatItems, flat_put, flat_none, flat_object, flat_array, flat_string, flat_count, flat_item, flat_no_items, flat_only, flat_selector}
+use Rattle.json_tree.specs.SadEntryWritten.{
+  with_count,
+  with_wide,
+  limits_members,
+  has_no_limits,
+  with_lifetime,
+  with_soft,
+  tunnel_data,
+  encryption_data,
+  with_key,
+  with_sealing,
+  with_fixed,
+  with_ends,
+  config_data,
+  sad_entry_data,
+  counts_data,
+  state_data,
+  with_state,
+  row_data,
+  row_items,
+  one_sad_entry,
+  all_rows,
+}
+use Rattle.json_tree.proofs.Flat.{
+  IsFlat,
+  AreFlat,
+  AreFlatItems,
+  flat_put,
+  flat_none,
+  flat_object,
+  flat_array,
+  flat_string,
+  flat_count,
+  flat_item,
+  flat_no_items,
+  flat_only,
+  flat_selector,
+}
 
 flat_if : (n : ℕ) (b : Bool) (x y : Members) → AreFlat n x → AreFlat n y → AreFlat n (if b then x else y)
 flat_if n true x y f g = f
@@ -92,7 +128,7 @@ unfolding state_data
 flat_state s = flat_object 3 _ (flat_put 3 (codes "replay-stats") _ _ (flat_only 2 (codes "last-sequence") (wide s.top) (flat_string 2 _))
     (flat_put 3 (codes "sa-lifetime-current") _ _ (flat_counts s.current) (flat_none 3)))
 
-pub flat_row : (r : SadRow) → IsFlat 5 (row_data r)
+flat_row : (r : SadRow) → IsFlat 5 (row_data r)
 unfolding row_data with_state
 flat_row r = flat_object 4 _ (flat_put 4 (codes "ipsec-sa-config") _ _ (flat_config r.entry None)
     (flat_put 4 (codes "ipsec-sa-state") _ _ (flat_state r.state)

@@ -396,7 +396,8 @@ one_sad_ok e d h =
     let a = bind_ok (one_half d) _ e h in
     let b = checked_ok a.0 e (sad_fault a.0) a.2 in
     subst (λ (x : SadEntry). IsOneSadEntry x d × (sad_fault x ≡ None)) b.0 (
-      only_ok (codes "ietf-i2nsf-ikeless:sad-entry") _ _ a.0 d (λ l k. one_ok sad_entry_in (IsSadEntry a.0) a.0 (λ i m. sad_entry_ok a.0 i m)
+      only_ok (codes "ietf-i2nsf-ikeless:sad-entry") _ _ a.0 d (λ l k. one_ok sad_entry_in (IsSadEntry a.0) a.0
+          (λ i m. sad_entry_ok a.0 i m)
           l k) a.1,
       b.1,
     )

@@ -7,5 +7,5 @@ pub mod HalfLaws
 pub mod PolicyAgain
 pub mod HalfAgain
 pub mod OneRow
-pub mod RowTexts
+pub mod TokenParts
 pub mod Writable

@@ -1,16 +1,12 @@
 -- What is written for one row, from what is written for a list of one.
-use Rattle.std.proofs.Common.{◌≡◌, ◌≤◌, suc, ℕ, true, false, ◌&&◌, not, max, [], ◌∷◌, arith, codes}
-use Rattle.std.proofs.lemmas.Bool.{and_parts, or_parts}
+use Rattle.std.proofs.Common.{◌≡◌, ◌≤◌, suc, ℕ, true, ◌&&◌, not, max, [], ◌∷◌, arith, codes}
+use Rattle.std.proofs.lemmas.Bool.{and_parts}
 use Rattle.std.specs.Str.{bytes_eq}
 use Rattle.serde_json.specs.Data.{depth}
-use Rattle.serde_json.specs.Written.{has_float}
 use Rattle.ikeless_tree.specs.declared.sad.SadRow.{SadRow}
 use Rattle.json_tree.specs.SadEntryWritten.{is_free_of, one_row}
 use Rattle.json_tree.proofs.FlatRows.{flat_all_rows}
 use Rattle.json_tree.proofs.Keyless.{free_all_rows}
-
-pub plain_row : (r : SadRow) → has_float (one_row r) ≡ false
-plain_row r = (or_parts (has_float (one_row r)) false (flat_all_rows (r ∷ [])).plain).0
 
 deeper_one : (n : ℕ) → suc (max n 0) ≤ 8 → n ≤ 8
 deeper_one n h = omega (arith, h)

@@ -320,7 +320,8 @@ one_spd_ok e d h =
     let a = bind_ok (one_entry d) _ e h in
     let b = checked_ok a.0 e (spd_fault (a.0 ∷ [])) a.2 in
     subst (λ (x : SpdEntry). IsOneSpdEntry x d × (spd_fault (x ∷ []) ≡ None)) b.0 (
-      only_ok (codes "ietf-i2nsf-ikeless:spd-entry") _ _ a.0 d (λ l k. one_ok spd_entry_in (IsSpdEntry a.0) a.0 (λ i m. spd_entry_ok a.0 i m)
+      only_ok (codes "ietf-i2nsf-ikeless:spd-entry") _ _ a.0 d (λ l k. one_ok spd_entry_in (IsSpdEntry a.0) a.0
+          (λ i m. spd_entry_ok a.0 i m)
           l k) a.1,
       b.1,
     )

@@ -1,5 +1,27 @@
 -- What is written for policies and halves can be read again: its numbers fit 64 bits, and its texts are UTF-8.
-use Rattle.std.proofs.Common.{◌≡◌, ℕ, ◌<◌, ◌^◌, ◌==◌, Bool, true, false, if◌then◌else◌, List, [], ◌∷◌, codes, Option, Some, None, refl, arith, decimal, All, IsUtf8}
+use Rattle.std.proofs.Common.{
+  ◌≡◌,
+  ℕ,
+  ◌<◌,
+  ◌^◌,
+  ◌==◌,
+  Bool,
+  true,
+  false,
+  if◌then◌else◌,
+  List,
+  [],
+  ◌∷◌,
+  codes,
+  Option,
+  Some,
+  None,
+  refl,
+  arith,
+  decimal,
+  All,
+  IsUtf8,
+}
 use Rattle.std.specs.List.{AllByRecursion, list_all}
 use Rattle.std.proofs.lemmas.Bool.{and_parts}
 use Rattle.std.proofs.lemmas.List.Elements.{recursion_from_All}
@@ -21,21 +43,86 @@ use Rattle.ikeless_tree.specs.declared.sad.SadEntry.{SadEntry}
 use Rattle.ikeless_tree.specs.declared.sad.SadRow.{SadRow}
 use Rattle.ikeless_tree.specs.declared.sad.SaState.{SaState}
 use Rattle.ikeless_tree.specs.Check.{is_spd_name, is_sad_name, spd_fault, sad_fault}
-use Rattle.ikeless_tree.specs.Typed.{AreOctets, IsTypedRange, IsTypedProtocol, IsTypedSelector, IsTypedPolicy, AreTypedPolicies, IsTypedLimits, IsTypedHalf, IsTypedState, IsTypedRow, AreTypedRows}
+use Rattle.ikeless_tree.specs.Typed.{
+  AreOctets,
+  IsTypedRange,
+  IsTypedProtocol,
+  IsTypedSelector,
+  IsTypedPolicy,
+  AreTypedPolicies,
+  IsTypedLimits,
+  IsTypedHalf,
+  IsTypedState,
+  IsTypedRow,
+  AreTypedRows,
+}
 use Rattle.ikeless_tree.specs.Words.{direction_word, action_text, df_text}
 use Rattle.yang_values.specs.Addresses.{IsAddress, address_text}
 use Rattle.yang_values.specs.HexText.{hex_colons}
 use Rattle.yang_values.specs.Prefixes.{prefix_text}
 use Rattle.yang_values.proofs.PrefixText.{address_plain, prefix_plain}
-use Rattle.json_values.specs.Written.{only, range_data, range_items, with_ports, proto_data, selector_data, policy_data, spd_entry_data, spd_entry_items, all_policies, is_named_well}
+use Rattle.json_values.specs.Written.{
+  only,
+  range_data,
+  range_items,
+  with_ports,
+  proto_data,
+  selector_data,
+  policy_data,
+  spd_entry_data,
+  spd_entry_items,
+  spd_entries_data,
+  one_policy,
+  all_policies,
+  is_named_well,
+}
 use Rattle.json_values.proofs.Plain.{utf8_number, utf8_value, utf8_name, utf8_hex}
-use Rattle.json_values.proofs.ReadAgain.{IsWritable, AreWritable, HaveWritable, write_number, write_boolean, write_text, write_word, write_array, write_object, write_item, write_no_items, write_none, write_member}
-use Rattle.json_tree.specs.SadEntryWritten.{with_count, with_wide, limits_members, has_no_limits, with_lifetime, with_soft, tunnel_data, with_key, encryption_data, with_ends, with_fixed, with_sealing, config_data, sad_entry_data, counts_data, state_data, with_state, row_data, row_items, one_sad_entry, all_rows, is_row_named, ArePassed}
-use Rattle.json_tree.proofs.Passed.{path_octets, half_octets, passed_names, passed_half, passed_rows}
+use Rattle.json_values.proofs.ReadAgain.{
+  IsWritable,
+  AreWritable,
+  HaveWritable,
+  write_number,
+  write_boolean,
+  write_text,
+  write_word,
+  write_array,
+  write_object,
+  write_item,
+  write_no_items,
+  write_none,
+  write_member,
+}
+use Rattle.json_tree.specs.SadEntryWritten.{
+  with_count,
+  with_wide,
+  limits_members,
+  has_no_limits,
+  with_lifetime,
+  with_soft,
+  tunnel_data,
+  with_key,
+  encryption_data,
+  with_ends,
+  with_fixed,
+  with_sealing,
+  config_data,
+  sad_entry_data,
+  counts_data,
+  state_data,
+  with_state,
+  row_data,
+  row_items,
+  one_sad_entry,
+  one_row,
+  all_rows,
+  is_row_named,
+  ArePassed,
+}
+use Rattle.json_tree.proofs.Passed.{path_octets, half_octets, passed_name, passed_names, passed_half, passed_rows}
 
 -- ---- texts
 
-prefix_utf8 : (p : Prefix) → IsAddress p.addr → IsUtf8 (prefix_text p)
+pub prefix_utf8 : (p : Prefix) → IsAddress p.addr → IsUtf8 (prefix_text p)
 prefix_utf8 p is = utf8_value (prefix_text p) (prefix_plain p is)
 
 address_utf8 : (a : Addr) → IsAddress a → IsUtf8 (address_text a)
@@ -63,7 +150,7 @@ df_ascii bits.Copy = refl
 
 -- ---- numbers
 
-narrow : (n : ℕ) → n < 2 ^ 32 → n < 2 ^ 64
+pub narrow : (n : ℕ) → n < 2 ^ 32 → n < 2 ^ 64
 narrow n h = omega arith
 
 port : (n : ℕ) → n < 2 ^ 16 → n < 2 ^ 64
@@ -86,11 +173,11 @@ write_ranges : (rs : List Range) → AllByRecursion IsTypedRange rs → AreWrita
 write_ranges [] typed = write_no_items
 write_ranges (r ∷ rs) typed = write_item _ _ (write_range r typed.0) (write_ranges rs typed.1)
 
-write_ports : (name : List ℕ) (rs : List Range) (ms : Members) → are_ascii name ≡ true → All IsTypedRange rs → HaveWritable ms
-    → HaveWritable (with_ports name rs ms)
+write_ports : (name : List ℕ) (rs : List Range) (ms : Members) → are_ascii name ≡ true → All IsTypedRange rs → HaveWritable ms →
+    HaveWritable (with_ports name rs ms)
 write_ports name [] ms ascii typed h = h
-write_ports name (r ∷ rs) ms ascii typed h =
-    write_member name _ ms ascii (write_array _ (write_ranges (r ∷ rs) (recursion_from_All IsTypedRange (r ∷ rs) typed))) h
+write_ports name (r ∷ rs) ms ascii typed h = write_member name _ ms ascii
+    (write_array _ (write_ranges (r ∷ rs) (recursion_from_All IsTypedRange (r ∷ rs) typed))) h
 
 write_proto : (p : Option ℕ) → IsTypedProtocol p → IsWritable (proto_data p)
 write_proto None typed = write_word (codes "any") refl
@@ -111,16 +198,16 @@ write_only name d ascii h = write_object _ (write_member name d no_members ascii
 
 write_policy : (e : SpdEntry) → IsTypedPolicy e → IsWritable (policy_data e)
 unfolding policy_data
-write_policy e typed =
-    write_object _ (write_member (codes "anti-replay-window-size") _ _ refl (write_number e.window (narrow e.window typed.window))
-    (write_member (codes "processing-info") _ _ refl
-    (write_only (codes "action") _ refl (write_word (action_text e.action) (action_ascii e.action)))
+write_policy e typed = write_object _ (write_member (codes "anti-replay-window-size") _ _ refl
+    (write_number e.window (narrow e.window typed.window))
+    (write_member (codes "processing-info") _ _ refl (write_only (codes "action") _ refl
+    (write_word (action_text e.action) (action_ascii e.action)))
     (write_member (codes "traffic-selector") _ _ refl (write_selector e.selector typed.selector) write_none)))
 
 write_entry : (e : SpdEntry) → IsTypedPolicy e → is_spd_name e.name ≡ true → IsWritable (spd_entry_data e)
 unfolding spd_entry_data
-write_entry e typed name =
-    write_object _ (write_member (codes "direction") _ _ refl (write_word (direction_word e.direction) (direction_ascii e.direction))
+write_entry e typed name = write_object _ (write_member (codes "direction") _ _ refl
+    (write_word (direction_word e.direction) (direction_ascii e.direction))
     (write_member (codes "ipsec-policy-config") _ _ refl (write_policy e typed)
     (write_member (codes "name") _ _ refl (write_text e.name (policy_utf8 e.name name))
     (write_member (codes "reqid") _ _ refl (write_text (decimal e.reqid) (utf8_number e.reqid typed.reqid)) write_none))))
@@ -131,20 +218,26 @@ write_entries (e ∷ es) typed h =
     let parts = and_parts (is_named_well e) (list_all is_named_well es) h in
     write_item _ _ (write_entry e typed.0 parts.0) (write_entries es typed.1 parts.1)
 
+pub write_one_policy : (e : SpdEntry) → IsTypedPolicy e → spd_fault (e ∷ []) ≡ None → IsWritable (one_policy e)
+write_one_policy e typed h = write_only (codes "ietf-i2nsf-ikeless:spd-entry") _ refl
+    (write_array _ (write_item _ _ (write_entry e typed (passed_name e h)) write_no_items))
+
+pub write_list : (es : List SpdEntry) → AreTypedPolicies es → spd_fault es ≡ None → IsWritable (spd_entries_data es)
+write_list es typed h = write_array _ (write_entries es (recursion_from_All IsTypedPolicy es typed) (passed_names es h))
+
 pub write_policies : (es : List SpdEntry) → AreTypedPolicies es → spd_fault es ≡ None → IsWritable (all_policies es)
 write_policies es typed h =
     write_only (codes "ietf-i2nsf-ikeless:spd") _ refl
-    (write_only (codes "spd-entry") _ refl
-    (write_array _ (write_entries es (recursion_from_All IsTypedPolicy es typed) (passed_names es h))))
+    (write_only (codes "spd-entry") _ refl (write_list es typed h))
 
 -- ---- lifetimes
 
-write_count : (name : List ℕ) (n : ℕ) (ms : Members) → are_ascii name ≡ true → n < 2 ^ 32 → HaveWritable ms
-    → HaveWritable (with_count name n ms)
+write_count : (name : List ℕ) (n : ℕ) (ms : Members) → are_ascii name ≡ true → n < 2 ^ 32 → HaveWritable ms → HaveWritable
+    (with_count name n ms)
 write_count name n ms ascii small h = members_if (n == 0) _ _ h (write_member name _ ms ascii (write_number n (narrow n small)) h)
 
-write_wide : (name : List ℕ) (n : ℕ) (ms : Members) → are_ascii name ≡ true → n < 2 ^ 64 → HaveWritable ms
-    → HaveWritable (with_wide name n ms)
+write_wide : (name : List ℕ) (n : ℕ) (ms : Members) → are_ascii name ≡ true → n < 2 ^ 64 → HaveWritable ms → HaveWritable
+    (with_wide name n ms)
 write_wide name n ms ascii small h = members_if (n == 0) _ _ h (write_member name _ ms ascii (write_text (decimal n) (utf8_number n small))
     h)
 
@@ -153,10 +246,10 @@ write_limits l typed = write_wide (codes "bytes") l.bytes _ refl typed.bytes (wr
     (write_count (codes "packets") l.packets _ refl typed.packets (write_count (codes "time") l.time no_members refl typed.time
     write_none)))
 
-write_lifetime : (name : List ℕ) (l : Limits) (ms : Members) → are_ascii name ≡ true → IsTypedLimits l → HaveWritable ms
-    → HaveWritable (with_lifetime name l ms)
-write_lifetime name l ms ascii typed h =
-    members_if (has_no_limits l) _ _ h (write_member name _ ms ascii (write_object _ (write_limits l typed)) h)
+pub write_lifetime : (name : List ℕ) (l : Limits) (ms : Members) → are_ascii name ≡ true → IsTypedLimits l → HaveWritable ms → HaveWritable
+    (with_lifetime name l ms)
+write_lifetime name l ms ascii typed h = members_if (has_no_limits l) _ _ h
+    (write_member name _ ms ascii (write_object _ (write_limits l typed)) h)
 
 write_soft : (l : Limits) (ms : Members) → IsTypedLimits l → HaveWritable ms → HaveWritable (with_soft l ms)
 write_soft l ms typed h = members_if (has_no_limits l) _ _ h
@@ -164,8 +257,8 @@ write_soft l ms typed h = members_if (has_no_limits l) _ _ h
     (write_object _ (write_member (codes "action") _ (limits_members l) refl (write_word (codes "replace") refl) (write_limits l typed))) h)
 
 pub write_counts : (l : Limits) → IsTypedLimits l → IsWritable (counts_data l)
-write_counts l typed =
-    write_object _ (write_member (codes "bytes") _ _ refl (write_text (decimal l.bytes) (utf8_number l.bytes typed.bytes))
+write_counts l typed = write_object _ (write_member (codes "bytes") _ _ refl
+    (write_text (decimal l.bytes) (utf8_number l.bytes typed.bytes))
     (write_member (codes "idle") _ _ refl (write_number l.idle (narrow l.idle typed.idle))
     (write_member (codes "packets") _ _ refl (write_number l.packets (narrow l.packets typed.packets))
     (write_member (codes "time") _ _ refl (write_number l.time (narrow l.time typed.time)) write_none))))
@@ -204,8 +297,8 @@ write_fixed ms h = write_member (codes "ext-seq-num") _ _ refl (write_boolean fa
     (write_member (codes "protocol-parameters") _ _ refl (write_word (codes "esp") refl)
     (write_member (codes "seq-overflow") _ ms refl (write_boolean false) h)))
 
-write_sealing : (window : ℕ) (key : Option (List ℕ)) (ms : Members) → window < 2 ^ 32 → HasOctets key → HaveWritable ms
-    → HaveWritable (with_sealing window key ms)
+write_sealing : (window : ℕ) (key : Option (List ℕ)) (ms : Members) → window < 2 ^ 32 → HasOctets key → HaveWritable ms → HaveWritable
+    (with_sealing window key ms)
 unfolding with_sealing
 write_sealing window key ms small octets h = write_member (codes "anti-replay-window-size") _ _ refl
     (write_number window (narrow window small))
@@ -231,8 +324,7 @@ write_one_half e typed h = write_only (codes "ietf-i2nsf-ikeless:sad-entry") _ r
 
 write_state : (s : SaState) → IsTypedState s → IsWritable (state_data s)
 unfolding state_data
-write_state s typed =
-    write_object _ (write_member (codes "replay-stats") _ _ refl
+write_state s typed = write_object _ (write_member (codes "replay-stats") _ _ refl
     (write_only (codes "last-sequence") _ refl (write_text (decimal s.top) (utf8_number s.top typed.top)))
     (write_member (codes "sa-lifetime-current") _ _ refl (write_counts s.current typed.current) write_none))
 
@@ -242,6 +334,10 @@ write_row r typed name = write_object _ (write_member (codes "ipsec-sa-config") 
     (write_member (codes "ipsec-sa-state") _ _ refl (write_state r.state typed.state)
     (write_member (codes "name") _ _ refl (write_text r.entry.name (half_utf8 r.entry.name name))
     (write_member (codes "reqid") _ _ refl (write_text (decimal r.entry.reqid) (utf8_number r.entry.reqid typed.entry.reqid)) write_none))))
+
+pub write_one_row : (r : SadRow) → IsTypedRow r → sad_fault r.entry ≡ None → IsWritable (one_row r)
+write_one_row r typed h = write_only (codes "ietf-i2nsf-ikeless:sad-entry") _ refl
+    (write_array _ (write_item _ _ (write_row r typed (passed_half r.entry h)) write_no_items))
 
 write_each : (rs : List SadRow) → AllByRecursion IsTypedRow rs → list_all is_row_named rs ≡ true → AreWritable (row_items rs)
 write_each [] typed h = write_no_items

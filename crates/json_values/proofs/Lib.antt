@@ -4,3 +4,4 @@ pub mod ItemLemmas
 pub mod LeafLaws
 pub mod ShapeLaws
 pub mod ReadAgain
+pub mod TokenLemmas

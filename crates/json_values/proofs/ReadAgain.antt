@@ -1,5 +1,33 @@
 -- What is written for a value is read as that value, where its numbers fit 64 bits and its texts are UTF-8.
-use Rattle.std.proofs.Common.{◌≡◌, ℕ, ◌≤◌, ◌<◌, ◌^◌, suc, Bool, true, false, List, [], ◌∷◌, ◌++◌, Option, Some, IsUtf8, Ordering, Less, Equal, Greater, option_map, option_and_then, refl, sym, ap, ◌∙◌, append-nil}
+use Rattle.std.proofs.Common.{
+  ◌≡◌,
+  ℕ,
+  ◌≤◌,
+  ◌<◌,
+  ◌^◌,
+  suc,
+  Bool,
+  true,
+  false,
+  List,
+  [],
+  ◌∷◌,
+  ◌++◌,
+  Option,
+  Some,
+  IsUtf8,
+  Ordering,
+  Less,
+  Equal,
+  Greater,
+  option_map,
+  option_and_then,
+  refl,
+  sym,
+  ap,
+  ◌∙◌,
+  append-nil,
+}
 use Rattle.std.specs.Ordering.{nat_cmp, match_ordering, ordering_reverse}
 use Rattle.std.specs.Cmp.Lexicographic.{slice_cmp}
 use Rattle.std.proofs.lemmas.Cmp.{nat_list_cmp_total}
@@ -13,7 +41,29 @@ use Rattle.json.proofs.Printed.Decimals.{IsNumber-decimal}
 use Rattle.json.proofs.Printed.Tokens.{tokens-print}
 use Rattle.json.proofs.Printed.Trees.{ArePrintable-json_tokens, value-json_tokens}
 use Rattle.json.proofs.Printed.Utf8.{are_ascii, IsUtf8-are_ascii, IsUtf8-quoted, IsUtf8-boolean}
-use Rattle.serde_json.specs.Data.{Num, unsigned, negative, float, Data, null, boolean, number, string, array, object, Items, no_items, item, Members, no_members, member, put, depth, items_depth, members_depth}
+use Rattle.serde_json.specs.Data.{
+  Num,
+  unsigned,
+  negative,
+  float,
+  Data,
+  null,
+  boolean,
+  number,
+  string,
+  array,
+  object,
+  Items,
+  no_items,
+  item,
+  Members,
+  no_members,
+  member,
+  put,
+  depth,
+  items_depth,
+  members_depth,
+}
 use Rattle.serde_json.specs.Read.{read, max_depth, of_json, of_items, of_members}
 use Rattle.serde_json.specs.Written.{outline, items_outline, members_outline, compact_text, items_text, members_text, comma_if}
 use Rattle.serde_json.proofs.Numbers.{number_of-decimal}
@@ -64,7 +114,7 @@ after_order l Less a b c x y z = x
 after_order l Equal a b c x y z = y
 after_order l Greater a b c x y z = z
 
-after_put : (l k : List ℕ) (d : Data) (ms : Members) → slice_cmp nat_cmp l k ≡ Less → AreAfter l ms → AreAfter l (put k d ms)
+pub after_put : (l k : List ℕ) (d : Data) (ms : Members) → slice_cmp nat_cmp l k ≡ Less → AreAfter l ms → AreAfter l (put k d ms)
 after_put l k d no_members h a = (h, tt)
 after_put l k d (member m e ms) h a = after_order l (slice_cmp nat_cmp k m) _ _ _ (h, a) a (a.0, after_put l k d ms h a.1)
 
@@ -121,7 +171,7 @@ write_member k d ms ascii here there = record { plain = plain_put k d ms ascii h
 
 -- ---- members that are read
 
-abbrev joined : Members → Members → Members
+abbrev pub joined : Members → Members → Members
 joined no_members rest = rest
 joined (member k d ms) rest = member k d (joined ms rest)
 

@@ -4,3 +4,4 @@ pub mod Members
 pub mod Leaves
 pub mod Json
 pub mod Written
+pub mod Tokens

@@ -87,6 +87,6 @@ abbrev pub tunnel_needs : List (List ℕ)
 tunnel_needs = codes "anti-replay-window-size" ∷ codes "first" ∷ codes "first-prefix" ∷ codes "mode" ∷ codes "reqid" ∷ codes "second"
     ∷ codes "second-prefix" ∷ []
 
--- the input of `tunnel`
+-- whether the input of `tunnel` has the members that it must have, and no others
 unfoldable pub tunnel_input_shape : Data → Result ⊤ Fault
 tunnel_input_shape d = shape (codes "hard" ∷ codes "soft" ∷ tunnel_needs) tunnel_needs d

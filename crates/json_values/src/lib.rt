@@ -11,6 +11,7 @@ pub mod leaves;
 pub mod members;
 pub mod names;
 mod shapes;
+mod tokens;
 
 pub use build::{
     Members, are_octets, put, put_count, put_text, put_wide, put_word, single, written,
@@ -20,3 +21,4 @@ pub use fault::{
 };
 pub use leaves::{number_of, text_of};
 pub use shapes::{at_item, has_shape, only, refused};
+pub use tokens::Tokens;
