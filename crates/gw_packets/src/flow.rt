@@ -1,16 +1,15 @@
 // What is said of a packet in a notice or a drop, and the policy that decides for it.
-ghost use Rattle.std.specs.Prelude.{◌≡◌, IfOk};
+ghost use Rattle.std.specs.Prelude.{◌≡◌, IfOk, slice_get, option_and_then};
 ghost use Rattle.std.specs.Option.{option_copied};
 ghost use Rattle.ikl_base.specs.Address.{bits_of};
 ghost use Rattle.ip_packet.specs.View.{seen};
 ghost use Rattle.ikeless_tree.specs.declared.entry.Direction.TheVariants.{Out};
-ghost use Rattle.spd_match.specs.Match.{first_entry, local_port, remote_port};
+ghost use Rattle.spd_match.specs.Match.{local_port, remote_port};
 ghost use Rattle.hist_gateway.specs.Datagram.{fault_why, flow_of as flow_of_packet, one_port, whole};
 
-use ikeless_tree::{Direction, DropWhy, Entries, Ports, Range, Selector, SpdEntry};
+use ikeless_tree::{DropWhy, Entries, Ports, Range, Selector, SpdEntry};
 use ikl_base::{Addr, NoMemory, Prefix};
 use ip_packet::{NotPacket, View};
-use spd_match::first_match;
 use std::alloc::Global;
 
 // Why octets that are no packet are dropped.
@@ -25,11 +24,11 @@ pub(crate) fn why_of(fault: NotPacket) -> DropWhy
     }
 }
 
-// The entry that decides for a packet.
-pub(crate) fn decider<'a>(list: &'a Entries, d: Direction, v: &View) -> Option<&'a SpdEntry>
-    ensures { option_copied result ≡ first_entry list.now d (seen v.now) }
+// The entry at the place that decides for a packet.
+pub(crate) fn decider(list: &Entries, place: Option<usize>) -> Option<&SpdEntry>
+    ensures { option_copied result ≡ option_and_then (slice_get list.now) place }
 {
-    match first_match(list, d, v) {
+    match place {
         None => None,
         Some(i) => list.get(i),
     }

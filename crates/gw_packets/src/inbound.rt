@@ -257,33 +257,38 @@ fn is_for(own: &Addr, v: &View) -> bool
 
 fn arrive_viewed(
     alloc: Global,
-    tables: &Tables,
+    tables: &mut Tables,
     own: &Addr,
     octets: &[u8],
     v: &View,
 ) -> Result<Plan, NoMemory>
     requires { length v.now.payload.now ≤ 65535 }
-    ensures plan { IfOk result (λ q. planned q tables.now ≡ arrive_by_view own.now octets.now (Ok (seen v.now)) tables.now) }
-    ensures fits { IfOk result (λ q. Fits q.change tables.now) }
+    ensures plan { IfOk result (λ q. planned q tables.old ≡ arrive_by_view own.now octets.now (Ok (seen v.now)) tables.old) }
+    ensures fits { IfOk result (λ q. Fits q.change tables.old) }
+    ensures same { tables.new ≡ tables.old }
 {
     if is_for(own, v) {
         return open_esp(alloc, tables, v.payload);
     }
-    match decider(tables.spd(), Direction::In, v) {
+    let place = tables.decide(Direction::In, v);
+    match decider(tables.spd(), place) {
         None => Ok(drop_for(alloc, DropWhy::NoPolicy)),
         Some(p) => clear_decided(alloc, octets, p.action),
     }
 }
 
 /// What a gateway does at a datagram from outside (RFC 4301 section 5.2, RFC 4303 section 3.4), with all the memory that it needs.
+///
+/// It is the machine's answer; that this is the law's, `arrive_acts` of `hist_gateway`, says `events_follow` of `gw_law`.
 pub fn plan_arrive(
     alloc: Global,
-    tables: &Tables,
+    tables: &mut Tables,
     config: &Config,
     octets: &[u8],
 ) -> Result<Plan, NoMemory>
-    ensures plan { IfOk result (λ q. planned q tables.now ≡ arrive config.now.address octets.now tables.now) }
-    ensures fits { IfOk result (λ q. Fits q.change tables.now) }
+    ensures plan { IfOk result (λ q. planned q tables.old ≡ arrive config.now.address octets.now tables.old) }
+    ensures fits { IfOk result (λ q. Fits q.change tables.old) }
+    ensures same { tables.new ≡ tables.old }
 {
     match view(octets) {
         Err(fault) => Ok(drop_for(alloc, why_of(fault))),

@@ -161,35 +161,40 @@ fn let_decided(
 
 fn let_viewed(
     alloc: Global,
-    tables: &Tables,
+    tables: &mut Tables,
     seq_last: u64,
     octets: &[u8],
     v: &View,
 ) -> Result<Plan, NoMemory>
     requires { seq_last ≤ 4294967295 }
-    ensures plan { IfOk result (λ q. planned q tables.now ≡ let_by_view seq_last octets.now (Ok (seen v.now)) tables.now) }
-    ensures fits { IfOk result (λ q. Fits q.change tables.now) }
+    ensures plan { IfOk result (λ q. planned q tables.old ≡ let_by_view seq_last octets.now (Ok (seen v.now)) tables.old) }
+    ensures fits { IfOk result (λ q. Fits q.change tables.old) }
+    ensures same { tables.new ≡ tables.old }
 {
     if octets.len() > LONGEST {
         return Ok(drop_for(alloc, DropWhy::TooLong));
     }
-    match decider(tables.spd(), Direction::Out, v) {
+    let place = tables.decide(Direction::Out, v);
+    match decider(tables.spd(), place) {
         None => Ok(drop_for(alloc, DropWhy::NoPolicy)),
         Some(p) => let_decided(alloc, tables, seq_last, octets, v, p),
     }
 }
 
 /// What a gateway does at a packet from inside (RFC 4301 section 5.1), with all the memory that it needs.
+///
+/// It is the machine's answer; that this is the law's, `let_acts` of `hist_gateway`, says `events_follow` of `gw_law`.
 pub fn plan_let(
     alloc: Global,
-    tables: &Tables,
+    tables: &mut Tables,
     config: &Config,
     octets: &[u8],
 ) -> Result<Plan, NoMemory>
     requires some { 1 ≤ config.now.seq_last }
     requires most { config.now.seq_last ≤ 4294967295 }
-    ensures plan { IfOk result (λ q. planned q tables.now ≡ let_in config.now.seq_last octets.now tables.now) }
-    ensures fits { IfOk result (λ q. Fits q.change tables.now) }
+    ensures plan { IfOk result (λ q. planned q tables.old ≡ let_in config.now.seq_last octets.now tables.old) }
+    ensures fits { IfOk result (λ q. Fits q.change tables.old) }
+    ensures same { tables.new ≡ tables.old }
 {
     match view(octets) {
         Err(fault) => Ok(drop_for(alloc, why_of(fault))),

@@ -4,15 +4,19 @@ ghost use Rattle.std.specs.Prelude.{◌≡◌, ◌≤◌, IfOk, None, vec_capaci
 use crate::acquires::{comes_in, copied_and, is_among, note, unstand};
 use crate::rows::rows;
 use crate::uses::{look_at_all, send_at, take_at, take_out};
-use ikeless_tree::{Entries, Names, SadEntry, Tree};
+use ikeless_tree::{Direction, Entries, Names, SadEntry, Tree};
 use ikl_base::{Duplicate, Name, NoMemory};
 use ip_packet::View;
 use sad_store::{Half, SadStore};
+use spd_match::Decisions;
 use std::alloc::Global;
 use std::marker::Model;
 
 // One more than the SPIs that are kept.
 const BAD_SPI_ROOM: usize = 65;
+
+// The places of what was decided: few flows of a busy gateway share one.
+const PLACES: u32 = 4096;
 
 /// What a gateway keeps.
 ///
@@ -21,6 +25,7 @@ const BAD_SPI_ROOM: usize = 65;
 #[derive(Debug, Drop)]
 pub struct Tables {
     spd: Entries,
+    decisions: Decisions,
     halves: SadStore,
     acquires: Vec<Name>,
     bad_spis: Vec<u32>,
@@ -31,22 +36,24 @@ impl Model for Tables {
     ghost use Rattle.std.specs.Prelude.{◌≤◌, vec_capacity};
     ghost use Rattle.gw_tables.specs.Kept.{Kept};
     ghost use Rattle.gw_tables.specs.Sound.{IsSound};
+    ghost use Rattle.spd_match.specs.Kept.{AreOf};
 
     ghost Value = { Kept };
 
     ghost view = { λ t. record { spd = t.spd; halves = t.halves; acquires = t.acquires.items; bad_spis = t.bad_spis.items; clock = t.clock } };
 
-    ghost invariant = { λ t. IsSound (record { spd = t.spd; halves = t.halves; acquires = t.acquires.items; bad_spis = t.bad_spis.items; clock = t.clock }) × (65 ≤ vec_capacity t.bad_spis) };
+    ghost invariant = { λ t. IsSound (record { spd = t.spd; halves = t.halves; acquires = t.acquires.items; bad_spis = t.bad_spis.items; clock = t.clock }) × (65 ≤ vec_capacity t.bad_spis) × AreOf t.spd t.decisions };
 }
 
 impl Tables {
-    ghost use Rattle.std.specs.Prelude.{◌<◌, ◌==◌, ◌++◌, ◌∷◌, [], ℕ, IfSome, position, Some, true, nat_lt, slice_get, option_map, OnOk, OnErr};
+    ghost use Rattle.std.specs.Prelude.{◌<◌, ◌==◌, ◌++◌, ◌∷◌, [], ℕ, IfSome, position, Some, true, nat_lt, slice_get, option_and_then, option_map, OnOk, OnErr};
     ghost use Rattle.std.specs.List.{list_any};
     ghost use Rattle.std.specs.Str.{bytes_eq};
     ghost use Rattle.ikeless_tree.specs.Check.{spd_fault, sad_fault};
     ghost use Rattle.replay_win.specs.Marks.{judged};
     ghost use Rattle.replay_win.specs.declared.verdict.Verdict.TheVariants.{Fresh};
     ghost use Rattle.ip_packet.specs.View.{seen};
+    ghost use Rattle.spd_match.specs.Match.{first_entry};
     ghost use Rattle.sad_store.specs.Halves.{is_half_of_spi, newest_place};
     ghost use Rattle.sad_store.specs.Install.{install_fault};
     ghost use Rattle.gw_tables.specs.Kept.{booted, installed, removed, session_taken, tree_of, with_list};
@@ -60,6 +67,7 @@ impl Tables {
         let bad_spis = Vec::with_capacity(alloc, BAD_SPI_ROOM)?;
         Ok(Tables {
             spd: Entries::new(alloc),
+            decisions: Decisions::new(alloc, PLACES)?,
             halves: SadStore::new(alloc),
             acquires: Vec::new(alloc),
             bad_spis,
@@ -80,6 +88,17 @@ impl Tables {
         ensures { result.now ≡ self.now.spd }
     {
         &self.spd
+    }
+
+    /// Where the entry is that decides for a packet: the first of its direction whose selector holds the packet
+    /// (RFC 4301 section 4.4.1).
+    ///
+    /// For a flow that was decided before, that takes the same time under few policies and under many.
+    pub fn decide(&mut self, d: Direction, v: &View) -> Option<usize>
+        ensures entry { option_and_then (slice_get self.old.spd) result ≡ first_entry self.old.spd d (seen v.now) }
+        ensures same { self.new ≡ self.old }
+    {
+        self.decisions.decide(&self.spd, d, v)
     }
 
     /// The halves, in the order of installation.
@@ -158,6 +177,7 @@ impl Tables {
         requires { spd_fault list ≡ None }
         ensures { self.new ≡ with_list list self.old }
     {
+        self.decisions.forget();
         self.spd = list;
         self.acquires.clear();
     }

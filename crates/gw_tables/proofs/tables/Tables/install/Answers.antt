@@ -10,6 +10,7 @@ invariant_of-self-then-not-is_in c = (
       (sound-installed c.self.inside.clock c.args.e c.install.new.self c.in-Ok.ensures.ok c.requires.sound
       (ap (λ (k : Kept). install_fault c.args.e k.halves) c.self.view_is ∙ c.requires.free) c.self.invariant.0),
   c.self.invariant.1,
+  c.self.invariant.2,
 )
 
 pub invariant_of-self-else-not-is_in : goal.invariant_of-self-else-not-is_in
@@ -17,4 +18,5 @@ invariant_of-self-else-not-is_in c = (
   sound-installed c.self.inside.clock c.args.e c.install.new.self c.in-Ok.ensures.ok c.requires.sound
       (ap (λ (k : Kept). install_fault c.args.e k.halves) c.self.view_is ∙ c.requires.free) c.self.invariant.0,
   c.self.invariant.1,
+  c.self.invariant.2,
 )

@@ -6,4 +6,5 @@ invariant_of-self c = (
   sound-else c.self.inside.acquires.items c.args.clock (sound-looked c.args.clock c.look_at_all.new.halves c.look_at_all.ensures
       c.self.invariant.0),
   c.self.invariant.1,
+  c.self.invariant.2,
 )

@@ -9,4 +9,5 @@ invariant_of-self c = (
       (ap (λ (k : Kept). option_map (λ x. nat_lt x.sent 4294967295) (slice_get k.halves c.args.i)) c.self.view_is ∙ c.requires.last)
       c.self.invariant.0,
   c.self.invariant.1,
+  c.self.invariant.2,
 )

@@ -6,4 +6,5 @@ invariant_of-self c = (
   sound-taken c.self.inside.clock c.args.octets c.args.number c.args.i c.take_at.new.halves c.take_at.ensures
       c.self.invariant.0,
   c.self.invariant.1,
+  c.self.invariant.2,
 )
