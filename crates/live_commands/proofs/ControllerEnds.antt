@@ -15,6 +15,11 @@ ends-by Holds endings.TurnsSpent holds = holds
 ends-by Holds endings.DockFault holds = holds
 ends-by Holds endings.NoMemory holds = holds
 
+pub spent : (ended : Ended) → status_of ended ≡ statuses.TurnsSpent → ended ≡ endings.TurnsSpent
+spent endings.TurnsSpent is = refl
+spent endings.DockFault is = cc
+spent endings.NoMemory is = cc
+
 -- words of the command were served
 pub of-words : {A : Type 0} (Holds : Ended → Type 0) (status : Status) (stated : Result A LineFault) → EndsBy status Holds → IsOk stated
     → IsOfWords status stated

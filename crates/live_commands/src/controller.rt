@@ -5,7 +5,9 @@ ghost use Rattle.ikl_base.specs.declared.status.Status.TheVariants as statuses;
 ghost use Rattle.hist_controller.specs.Entries.{OneFamily};
 ghost use Rattle.live_words.specs.declared.controller.ControllerWords.{ControllerWords as Stated};
 ghost use Rattle.live_words.specs.Controller.{controller_words_of};
+ghost use Rattle.live_controller.specs.Doings.{AreCalm};
 ghost use Rattle.live_controller.specs.Endings.{AcceptTells, is_dock_fault};
+ghost use Rattle.live_controller.specs.Stands.{Served};
 ghost use Rattle.live_commands.specs.Ends.{IsOfWords};
 ghost use Rattle.live_commands.specs.Controller.{EndsBy, status_of};
 
@@ -37,9 +39,12 @@ fn serve<D: Dock, L: Dialer>(
     requires family { OneFamily w.peers }
     requires known { length w.peers ≤ L.peers dialer.old }
     requires down { (g : ℕ) → L.is_up dialer.old g ≡ false }
-    ensures { EndsBy result (λ ended.
+    ensures tells { EndsBy result (λ ended.
         AcceptTells (D.accept_faults commands.old) (D.accept_faults commands.new) (D.accept_failed commands.old) (D.accept_failed commands.new)
         (is_dock_fault ended)) }
+    ensures serves { result ≡ statuses.TurnsSpent → AreCalm (L.faults dialer.old) (L.faults dialer.new)
+        → (HasRisen (D.faults commands.old) (D.faults commands.new) → ⊥) → Served w.peers w.turns
+        (record { dock = D.held commands.old; peers = L.held dialer.old }) (record { dock = D.held commands.new; peers = L.held dialer.new }) }
 {
     status(serve_controller(alloc, w.peers, commands, dialer, w.turns))
 }
@@ -62,6 +67,11 @@ pub fn run_controller<D: Dock, L: Dialer>(
     ensures tells { IsOk (controller_words_of words.now) → EndsBy result (λ ended.
         AcceptTells (D.accept_faults commands.old) (D.accept_faults commands.new) (D.accept_failed commands.old) (D.accept_failed commands.new)
         (is_dock_fault ended)) }
+    // Where no call of a peer and none of a client's session failed, all turns that the words say were served for the peers that they name.
+    ensures serves { (w : Stated) → controller_words_of words.now ≡ Ok w → result ≡ statuses.TurnsSpent
+        → AreCalm (L.faults dialer.old) (L.faults dialer.new) → (HasRisen (D.faults commands.old) (D.faults commands.new) → ⊥)
+        → Served w.peers w.turns
+        (record { dock = D.held commands.old; peers = L.held dialer.old }) (record { dock = D.held commands.new; peers = L.held dialer.new }) }
     // With the command's words and a dock whose count of accepts doesn't rise all turns are served, unless memory runs out.
     ensures complete { IsOk (controller_words_of words.now) → (HasRisen (D.accept_faults commands.old) (D.accept_faults commands.new) → ⊥)
         → (result ≡ statuses.TurnsSpent) ⊎ (result ≡ statuses.NoMemory) }

@@ -1,4 +1,7 @@
 //! The commands `gateway`, `controller` and `client`: each reads its words, and then serves or asks over any devices.
+//!
+//! `specs/Gateway.antt`, `specs/Controller.antt` and `specs/Client.antt` have the definitions,
+//! `specs/Lines.antt` the lines that are printed.
 #![tactic(auto)]
 
 mod client;

@@ -25,14 +25,16 @@ use Rattle.live_controller.specs.Streams.{Brings, IsPart, IsWaiting, Notes}
 
 -- ---- messages
 
-none_waits : (kind : Kind) → Looks kind [] Waits
+pub none_waits : (kind : Kind) → Looks kind [] Waits
 unfolding Looks
 none_waits kind = refl
 
 pub fresh_waits : (kind : Kind) (f : Feeding) → f ≡ fresh kind → IsWaiting kind f
-fresh_waits kind f e = let P : Feeding → Type 0 = λ x. IsWaiting kind x in subst P (sym e) (record { kind = refl; fault = refl; waits = none_waits kind })
+fresh_waits kind f e = let P : Feeding → Type 0 = λ x. IsWaiting kind x in subst P (sym e)
+    (record { kind = refl; fault = refl; waits = none_waits kind })
 
-since_by : (kind : Kind) (octets : List ℕ) (fault : Option HttpFault) → fault ≡ None → Looks kind octets Waits → IsSinceBy kind octets fault octets
+since_by : (kind : Kind) (octets : List ℕ) (fault : Option HttpFault) → fault ≡ None → Looks kind octets Waits → IsSinceBy kind octets fault
+    octets
 since_by kind octets fault none waits =
     let P : Option HttpFault → Type 0 = λ o. IsSinceBy kind octets o octets in subst P (sym none) (refl, waits)
 
@@ -46,7 +48,8 @@ record Kept (octets : List ℕ) (fault : Option HttpFault) (since : List ℕ) : 
   pub none : fault ≡ None
   pub are : octets ≡ since
 
-kept_by : (kind : Kind) (octets : List ℕ) (fault : Option HttpFault) (since : List ℕ) → IsSinceBy kind octets fault since → Looks kind since Waits
+kept_by : (kind : Kind) (octets : List ℕ) (fault : Option HttpFault) (since : List ℕ) → IsSinceBy kind octets fault since → Looks kind since
+    Waits
     → Kept octets fault since
 kept_by kind octets None since s w = record { none = refl; are = sym s.0 }
 kept_by kind octets (Some fault) since s w =
@@ -54,7 +57,8 @@ kept_by kind octets (Some fault) since s w =
     absurd (let no : ⊥ = cc in no)
 
 -- what is fed to a reader of this kind
-fed_as : (kind : Kind) (f : Feeding) (octets : List ℕ) (looked : Looked) → f.kind ≡ kind → Looks f.kind octets looked → Looks kind octets looked
+fed_as : (kind : Kind) (f : Feeding) (octets : List ℕ) (looked : Looked) → f.kind ≡ kind → Looks f.kind octets looked → Looks kind octets
+    looked
 fed_as kind f octets looked is looks = let P : Kind → Type 0 = λ k. Looks k octets looked in subst P is looks
 
 pub record Fed_none (kind : Kind) (f after : Feeding) (piece : List ℕ) : Type 0 where
@@ -81,7 +85,8 @@ taken_some kind since piece m zero waits gives =
     let all : length since + 0 ≡ length since = omega arith in
     let front : take (length since + 0) (since ++ piece) ≡ since = grind (arith, common_steps) in
     let P : List ℕ → Type 0 = λ o. Looks kind o (Gives m (length since + 0)) in
-    let early : Looks kind since (Gives m (length since + 0)) = subst P front (front_gives kind (since ++ piece) m (length since + 0) gives) in
+    let early : Looks kind since (Gives m (length since + 0)) = subst P front (front_gives kind (since ++ piece) m (length since + 0) gives)
+    in
     absurd (gives_waits m (length since + 0) (looks_unique kind since (Gives m (length since + 0)) Waits early waits))
 taken_some kind since piece m (suc n) waits gives = omega arith
 
@@ -127,7 +132,8 @@ pub none_open : begins [] ≡ Open
 unfolding begins
 none_open = refl
 
-line_some : (kept piece : List ℕ) (size taken : ℕ) (o : Option ℕ) → line_end piece ≡ o → line_end kept ≡ None → line_end (kept ++ piece) ≡ Some size
+line_some : (kept piece : List ℕ) (size taken : ℕ) (o : Option ℕ) → line_end piece ≡ o → line_end kept ≡ None → line_end (kept ++ piece) ≡
+    Some size
     → length kept + taken ≡ size + 1 → 0 < taken
 line_some kept piece size taken None is unended ends count =
     let none = end_none kept piece unended is in
@@ -151,12 +157,14 @@ pub record Heard_line (old new : Reading) (piece : List ℕ) (n : Notice) (taken
   pub part : IsPart new
   pub notes : Notes old.kept new.kept piece (noted.Line n taken)
 
-pub line_heard : (old new : Reading) (piece : List ℕ) (n : Notice) (taken : ℕ) → IsPart old → GivesNext old new piece (Ok (heard.Line n taken))
+pub line_heard : (old new : Reading) (piece : List ℕ) (n : Notice) (taken : ℕ) → IsPart old → GivesNext old new piece
+    (Ok (heard.Line n taken))
     → Heard_line old new piece n taken
 line_heard old new piece n taken part gives =
     let hears : Hears old piece n taken = gives.0 in
     let ends = (ends_parts (old.kept ++ piece) hears.size hears.ends).0 in
-    let some : 0 < taken = line_some old.kept piece hears.size taken (line_end piece) refl (open_none old.kept part.unended) ends hears.count in
+    let some : 0 < taken = line_some old.kept piece hears.size taken (line_end piece) refl (open_none old.kept part.unended) ends
+    hears.count in
     let P : Reading → Type 0 = λ r. Heard_line old r piece n taken in
     subst P (sym gives.1) (record {
       part = record { fault = refl; unended = none_open };

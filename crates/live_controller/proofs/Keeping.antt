@@ -14,10 +14,10 @@ use Rattle.live_controller.specs.Standing.{IsStanding}
 
 -- ---- numbers
 
-same_number : (k g : ℕ) → (k == g) ≡ true → k ≡ g
+pub same_number : (k g : ℕ) → (k == g) ≡ true → k ≡ g
 same_number k g e = grind (arith, nat_tests, e)
 
-other_number : (k g : ℕ) → (k == g) ≡ false → k ≢ g
+pub other_number : (k g : ℕ) → (k == g) ≡ false → k ≢ g
 other_number k g e same = (let no : ⊥ = grind (arith, nat_tests, e, same) in no)
 
 by_test : (P : Type 0) (k g : ℕ) (b : Bool) → (k == g) ≡ b → (k ≡ g → P) → (k ≢ g → P) → P
@@ -40,7 +40,7 @@ keeps_none d = record { peers = refl; down = λ g down. down }
 pub keeps_on : (a b c : Desk) → Keeps a b → Keeps b c → Keeps a c
 keeps_on a b c first second = record { peers = second.peers ∙ first.peers; down = λ g down. second.down g (first.down g down) }
 
-up_other : (g : ℕ) (old new : List Link) → OthersStay g old new → (k : ℕ) → k ≢ g → up_at new k ≡ up_at old k
+pub up_other : (g : ℕ) (old new : List Link) → OthersStay g old new → (k : ℕ) → k ≢ g → up_at new k ≡ up_at old k
 up_other g old new stay k other = ap up_of (stay k other)
 
 -- one link changed, and didn't come up
@@ -56,11 +56,16 @@ keeps_changed d e g same stay down = record {
 }
 
 -- the desk is one still where its controller and its peers are the same, and so many links are there
-pub desk_same : (d e : Desk) → IsDesk d → e.peers ≡ d.peers → e.controller ≡ d.controller → length e.links.items ≡ length d.links.items → IsDesk e
+pub desk_same : (d e : Desk) → IsDesk d → e.peers ≡ d.peers → e.controller ≡ d.controller → length e.links.items ≡ length d.links.items →
+    IsDesk e
 desk_same d e is peers core size =
     let P : List Peer → Type 0 = λ ps. IsStanding ps e.controller in
     let Q : Core → Type 0 = λ c. IsStanding d.peers c in
-    record { standing = subst P (sym peers) (subst Q (sym core) is.standing); size = size ∙ is.size ∙ sym (ap (λ (ps : List Peer). length ps) peers) }
+    record {
+      standing = subst P (sym peers) (subst Q (sym core) is.standing);
+      size = size ∙ is.size ∙ sym
+          (ap (λ (ps : List Peer). length ps) peers);
+    }
 
 -- one link changed, and with it whether the dialer's peer is up
 pub serves_changed : (d e : Desk) (n m : ℕ) (up now : ℕ → Bool) (g : ℕ) → Serves d n up → IsDesk e → e.peers ≡ d.peers
@@ -80,13 +85,15 @@ none_changes : (g : ℕ) (links : List Link) → OthersStay g links links
 none_changes g links k other = refl
 
 -- no link changed, nor whether a peer is up
-pub serves_still : (d : Desk) (n m : ℕ) (up now : ℕ → Bool) (g : ℕ) → Serves d n up → StaysBut g up now → now g ≡ up_at d.links.items g → m ≡ n
+pub serves_still : (d : Desk) (n m : ℕ) (up now : ℕ → Bool) (g : ℕ) → Serves d n up → StaysBut g up now → now g ≡ up_at d.links.items g → m
+    ≡ n
     → Serves d m now
 serves_still d n m up now g s others here same =
     serves_changed d d n m up now g s s.desk refl (none_changes g d.links.items) others here same
 
 -- a link changed otherwise than by coming up or going down
-pub serves_fed : (d e : Desk) (n : ℕ) (up : ℕ → Bool) (g : ℕ) → g < length d.peers → Serves d n up → e.peers ≡ d.peers → e.controller ≡ d.controller
+pub serves_fed : (d e : Desk) (n : ℕ) (up : ℕ → Bool) (g : ℕ) → g < length d.peers → Serves d n up → e.peers ≡ d.peers → e.controller ≡
+    d.controller
     → length e.links.items ≡ length d.links.items → OthersStay g d.links.items e.links.items → up_at e.links.items g ≡ up_at d.links.items g
     → Serves e n up
 serves_fed d e n up g within s peers core size stay here =

@@ -28,23 +28,34 @@ use Rattle.live_controller.proofs.Sounding.{IsSoundEvent}
 
 -- what the laws say of orders
 pub record Faultless : Type 0 where
-  pub inbound : (ps : List Peer) (h : List ControllerAct) → IsControllerPast (length ps) h → SoundCommands h → OneFamily ps → (g : ℕ) (x : Association)
+  pub inbound : (ps : List Peer) (h : List ControllerAct) → IsControllerPast (length ps) h → SoundCommands h → OneFamily ps → (g : ℕ)
+      (x : Association)
       → WasOrdered (PutIn x) g h → (sad_fault (in_entry ps x) ≡ None) × (257 ≤ (in_entry ps x).spi) × ((in_entry ps x).spi ≤ 1048832)
-  pub outbound : (ps : List Peer) (h : List ControllerAct) → IsControllerPast (length ps) h → SoundCommands h → OneFamily ps → (g : ℕ) (x : Association)
+  pub outbound : (ps : List Peer) (h : List ControllerAct) → IsControllerPast (length ps) h → SoundCommands h → OneFamily ps → (g : ℕ)
+      (x : Association)
       → WasOrdered (PutOut x) g h → (sad_fault (out_entry ps x) ≡ None) × (257 ≤ (out_entry ps x).spi) × ((out_entry ps x).spi ≤ 1048832)
-  pub list : (p : ℕ) (h : List ControllerAct) → IsControllerPast p h → SoundCommands h → (g : ℕ) (l : List SpdEntry) → WasOrdered (Policy l) g h
+  pub list : (p : ℕ) (h : List ControllerAct) → IsControllerPast p h → SoundCommands h → (g : ℕ) (l : List SpdEntry) → WasOrdered (Policy l)
+      g h
       → spd_fault l ≡ None
-  pub in_name : (p : ℕ) (h : List ControllerAct) → IsControllerPast p h → (g n : ℕ) → WasOrdered (RemoveIn n) g h → is_sad_name (in_name n) ≡ true
-  pub out_name : (p : ℕ) (h : List ControllerAct) → IsControllerPast p h → (g n : ℕ) → WasOrdered (RemoveOut n) g h → is_sad_name (out_name n) ≡ true
+  pub in_name : (p : ℕ) (h : List ControllerAct) → IsControllerPast p h → (g n : ℕ) → WasOrdered (RemoveIn n) g h → is_sad_name (in_name n)
+      ≡ true
+  pub out_name : (p : ℕ) (h : List ControllerAct) → IsControllerPast p h → (g n : ℕ) → WasOrdered (RemoveOut n) g h → is_sad_name
+      (out_name n) ≡ true
 
-order-good : Faultless → (ps : List Peer) (h : List ControllerAct) (g s n : ℕ) (o : ControllerOrder) → IsControllerPast (length ps) (Ordered g s n o ∷ h)
+order-good : Faultless → (ps : List Peer) (h : List ControllerAct) (g s n : ℕ) (o : ControllerOrder) → IsControllerPast (length ps)
+    (Ordered g s n o ∷ h)
     → SoundCommands h → OneFamily ps → IsOrder (order_told ps o)
 order-good laws ps h g s n Read past sound family = tt
-order-good laws ps h g s n (Policy l) past sound family = laws.list (length ps) (Ordered g s n (Policy l) ∷ h) past sound g l (inl (refl, refl))
-order-good laws ps h g s n (PutIn x) past sound family = (laws.inbound ps (Ordered g s n (PutIn x) ∷ h) past sound family g x (inl (refl, refl))).0
-order-good laws ps h g s n (PutOut x) past sound family = (laws.outbound ps (Ordered g s n (PutOut x) ∷ h) past sound family g x (inl (refl, refl))).0
-order-good laws ps h g s n (RemoveIn m) past sound family = laws.in_name (length ps) (Ordered g s n (RemoveIn m) ∷ h) past g m (inl (refl, refl))
-order-good laws ps h g s n (RemoveOut m) past sound family = laws.out_name (length ps) (Ordered g s n (RemoveOut m) ∷ h) past g m (inl (refl, refl))
+order-good laws ps h g s n (Policy l) past sound family = laws.list (length ps) (Ordered g s n (Policy l) ∷ h) past sound g l
+    (inl (refl, refl))
+order-good laws ps h g s n (PutIn x) past sound family = (laws.inbound ps (Ordered g s n (PutIn x) ∷ h) past sound family g x
+    (inl (refl, refl))).0
+order-good laws ps h g s n (PutOut x) past sound family = (laws.outbound ps (Ordered g s n (PutOut x) ∷ h) past sound family g x
+    (inl (refl, refl))).0
+order-good laws ps h g s n (RemoveIn m) past sound family = laws.in_name (length ps) (Ordered g s n (RemoveIn m) ∷ h) past g m
+    (inl (refl, refl))
+order-good laws ps h g s n (RemoveOut m) past sound family = laws.out_name (length ps) (Ordered g s n (RemoveOut m) ∷ h) past g m
+    (inl (refl, refl))
 
 -- a past of the law, in which each command has no fault and each act speaks of a known peer
 record Good (ps : List Peer) (h : List ControllerAct) : Type 0 where
@@ -69,7 +80,8 @@ orders-given laws ps h (Refused w ∷ xs) family good may e = absurd (no e)
 
 -- an act by which nothing is done, and the orders behind it
 going-given : Faultless → (ps : List Peer) (h : List ControllerAct) (a : ControllerAct) → OneFamily ps → Good ps h → SoundCommands (a ∷ h)
-    → OpenFits (length ps) a → done_at ps a ≡ [] → ControllerMayActAll (length ps) h (going h a) → All (IsGiven ps) (all_done ps (going h a))
+    → OpenFits (length ps) a → done_at ps a ≡ [] → ControllerMayActAll (length ps) h (going h a) → All (IsGiven ps)
+    (all_done ps (going h a))
 going-given laws ps h a family good sound unended none may =
     let rest : List ControllerAct = asked_then (a ∷ h) (asked (a ∷ h) a) in
     let next : Good ps (a ∷ h) = record {
@@ -80,23 +92,27 @@ going-given laws ps h a family good sound unended none may =
     subst (λ z. All (IsGiven ps) (z ++ all_done ps rest)) (sym none) (orders-given laws ps (a ∷ h) rest family next may.1 (then-orders h a))
 
 command-given : Faultless → (ps : List Peer) (h : List ControllerAct) (c : PlacedCommand) (r : Option Refusal) → OneFamily ps → Good ps h
-    → SoundCommands (Accepted c ∷ h) → ControllerMayActAll (length ps) h (by_refusal h c r) → All (IsGiven ps) (all_done ps (by_refusal h c r))
+    → SoundCommands (Accepted c ∷ h) → ControllerMayActAll (length ps) h (by_refusal h c r) → All (IsGiven ps)
+    (all_done ps (by_refusal h c r))
 command-given laws ps h c None family good sound may = going-given laws ps h (Accepted c) family good sound tt refl may
 command-given laws ps h c (Some w) family good sound may = All-cons (IsGiven ps) (done.Refused w) [] tt (All-nil (IsGiven ps))
 
-answer-given : Faultless → (ps : List Peer) (h : List ControllerAct) (g : ℕ) (a : Answer) (q : List ControllerOrder) → OneFamily ps → Good ps h
+answer-given : Faultless → (ps : List Peer) (h : List ControllerAct) (g : ℕ) (a : Answer) (q : List ControllerOrder) → OneFamily ps → Good
+    ps h
     → ControllerMayActAll (length ps) h (by_answer h g a q) → All (IsGiven ps) (all_done ps (by_answer h g a q))
 answer-given laws ps h g a [] family good may = All-nil (IsGiven ps)
 answer-given laws ps h g a (o ∷ os) family good may =
     going-given laws ps h (Answered g (openings g h) (answered g h + 1) a) family good good.sound tt refl may
 
-else-given : Faultless → (ps : List Peer) (h : List ControllerAct) (a : ControllerAct) (b : Bool) → OneFamily ps → Good ps h → SoundCommands (a ∷ h)
+else-given : Faultless → (ps : List Peer) (h : List ControllerAct) (a : ControllerAct) (b : Bool) → OneFamily ps → Good ps h → SoundCommands
+    (a ∷ h)
     → OpenFits (length ps) a → done_at ps a ≡ [] → ControllerMayActAll (length ps) h (if b then [] else going h a)
     → All (IsGiven ps) (all_done ps (if b then [] else going h a))
 else-given laws ps h a true family good sound unended none may = All-nil (IsGiven ps)
 else-given laws ps h a false family good sound unended none may = going-given laws ps h a family good sound unended none may
 
-then-given : Faultless → (ps : List Peer) (h : List ControllerAct) (a : ControllerAct) (b : Bool) → OneFamily ps → Good ps h → SoundCommands (a ∷ h)
+then-given : Faultless → (ps : List Peer) (h : List ControllerAct) (a : ControllerAct) (b : Bool) → OneFamily ps → Good ps h → SoundCommands
+    (a ∷ h)
     → OpenFits (length ps) a → done_at ps a ≡ [] → ControllerMayActAll (length ps) h (if b then going h a else [])
     → All (IsGiven ps) (all_done ps (if b then going h a else []))
 then-given laws ps h a true family good sound unended none may = going-given laws ps h a family good sound unended none may
@@ -105,7 +121,8 @@ then-given laws ps h a false family good sound unended none may = All-nil (IsGiv
 block-by : Faultless → (ps : List Peer) (h : List ControllerAct) (e : ControllerEvent) → OneFamily ps → Good ps h → IsSoundEvent ps e
     → EventFits (length ps) e → All (IsGiven ps) (all_done ps (block ps h e))
 block-by laws ps h (Told c) family good is fits =
-    command-given laws ps h (placed_command ps c) (refusal (length ps) h (placed_command ps c)) family good (is, good.sound) (may-block ps h (Told c))
+    command-given laws ps h (placed_command ps c) (refusal (length ps) h (placed_command ps c)) family good (is, good.sound)
+    (may-block ps h (Told c))
 block-by laws ps h (Opens g) family good is fits =
     else-given laws ps h (Opened g (openings g h + 1)) (is_open g h) family good good.sound fits refl (may-block ps h (Opens g))
 block-by laws ps h (Cuts g) family good is fits =
@@ -114,6 +131,8 @@ block-by laws ps h (Answers g a) family good is fits = answer-given laws ps h g 
 block-by laws ps h (Notices g t) family good is fits =
     then-given laws ps h (Heard g (openings g h) t) (is_open g h) family good good.sound tt refl (may-block ps h (Notices g t))
 
-pub block-given : Faultless → (ps : List Peer) (h : List ControllerAct) (e : ControllerEvent) → OneFamily ps → IsControllerPast (length ps) h
+pub block-given : Faultless → (ps : List Peer) (h : List ControllerAct) (e : ControllerEvent) → OneFamily ps → IsControllerPast (length ps)
+    h
     → AllFit (length ps) h → SoundCommands h → IsSoundEvent ps e → EventFits (length ps) e → All (IsGiven ps) (all_done ps (block ps h e))
-block-given laws ps h e family past fits sound is fit = block-by laws ps h e family (record { past = past; fits = fits; sound = sound }) is fit
+block-given laws ps h e family past fits sound is fit = block-by laws ps h e family (record { past = past; fits = fits; sound = sound }) is
+    fit

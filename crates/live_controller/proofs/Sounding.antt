@@ -47,7 +47,8 @@ refused-sound : (h : List ControllerAct) (c : PlacedCommand) (r : Option Refusal
 refused-sound h c None is s = going-sound h (Accepted c) (is, s)
 refused-sound h c (Some w) is s = s
 
-answer-sound : (h : List ControllerAct) (g : ℕ) (a : Answer) (q : List ControllerOrder) → SoundCommands h → SoundCommands (after h (by_answer h g a q))
+answer-sound : (h : List ControllerAct) (g : ℕ) (a : Answer) (q : List ControllerOrder) → SoundCommands h → SoundCommands
+    (after h (by_answer h g a q))
 answer-sound h g a [] s = s
 answer-sound h g a (o ∷ os) s = going-sound h (Answered g (openings g h) (answered g h + 1) a) s
 
@@ -59,7 +60,9 @@ either-sound h false xs ys p q = q
 pub block-sound : (ps : List Peer) (h : List ControllerAct) (e : ControllerEvent) → IsSoundEvent ps e → SoundCommands h
     → SoundCommands (after h (block ps h e))
 block-sound ps h (Told c) is s = refused-sound h (placed_command ps c) (refusal (length ps) h (placed_command ps c)) is s
-block-sound ps h (Opens g) is s = either-sound h (is_open g h) [] (going h (Opened g (openings g h + 1))) s (going-sound h (Opened g (openings g h + 1)) s)
+block-sound ps h (Opens g) is s = either-sound h (is_open g h) [] (going h (Opened g (openings g h + 1))) s
+    (going-sound h (Opened g (openings g h + 1)) s)
 block-sound ps h (Cuts g) is s = either-sound h (is_open g h) (going h (Cut g (openings g h))) [] (going-sound h (Cut g (openings g h)) s) s
 block-sound ps h (Answers g a) is s = answer-sound h g a (queue g h) s
-block-sound ps h (Notices g t) is s = either-sound h (is_open g h) (going h (Heard g (openings g h) t)) [] (going-sound h (Heard g (openings g h) t) s) s
+block-sound ps h (Notices g t) is s = either-sound h (is_open g h) (going h (Heard g (openings g h) t)) []
+    (going-sound h (Heard g (openings g h) t) s) s

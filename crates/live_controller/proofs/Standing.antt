@@ -23,16 +23,19 @@ use Rattle.live_controller.proofs.Ordering.{Faultless, block-given}
 
 -- what the law of steps says
 pub record Follows : Type 0 where
-  pub acts : (ps : List Peer) (h : List ControllerAct) (c : Core) (e : CtlEvent) → IsControllerPast (length ps) h → PlainAnswers h → StandsFor ps h c
+  pub acts : (ps : List Peer) (h : List ControllerAct) (c : Core) (e : CtlEvent) → IsControllerPast (length ps) h → PlainAnswers h →
+      StandsFor ps h c
       → MayBeTold c e → (stepped c e).acts ≡ all_done ps (block ps h (event_of e))
-  pub stands : (ps : List Peer) (h : List ControllerAct) (c : Core) (e : CtlEvent) → IsControllerPast (length ps) h → PlainAnswers h → StandsFor ps h c
+  pub stands : (ps : List Peer) (h : List ControllerAct) (c : Core) (e : CtlEvent) → IsControllerPast (length ps) h → PlainAnswers h →
+      StandsFor ps h c
       → MayBeTold c e → StandsFor ps (after h (block ps h (event_of e))) (stepped c e).core
   pub past : (ps : List Peer) (h : List ControllerAct) (e : CtlEvent) → IsControllerPast (length ps) h
       → IsControllerPast (length ps) (after h (block ps h (event_of e)))
   pub plain : (ps : List Peer) (h : List ControllerAct) (c : Core) (e : CtlEvent) → PlainAnswers h → StandsFor ps h c → MayBeTold c e
       → PlainAnswers (after h (block ps h (event_of e)))
 
-pub begun-stands : ((ps : List Peer) → StandsFor ps [] (told_nothing ps)) → (ps : List Peer) → OneFamily ps → IsStanding ps (told_nothing ps)
+pub begun-stands : ((ps : List Peer) → StandsFor ps [] (told_nothing ps)) → (ps : List Peer) → OneFamily ps → IsStanding ps
+    (told_nothing ps)
 begun-stands begins ps family = record { past = []; lawful = tt; plain = tt; sound = tt; fits = tt; family = family; stands = begins ps }
 
 -- ---- events
@@ -41,13 +44,15 @@ numbered-length : {A : Type 0} (f : ℕ → Peer → A) (g : ℕ) (ps : List Pee
 numbered-length f g [] = refl
 numbered-length f g (p ∷ ps) = let ih = numbered-length f (g + 1) ps in rw ih refl
 
-stations-known : (ps : List Peer) (h : List ControllerAct) (c : Core) → StandsFor ps h c → length c.stations ≡ length ps
+pub stations-known : (ps : List Peer) (h : List ControllerAct) (c : Core) → StandsFor ps h c → length c.stations ≡ length ps
 stations-known ps h c s = ap (λ (xs : List Station). length xs) s.gateways ∙ numbered-length (station_of ps h) 0 ps
 
 pub may-be-told : (ps : List Peer) (c : Core) (e : CtlEvent) → IsStanding ps c → CanBeTold ps c e → MayBeTold c e
 may-be-told ps c (events.Command command) s can = tt
-may-be-told ps c (events.Opened g) s can = let n = stations-known ps s.past c s.stands in let P : ℕ → Type 0 = λ k. g < k in subst P (sym n) can
-may-be-told ps c (events.Cut g) s can = let n = stations-known ps s.past c s.stands in let P : ℕ → Type 0 = λ k. g < k in subst P (sym n) can
+may-be-told ps c (events.Opened g) s can = let n = stations-known ps s.past c s.stands in let P : ℕ → Type 0 = λ k. g < k in subst P (sym n)
+    can
+may-be-told ps c (events.Cut g) s can = let n = stations-known ps s.past c s.stands in let P : ℕ → Type 0 = λ k. g < k in subst P (sym n)
+    can
 may-be-told ps c (events.Answered g a) s can =
     let n = stations-known ps s.past c s.stands in let P : ℕ → Type 0 = λ k. g < k in (subst P (sym n) can.0, can.1)
 may-be-told ps c (events.Noticed g n) s can =
@@ -69,7 +74,8 @@ event-fits ps c (events.Noticed g n) can = can
 
 -- ---- steps
 
-pub step-stands : Follows → (ps : List Peer) (c : Core) (e : CtlEvent) → IsStanding ps c → CanBeTold ps c e → IsStanding ps (stepped c e).core
+pub step-stands : Follows → (ps : List Peer) (c : Core) (e : CtlEvent) → IsStanding ps c → CanBeTold ps c e → IsStanding ps
+    (stepped c e).core
 step-stands laws ps c e s can =
     let may = may-be-told ps c e s can in
     record {

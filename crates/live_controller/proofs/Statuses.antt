@@ -13,7 +13,8 @@ use Rattle.ctl_law.specs.Told.{may_answer}
 
 -- what the law of answers says
 abbrev pub HaveStatuses : Type 0
-HaveStatuses = (o : Order) (m : HttpMessage) (a : Answer) → answer_of o m ≡ Ok a → (a.status ≡ m.status) × (answers.is_status_of o a.status ≡ true)
+HaveStatuses = (o : Order) (m : HttpMessage) (a : Answer) → answer_of o m ≡ Ok a → (a.status ≡ m.status) ×
+    (answers.is_status_of o a.status ≡ true)
 
 same-status : (o : Order) (status : ℕ) → answers.is_status_of o status ≡ true → may_answer (Some o) status ≡ true
 same-status orders.Read status is = is

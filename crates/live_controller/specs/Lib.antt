@@ -1,5 +1,10 @@
 pub mod Standing
 pub mod Streams
 pub mod Links
+pub mod Past
+pub mod Found
+pub mod Doings
+pub mod Stands
+pub mod History
 pub mod Desks
 pub mod Endings

@@ -1,7 +1,15 @@
 // The session of a client that gives commands.
-ghost use Rattle.std.specs.Prelude.{◌≡◌, IfErr, OnOk, length, true, false};
+ghost use Rattle.std.specs.Prelude.{◌≡◌, ◌≤◌, ◌<◌, ◌∷◌, ◌++◌, [], Bool, List, IfErr, IfOk, OnOk, drop, length, true, false};
+ghost use Rattle.ikl_base.specs.Outside.{HasRisen};
+ghost use Rattle.ikeless_tree.specs.declared.command.Peer.{Peer};
+ghost use Rattle.rc_operations.specs.Operations.{requested};
+ghost use Rattle.rc_operations.specs.Replies.{fault_response};
 ghost use Rattle.live_controller.specs.Desks.{Serves};
+ghost use Rattle.live_controller.specs.Doings.{Agrees, AreCalm, AreLater, DoesIf, Makes};
 ghost use Rattle.live_controller.specs.Endings.{AcceptTells, broke_of};
+ghost use Rattle.live_controller.specs.Found.{Devices, IsFound, reply_of, with_reply};
+ghost use Rattle.live_controller.specs.Past.{Accepted, Came, Came_in, Item, command_in};
+ghost use Rattle.live_controller.specs.Stands.{AreRequests, ClientStands, NodeStands};
 ghost use Rattle.live_controller.specs.declared.ended.Ended.TheVariants as endings;
 
 use crate::desk::Desk;
@@ -10,7 +18,7 @@ use crate::messages::{Brought, Requests};
 use ctl_core::CtlEvent;
 use ikl_base::{Failed, NoMemory, Octets, OrMemory};
 use live_devices::{Dialer, Dock};
-use rc_http::HttpMessage;
+use rc_http::{HttpFault, HttpMessage};
 use rc_operations::{read_operation, write_command_reply, write_error, write_fault};
 use std::alloc::Global;
 
@@ -24,7 +32,8 @@ pub(crate) struct Session {
 impl Session {
     /// Nothing came yet, and whether the session is there.
     pub(crate) fn begun(alloc: Global, is_there: bool) -> Session
-        ensures { result.is_there ≡ is_there }
+        ensures there { result.is_there ≡ is_there }
+        ensures none { result.requests ≡ [] }
     {
         Session {
             is_there,
@@ -41,8 +50,14 @@ pub(crate) fn accept<D: Dock>(
 ) -> Result<(), Ended>
     requires { session.old.is_there ≡ true → D.is_taken commands.old ≡ true }
     ensures taken { OnOk result (session.new.is_there ≡ true → D.is_taken commands.new ≡ true) }
-    ensures tells { AcceptTells (D.accept_faults commands.old) (D.accept_faults commands.new) (D.accept_failed commands.old) (D.accept_failed commands.new) (broke_of result) }
+    ensures tells { AcceptTells (D.accept_faults commands.old) (D.accept_faults commands.new) (D.accept_failed commands.old)
+        (D.accept_failed commands.new) (broke_of result) }
     ensures fault { IfErr result (λ ended. ended ≡ endings.DockFault) }
+    ensures faults { D.faults commands.new ≡ D.faults commands.old }
+    ensures goes { OnOk result ((ps : List Peer) (start : Devices) (past : List Item)
+        → ClientStands ps start past [] (D.held commands.old) session.old
+        → (is_taken : Bool) × IsFound ps start past (Accepted is_taken)
+        × ClientStands ps start (Accepted is_taken ∷ past) [] (D.held commands.new) session.new) }
 {
     match commands.accept() {
         Ok(true) => {
@@ -59,6 +74,10 @@ fn reply_to<L: Dialer>(desk: &mut Desk, m: &HttpMessage, dialer: &mut L) -> Resu
     requires { Serves desk.old (L.peers dialer.old) (L.is_up dialer.old) }
     ensures serves { OnOk result (Serves desk.new (L.peers dialer.new) (L.is_up dialer.new)) }
     ensures peers { OnOk result (desk.new.peers ≡ desk.old.peers) }
+    ensures later { OnOk result (AreLater (L.faults dialer.old) (L.faults dialer.new)) }
+    ensures reply { IfOk result (λ text. text ≡ reply_of desk.old.controller (requested m.now)) }
+    ensures does { OnOk result (AreCalm (L.faults dialer.old) (L.faults dialer.new) → Agrees desk.old
+        → DoesIf (command_in (requested m.now)) desk.old desk.new (L.held dialer.old) (L.held dialer.new)) }
 {
     match read_operation(desk.alloc, m) {
         Ok(command) => {
@@ -74,12 +93,108 @@ fn reply_to<L: Dialer>(desk: &mut Desk, m: &HttpMessage, dialer: &mut L) -> Resu
 fn write_reply<D: Dock>(session: &mut Session, reply: &[u8], commands: &mut D)
     requires { D.is_taken commands.old ≡ true }
     ensures taken { D.is_taken commands.new ≡ true }
-    ensures accepts { (D.accept_faults commands.new ≡ D.accept_faults commands.old) × (D.accept_failed commands.new ≡ D.accept_failed commands.old) }
+    ensures accepts { (D.accept_faults commands.new ≡ D.accept_faults commands.old)
+        × (D.accept_failed commands.new ≡ D.accept_failed commands.old) }
     ensures over { session.old.is_there ≡ false → session.new.is_there ≡ false }
+    ensures later { D.faults commands.old ≤ D.faults commands.new }
+    ensures kept { (HasRisen (D.faults commands.old) (D.faults commands.new) → ⊥) → session.new ≡ session.old }
+    ensures wrote { (HasRisen (D.faults commands.old) (D.faults commands.new) → ⊥)
+        → Makes (with_reply reply.now) (D.held commands.old) (D.held commands.new) }
 {
     match commands.write(reply) {
         Ok(()) => (),
         Err(Failed) => session.is_there = false,
+    }
+}
+
+// Does what a request commands, and replies to it.
+fn answer<D: Dock, L: Dialer>(
+    desk: &mut Desk,
+    session: &mut Session,
+    m: &HttpMessage,
+    commands: &mut D,
+    dialer: &mut L,
+) -> Result<(), NoMemory>
+    requires serves { Serves desk.old (L.peers dialer.old) (L.is_up dialer.old) }
+    requires taken { D.is_taken commands.old ≡ true }
+    ensures serves { OnOk result (Serves desk.new (L.peers dialer.new) (L.is_up dialer.new)) }
+    ensures peers { OnOk result (desk.new.peers ≡ desk.old.peers) }
+    ensures taken { D.is_taken commands.new ≡ true }
+    ensures accepts { (D.accept_faults commands.new ≡ D.accept_faults commands.old)
+        × (D.accept_failed commands.new ≡ D.accept_failed commands.old) }
+    ensures later { OnOk result (AreLater (L.faults dialer.old) (L.faults dialer.new)) }
+    ensures dock_later { OnOk result (D.faults commands.old ≤ D.faults commands.new) }
+    ensures kept { OnOk result ((HasRisen (D.faults commands.old) (D.faults commands.new) → ⊥) → session.new ≡ session.old) }
+    ensures wrote { OnOk result ((HasRisen (D.faults commands.old) (D.faults commands.new) → ⊥)
+        → Makes (with_reply (reply_of desk.old.controller (requested m.now))) (D.held commands.old) (D.held commands.new)) }
+    ensures does { OnOk result (AreCalm (L.faults dialer.old) (L.faults dialer.new) → Agrees desk.old
+        → DoesIf (command_in (requested m.now)) desk.old desk.new (L.held dialer.old) (L.held dialer.new)) }
+{
+    let reply = reply_to(desk, m, dialer)?;
+    write_reply(session, reply.as_slice(), commands);
+    Ok(())
+}
+
+// Replies to what is no request, and ends the session.
+fn refuse<D: Dock>(
+    alloc: Global,
+    session: &mut Session,
+    fault: HttpFault,
+    commands: &mut D,
+) -> Result<(), NoMemory>
+    requires { D.is_taken commands.old ≡ true }
+    ensures taken { D.is_taken commands.new ≡ true }
+    ensures accepts { (D.accept_faults commands.new ≡ D.accept_faults commands.old)
+        × (D.accept_failed commands.new ≡ D.accept_failed commands.old) }
+    ensures later { OnOk result (D.faults commands.old ≤ D.faults commands.new) }
+    ensures over { OnOk result (session.new.is_there ≡ false) }
+    ensures wrote { OnOk result ((HasRisen (D.faults commands.old) (D.faults commands.new) → ⊥)
+        → Makes (with_reply (fault_response fault)) (D.held commands.old) (D.held commands.new)) }
+{
+    session.is_there = false;
+    let reply = write_fault(alloc, fault)?;
+    write_reply(session, reply.as_slice(), commands);
+    Ok(())
+}
+
+// Takes the next request of a session that is there, as far as it goes. Answers how many octets that is: all of them where it isn't
+// whole.
+fn take_next_request<D: Dock, L: Dialer>(
+    desk: &mut Desk,
+    session: &mut Session,
+    piece: &[u8],
+    commands: &mut D,
+    dialer: &mut L,
+) -> Result<usize, NoMemory>
+    requires serves { Serves desk.old (L.peers dialer.old) (L.is_up dialer.old) }
+    requires taken { D.is_taken commands.old ≡ true }
+    requires there { session.old.is_there ≡ true }
+    requires some { 0 < length piece.now }
+    ensures serves { OnOk result (Serves desk.new (L.peers dialer.new) (L.is_up dialer.new)) }
+    ensures peers { OnOk result (desk.new.peers ≡ desk.old.peers) }
+    ensures taken { D.is_taken commands.new ≡ true }
+    ensures accepts { (D.accept_faults commands.new ≡ D.accept_faults commands.old)
+        × (D.accept_failed commands.new ≡ D.accept_failed commands.old) }
+    ensures later { OnOk result (AreLater (L.faults dialer.old) (L.faults dialer.new)) }
+    ensures dock_later { OnOk result (D.faults commands.old ≤ D.faults commands.new) }
+    ensures within { IfOk result (λ n. n ≤ length piece.now) }
+    ensures some { IfOk result (λ n. 0 < n) }
+    ensures goes { IfOk result (λ n. AreCalm (L.faults dialer.old) (L.faults dialer.new)
+        → (HasRisen (D.faults commands.old) (D.faults commands.new) → ⊥) → (ps : List Peer) (start : Devices) (past : List Item)
+        → NodeStands ps start past piece.now (record { dock = D.held commands.old; peers = L.held dialer.old }) desk.old session.old
+        → (more : List Item) × AreRequests more × NodeStands ps start (more ++ past) (drop n piece.now)
+        (record { dock = D.held commands.new; peers = L.held dialer.new }) desk.new session.new) }
+{
+    match session.requests.feed(desk.alloc, piece)? {
+        Brought::NoneYet => Ok(piece.len()),
+        Brought::Broken(fault) => {
+            refuse(desk.alloc, session, fault, commands)?;
+            Ok(piece.len())
+        }
+        Brought::Whole { message, taken } => {
+            answer(desk, session, &message, commands, dialer)?;
+            Ok(taken)
+        }
     }
 }
 
@@ -96,48 +211,68 @@ fn take_requests<D: Dock, L: Dialer>(
     ensures serves { OnOk result (Serves desk.new (L.peers dialer.new) (L.is_up dialer.new)) }
     ensures peers { OnOk result (desk.new.peers ≡ desk.old.peers) }
     ensures taken { D.is_taken commands.new ≡ true }
-    ensures accepts { (D.accept_faults commands.new ≡ D.accept_faults commands.old) × (D.accept_failed commands.new ≡ D.accept_failed commands.old) }
+    ensures accepts { (D.accept_faults commands.new ≡ D.accept_faults commands.old)
+        × (D.accept_failed commands.new ≡ D.accept_failed commands.old) }
+    ensures later { OnOk result (AreLater (L.faults dialer.old) (L.faults dialer.new)) }
+    ensures dock_later { OnOk result (D.faults commands.old ≤ D.faults commands.new) }
+    ensures goes { OnOk result (AreCalm (L.faults dialer.old) (L.faults dialer.new)
+        → (HasRisen (D.faults commands.old) (D.faults commands.new) → ⊥) → (ps : List Peer) (start : Devices) (past : List Item)
+        → NodeStands ps start past octets.now (record { dock = D.held commands.old; peers = L.held dialer.old }) desk.old session.old
+        → (more : List Item) × AreRequests more × NodeStands ps start (more ++ past) []
+        (record { dock = D.held commands.new; peers = L.held dialer.new }) desk.new session.new) }
 {
     let mut rest = octets;
-    'requests: while session.is_there {
-        match session.requests.feed(desk.alloc, rest)? {
-            Brought::NoneYet => return Ok(()),
-            Brought::Broken(fault) => {
-                session.is_there = false;
-                let reply = write_fault(desk.alloc, fault)?;
-                write_reply(session, reply.as_slice(), commands);
-            }
-            Brought::Whole { message, taken } => {
-                let (_, more) = rest.split_at(taken);
-                rest = more;
-                let reply = reply_to(desk, &message, dialer)?;
-                write_reply(session, reply.as_slice(), commands);
-            }
+    'requests: while !rest.is_empty() {
+        if !session.is_there {
+            return Ok(());
         }
+        let taken = take_next_request(desk, session, rest, commands, dialer)?;
+        let (_, more) = rest.split_at(taken);
+        rest = more;
     }
     Ok(())
 }
 
-// Takes what a read of the session gave; none are its end.
-fn hear_requests<D: Dock, L: Dialer>(
+// Reads the session that is there once.
+fn read_there<D: Dock, L: Dialer>(
     desk: &mut Desk,
     session: &mut Session,
-    octets: &[u8],
     commands: &mut D,
     dialer: &mut L,
+    buf: &mut [u8],
 ) -> Result<(), NoMemory>
     requires serves { Serves desk.old (L.peers dialer.old) (L.is_up dialer.old) }
     requires taken { D.is_taken commands.old ≡ true }
+    requires there { session.old.is_there ≡ true }
+    requires room { length buf.old ≡ 65536 }
     ensures serves { OnOk result (Serves desk.new (L.peers dialer.new) (L.is_up dialer.new)) }
     ensures peers { OnOk result (desk.new.peers ≡ desk.old.peers) }
     ensures taken { D.is_taken commands.new ≡ true }
-    ensures accepts { (D.accept_faults commands.new ≡ D.accept_faults commands.old) × (D.accept_failed commands.new ≡ D.accept_failed commands.old) }
+    ensures accepts { (D.accept_faults commands.new ≡ D.accept_faults commands.old)
+        × (D.accept_failed commands.new ≡ D.accept_failed commands.old) }
+    ensures later { OnOk result (AreLater (L.faults dialer.old) (L.faults dialer.new)) }
+    ensures dock_later { OnOk result (D.faults commands.old ≤ D.faults commands.new) }
+    ensures goes { OnOk result (AreCalm (L.faults dialer.old) (L.faults dialer.new)
+        → (HasRisen (D.faults commands.old) (D.faults commands.new) → ⊥) → (ps : List Peer) (start : Devices) (past : List Item)
+        → NodeStands ps start past [] (record { dock = D.held commands.old; peers = L.held dialer.old }) desk.old session.old
+        → (came : Came) × (more : List Item) × AreRequests more × NodeStands ps start (more ++ Came_in came ∷ past) []
+        (record { dock = D.held commands.new; peers = L.held dialer.new }) desk.new session.new) }
 {
-    if octets.is_empty() {
-        session.is_there = false;
-        return Ok(());
+    match commands.read(buf) {
+        Ok(None) => Ok(()),
+        Ok(Some(n)) => {
+            if n == 0 {
+                session.is_there = false;
+                return Ok(());
+            }
+            let (octets, _) = buf.split_at(n);
+            take_requests(desk, session, octets, commands, dialer)
+        }
+        Err(Failed) => {
+            session.is_there = false;
+            Ok(())
+        }
     }
-    take_requests(desk, session, octets, commands, dialer)
 }
 
 /// Reads the session once, where one is there.
@@ -154,20 +289,18 @@ pub(crate) fn read_session<D: Dock, L: Dialer>(
     ensures serves { OnOk result (Serves desk.new (L.peers dialer.new) (L.is_up dialer.new)) }
     ensures peers { OnOk result (desk.new.peers ≡ desk.old.peers) }
     ensures taken { session.new.is_there ≡ true → D.is_taken commands.new ≡ true }
-    ensures accepts { (D.accept_faults commands.new ≡ D.accept_faults commands.old) × (D.accept_failed commands.new ≡ D.accept_failed commands.old) }
+    ensures accepts { (D.accept_faults commands.new ≡ D.accept_faults commands.old)
+        × (D.accept_failed commands.new ≡ D.accept_failed commands.old) }
+    ensures later { OnOk result (AreLater (L.faults dialer.old) (L.faults dialer.new)) }
+    ensures dock_later { OnOk result (D.faults commands.old ≤ D.faults commands.new) }
+    ensures goes { OnOk result (AreCalm (L.faults dialer.old) (L.faults dialer.new)
+        → (HasRisen (D.faults commands.old) (D.faults commands.new) → ⊥) → (ps : List Peer) (start : Devices) (past : List Item)
+        → NodeStands ps start past [] (record { dock = D.held commands.old; peers = L.held dialer.old }) desk.old session.old
+        → (came : Came) × (more : List Item) × AreRequests more × NodeStands ps start (more ++ Came_in came ∷ past) []
+        (record { dock = D.held commands.new; peers = L.held dialer.new }) desk.new session.new) }
 {
     if !session.is_there {
         return Ok(());
     }
-    match commands.read(buf) {
-        Ok(None) => Ok(()),
-        Ok(Some(n)) => {
-            let (octets, _) = buf.split_at(n);
-            hear_requests(desk, session, octets, commands, dialer)
-        }
-        Err(Failed) => {
-            session.is_there = false;
-            Ok(())
-        }
-    }
+    read_there(desk, session, commands, dialer, buf)
 }

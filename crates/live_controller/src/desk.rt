@@ -1,10 +1,13 @@
 // The controller with the links to its peers.
-ghost use Rattle.std.specs.Prelude.{◌≡◌, ◌<◌, ℕ, All, IfOk, OnErr, OnOk, length, true, false};
+ghost use Rattle.std.specs.Prelude.{◌≡◌, ◌<◌, [], ℕ, Some, All, IfOk, OnErr, OnOk, length, slice_get, true, false};
 ghost use Rattle.hist_controller.specs.Entries.{OneFamily};
 ghost use Rattle.ctl_core.specs.Core.{told_nothing};
 ghost use Rattle.ctl_core.specs.Step.{stepped};
+ghost use Rattle.ctl_core.specs.declared.acts.CtlEvent.TheVariants as told;
 ghost use Rattle.live_controller.specs.Desks.{IsDesk, Keeps, Serves};
-ghost use Rattle.live_controller.specs.Links.{up_at, OthersStay};
+ghost use Rattle.live_controller.specs.Doings.{IsForOpen, Makes, OpensBy};
+ghost use Rattle.live_controller.specs.Found.{hung_by};
+ghost use Rattle.live_controller.specs.Links.{notices_at, responses_at, up_at, OthersStay};
 ghost use Rattle.live_controller.specs.Standing.{address_at, CanBeTold, IsGiven};
 
 use crate::link::Link;
@@ -85,6 +88,8 @@ impl Desk {
         ensures acts { IfOk result (λ acts. acts ≡ (stepped self.old.controller e).acts) }
         ensures given { IfOk result (λ acts. All (IsGiven self.old.peers) acts) }
         ensures core { OnOk result (self.new.controller ≡ (stepped self.old.controller e).core) }
+        ensures opens { OnOk result (OpensBy (length self.old.peers) e self.old.controller self.new.controller) }
+        ensures ready { IfOk result (λ acts. All (IsForOpen self.new.controller) acts) }
         ensures peers { self.new.peers ≡ self.old.peers }
         ensures links { self.new.links ≡ self.old.links }
         ensures err { OnErr result (self.new.controller ≡ self.old.controller) }
@@ -100,6 +105,7 @@ impl Desk {
     fn set_link(&mut self, g: usize, link: Link)
         requires { g < length self.old.links.items }
         ensures up { up_at self.new.links.items g ≡ link.is_up }
+        ensures link { slice_get self.new.links.items g ≡ Some link }
         ensures others { OthersStay g self.old.links.items self.new.links.items }
         ensures size { length self.new.links.items ≡ length self.old.links.items }
         ensures peers { self.new.peers ≡ self.old.peers }
@@ -112,6 +118,7 @@ impl Desk {
     pub(crate) fn open(&mut self, g: usize)
         requires { g < length self.old.links.items }
         ensures up { up_at self.new.links.items g ≡ true }
+        ensures none { (responses_at self.new.links.items g ≡ []) × (notices_at self.new.links.items g ≡ []) }
         ensures others { OthersStay g self.old.links.items self.new.links.items }
         ensures size { length self.new.links.items ≡ length self.old.links.items }
         ensures peers { self.new.peers ≡ self.old.peers }
@@ -129,6 +136,9 @@ impl Desk {
         ensures keeps { Keeps self.old self.new }
         ensures down { up_at self.new.links.items g ≡ false }
         ensures core { self.new.controller ≡ self.old.controller }
+        ensures others { OthersStay g self.old.links.items self.new.links.items }
+        ensures held { (k : ℕ) → Makes (hung_by k (Some (told.Cut g))) (L.held dialer.old k) (L.held dialer.new k) }
+        ensures counts { (k : ℕ) → L.faults dialer.new k ≡ L.faults dialer.old k }
     {
         let link = Link::begun(self.alloc, false);
         self.set_link(g, link);

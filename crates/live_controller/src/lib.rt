@@ -5,6 +5,7 @@ mod answers;
 mod clients;
 mod desk;
 mod ended;
+mod laws;
 mod link;
 mod messages;
 mod notices;
@@ -13,4 +14,5 @@ mod serve;
 mod sessions;
 
 pub use ended::Ended;
+pub use laws::follows_history;
 pub use serve::serve_controller;

@@ -1,9 +1,10 @@
 // What the controller is told, and what it does then: orders are written to the peers.
-ghost use Rattle.std.specs.Prelude.{◌≡◌, ◌<◌, ℕ, All, IfOk, OnOk, length, false};
+ghost use Rattle.std.specs.Prelude.{◌≡◌, ◌<◌, ◌∷◌, [], ℕ, All, IfOk, OnOk, length, true, false};
 ghost use Rattle.ctl_core.specs.declared.acts.CtlAct.TheVariants as done;
 ghost use Rattle.ctl_core.specs.declared.acts.CtlEvent.TheVariants as told;
 ghost use Rattle.ctl_core.specs.Step.{stepped};
 ghost use Rattle.live_controller.specs.Desks.{Keeps, Serves};
+ghost use Rattle.live_controller.specs.Doings.{Agrees, AgreesBy, AreCalm, AreLater, Carried, Does, IsReady, Tells};
 ghost use Rattle.live_controller.specs.Links.{up_at};
 ghost use Rattle.live_controller.specs.Standing.{order_text, refused_of, CanBeTold, IsGiven};
 
@@ -53,6 +54,10 @@ impl Desk {
         ensures keeps { OnOk result (Keeps self.old self.new) }
         ensures lost { OnOk result (All (λ k. k < length self.old.peers) lost.new.items) }
         ensures core { self.new.controller ≡ self.old.controller }
+        ensures later { OnOk result (AreLater (L.faults dialer.old) (L.faults dialer.new)) }
+        ensures carried { OnOk result (AreCalm (L.faults dialer.old) (L.faults dialer.new) → up_at self.old.links.items g ≡ true
+            → Carried self.old.peers (done.Order g order.now ∷ []) self.old self.new lost.old.items lost.new.items (L.held dialer.old)
+            (L.held dialer.new)) }
     {
         if !self.is_open(g) {
             return Ok(());
@@ -80,6 +85,10 @@ impl Desk {
         ensures keeps { OnOk result (Keeps self.old self.new) }
         ensures lost { OnOk result (All (λ k. k < length self.old.peers) lost.new.items) }
         ensures core { self.new.controller ≡ self.old.controller }
+        ensures later { OnOk result (AreLater (L.faults dialer.old) (L.faults dialer.new)) }
+        ensures carried { OnOk result (AreCalm (L.faults dialer.old) (L.faults dialer.new) → IsReady self.old.links.items act.now
+            → Carried self.old.peers (act.now ∷ []) self.old self.new lost.old.items lost.new.items (L.held dialer.old)
+            (L.held dialer.new)) }
     {
         match act {
             CtlAct::Order { gateway, order } => self.send(*gateway, order, dialer, lost),
@@ -101,6 +110,9 @@ impl Desk {
         ensures keeps { OnOk result (Keeps self.old self.new) }
         ensures lost { OnOk result (All (λ k. k < length self.old.peers) lost.new.items) }
         ensures core { OnOk result (self.new.controller ≡ self.old.controller) }
+        ensures later { OnOk result (AreLater (L.faults dialer.old) (L.faults dialer.new)) }
+        ensures carried { OnOk result (AreCalm (L.faults dialer.old) (L.faults dialer.new) → All (IsReady self.old.links.items) acts.now
+            → Carried self.old.peers acts.now self.old self.new lost.old.items lost.new.items (L.held dialer.old) (L.held dialer.new)) }
     {
         for act in acts.as_slice() {
             self.carry_out_one(act, dialer, lost)?;
@@ -123,6 +135,9 @@ impl Desk {
         ensures lost { OnOk result (All (λ k. k < length self.old.peers) lost.new.items) }
         ensures core { OnOk result (self.new.controller ≡ (stepped self.old.controller e).core) }
         ensures refused { IfOk result (λ refused. refused ≡ refused_of (stepped self.old.controller e).acts) }
+        ensures later { OnOk result (AreLater (L.faults dialer.old) (L.faults dialer.new)) }
+        ensures tells { OnOk result (AreCalm (L.faults dialer.old) (L.faults dialer.new) → AgreesBy e self.old
+            → Tells e self.old self.new (L.held dialer.old) (L.held dialer.new) × (lost.new.items ≡ lost.old.items)) }
     {
         let acts = self.step(e)?;
         self.carry_out(&acts, dialer, lost)?;
@@ -140,6 +155,7 @@ impl Desk {
         requires lost { All (λ k. k < length self.old.peers) lost.old.items }
         ensures serves { OnOk result (Serves self.new (L.peers dialer.new) (L.is_up dialer.new)) }
         ensures keeps { OnOk result (Keeps self.old self.new) }
+        ensures later { OnOk result (AreLater (L.faults dialer.old) (L.faults dialer.new)) }
     {
         for i in 0..self.peers.len() {
             if i >= lost.len() {
@@ -163,9 +179,15 @@ impl Desk {
         ensures serves { OnOk result (Serves self.new (L.peers dialer.new) (L.is_up dialer.new)) }
         ensures keeps { OnOk result (Keeps self.old self.new) }
         ensures refused { IfOk result (λ refused. refused ≡ refused_of (stepped self.old.controller e).acts) }
+        ensures later { OnOk result (AreLater (L.faults dialer.old) (L.faults dialer.new)) }
+        ensures tells { OnOk result (AreCalm (L.faults dialer.old) (L.faults dialer.new) → AgreesBy e self.old
+            → Tells e self.old self.new (L.held dialer.old) (L.held dialer.new)) }
     {
         let mut lost = Vec::new(self.alloc);
         let refused = self.tell_one(e, dialer, &mut lost)?;
+        if lost.is_empty() {
+            return Ok(refused);
+        }
         self.tell_lost(&mut lost, dialer)?;
         Ok(refused)
     }
@@ -177,6 +199,9 @@ impl Desk {
         ensures serves { OnOk result (Serves self.new (L.peers dialer.new) (L.is_up dialer.new)) }
         ensures keeps { OnOk result (Keeps self.old self.new) }
         ensures down { OnOk result (up_at self.new.links.items g ≡ false) }
+        ensures later { OnOk result (AreLater (L.faults dialer.old) (L.faults dialer.new)) }
+        ensures does { OnOk result (AreCalm (L.faults dialer.old) (L.faults dialer.new) → Agrees self.old
+            → Does (told.Cut g) self.old self.new (L.held dialer.old) (L.held dialer.new)) }
     {
         self.hang_up(g, dialer);
         self.tell(CtlEvent::Cut(g), dialer)?;

@@ -31,7 +31,8 @@ returns-in-Ok-NoneYet c =
 pub returns-in-Ok-Whole : goal.returns-in-Ok-Whole
 returns-in-Ok-Whole c =
     let fed = c.in-Ok-Whole.ensures.gives c.self.inside.feeder.octets (since_waits Response c.self.inside.feeder c.self.invariant) in
-    let brings = subst (λ z. Brings Response z c.feed.new.self.octets c.args.piece.now (brought.Whole c.in-Ok-Whole.message c.in-Ok-Whole.taken)) c.self.view_is
+    let brings = subst (λ z. Brings Response z c.feed.new.self.octets c.args.piece.now
+    (brought.Whole c.in-Ok-Whole.message c.in-Ok-Whole.taken)) c.self.view_is
     (whole_fed Response c.self.inside.feeder c.feed.new.self c.args.piece.now c.in-Ok-Whole.message c.in-Ok-Whole.taken c.self.invariant
     (rw c.in-Ok-Whole.field-0-is at fed)).brings in
     rw c.in-Ok-Whole.field-0-is brings

@@ -1,0 +1,47 @@
+use Rattle.std.proofs.Common.{◌≡◌, ◌<◌, List, ℕ, [], ◌∷◌, length, take, refl, arith}
+use Rattle.std.proofs.lemmas.Result.{on_ok_weaker}
+use Rattle.live_controller.specs.Past.{End, Heard, Piece, Waiting}
+use Rattle.live_controller.proofs.Doing.{calm-back, calm-front, later-by}
+use Rattle.live_controller.proofs.Hearing.{heard-end, heard-goes, heard-piece, heard-waits}
+use Rattle.live_controller.proofs.Receipts.{control-end, control-none, control-piece}
+use Rattle.live_controller.proofs.desk.Desk.read_responses.Goals as goal
+
+pub returns-in-Ok-None-clause-goes : goal.returns-in-Ok-None-clause-goes
+returns-in-Ok-None-clause-goes g c = λ calm ps start past st.
+    let call = c.in-Ok-None.ensures in
+    let gives = rw c.in-Ok-None.field-0-is at call.gives in
+    let came = control-none c.args.g _ _ c.read.new.buf gives.1 call.others.0 in
+    heard-goes ps start past c.args.g Waiting [] _ _ tt
+    (heard-waits ps start past c.args.g _ _ c.args.self.now c.requires.known c.requires.up st came.called came.found)
+
+pub returns-then-n-eq0-clause-goes : goal.returns-then-n-eq0-clause-goes
+returns-then-n-eq0-clause-goes g c =
+    let call = c.in-Ok-Some.ensures in
+    let gives = rw c.in-Ok-Some.field-0-is at call.gives in
+    let room : length c.read.new.buf ≡ 65536 = omega (arith, c.read.auto.buf, c.requires.room) in
+    let came = control-end c.args.g c.in-Ok-Some.n _ _ c.read.new.buf room c.if-n-eq0.true gives.1 call.others.0 in
+    let first = later-by _ _ c.args.g _ call.cause call.counts.0 in
+    on_ok_weaker c.cut.result (λ does calm ps start past st.
+    heard-goes ps start past c.args.g End [] _ _ tt
+    (heard-end ps start past c.args.g _ _ _ c.args.self.now c.cut.new.self c.requires.known c.requires.up st came.called came.found
+    (does (calm-back _ _ _ first calm) st.agrees))) c.cut.ensures.does
+
+pub returns-else-n-eq0-clause-goes : goal.returns-else-n-eq0-clause-goes
+returns-else-n-eq0-clause-goes g c =
+    let call = c.in-Ok-Some.ensures in
+    let gives = rw c.in-Ok-Some.field-0-is at call.gives in
+    let room : length c.read.new.buf ≡ 65536 = omega (arith, c.read.auto.buf, c.requires.room) in
+    let some : 0 < c.in-Ok-Some.n = omega (arith, c.if-n-eq0.false) in
+    let piece : List ℕ = c.split_at.result.0.now in
+    let same : piece ≡ take c.in-Ok-Some.n c.read.new.buf = cc in
+    let came = control-piece c.args.g c.in-Ok-Some.n _ _ c.read.new.buf piece room some same gives.1 call.others.0 in
+    let first = later-by _ _ c.args.g _ call.cause call.counts.0 in
+    on_ok_weaker c.take_responses.result (λ goes calm ps start past st.
+    let read = heard-piece ps start past c.args.g piece _ _ c.args.self.now c.requires.known c.requires.up st came.called came.found in
+    let taken = goes (calm-back _ _ _ first calm) ps start (Heard c.args.g (Piece piece) ∷ past) read in
+    heard-goes ps start past c.args.g (Piece piece) taken.0 _ _ taken.1 taken.2) c.take_responses.ensures.goes
+
+pub returns-in-Err-clause-goes : goal.returns-in-Err-clause-goes
+returns-in-Err-clause-goes g c =
+    on_ok_weaker c.cut-in-Err.result (λ later calm ps start past st.
+    absurd (calm-front _ _ _ later calm c.args.g (c.in-Err.ensures.cause.failed refl))) c.cut-in-Err.ensures.later
