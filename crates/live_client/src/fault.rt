@@ -1,3 +1,4 @@
+// What a client can meet in place of an answer.
 use ikl_base::Octets;
 
 /// Why a client is told nothing.

@@ -1,4 +1,6 @@
 //! A client of the controller, which asks it to carry out one command and is told what came of it.
+//!
+//! `specs/Asking.antt` and `specs/Replies.antt` have the definitions.
 #![tactic(auto)]
 
 mod ask;

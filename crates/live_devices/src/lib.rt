@@ -1,4 +1,6 @@
 //! The traits of the outside that live nodes stand on, wires, docks, dialers and clocks, each with its devices in memory.
+//!
+//! `specs/Wires.antt`, `specs/Docks.antt`, `specs/Dialers.antt` and `specs/Clocks.antt` have what each call gives and takes.
 #![tactic(auto)]
 
 mod clock;

@@ -88,7 +88,7 @@ octets_of (Accepted true ∷ past) = []
 octets_of (Came_in (Piece octets) ∷ past) = octets_of past ++ octets
 octets_of (x ∷ past) = octets_of past
 
--- its messages
+-- the whole requests that it gave, the oldest first
 abbrev pub messages_of : List Item → List HttpMessage
 messages_of [] = []
 messages_of (Accepted true ∷ past) = []

@@ -2,6 +2,8 @@
 //!
 //! Each turn reads the clock, receives once from either wire, accepts once, and reads the session once where one is there. What each call
 //! brings is done at the gateway at once, and its acts are carried out: packets and datagrams are sent, replies and notices written.
+//!
+//! `specs/Past.antt` has what came, `specs/Found.antt` what the devices hold after it, `specs/History.antt` the acts of the one history.
 #![tactic(auto)]
 
 mod carry;

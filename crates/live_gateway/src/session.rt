@@ -28,7 +28,7 @@ use rc_resource::{Ask, RcError, message_fault, read_request};
 use std::alloc::Global;
 use text_bounds::{refusals_are_text, replies_can_be_written};
 
-// As many octets as a read of the session may give.
+// As many octets as a read of the session may give. A dock over sockets gives far fewer.
 const READ: usize = 65_536;
 
 // A half without a fault has a tunnel between addresses of one family.

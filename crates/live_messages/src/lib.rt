@@ -1,4 +1,6 @@
 //! The messages of a session that comes in as octets, one after another.
+//!
+//! `specs/Brings.antt` has the definition.
 #![tactic(auto)]
 
 mod feed;

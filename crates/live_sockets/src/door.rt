@@ -12,8 +12,8 @@ use std::io::ErrorKind;
 use std::net::{Net, TcpListener, TcpStream};
 use std::time::{Clock, Duration, Instant};
 
-// How many connections that wait at a port one call takes.
-const TAKEN_AT_ONCE: usize = 64;
+// How many connections that wait at a port one call takes: more than the system lets wait.
+const TAKEN_AT_ONCE: usize = 256;
 
 // How long a control stream waits at most for its notice stream.
 const HALF_MILLIS: u64 = 1_000;

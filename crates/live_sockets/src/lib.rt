@@ -2,6 +2,8 @@
 //!
 //! What a socket carries no clause can say: these devices tell nothing of what they hold, and count their faults. An idle
 //! node waits in its dock until one of its sockets is ready, a quarter of a second at most.
+//!
+//! `specs/Faults.antt` has the ports that a fault names, `specs/Peers.antt` what a dialer tells of each peer.
 #![tactic(auto)]
 
 mod activity;

@@ -11,11 +11,16 @@ use ikl_base::{Failed, OrMemory};
 use live_devices::{Dock, Tally};
 use mio::Events;
 use std::alloc::Global;
+use std::cmp::min;
 use std::net::{Net, TcpListener, TcpStream};
 use std::time::Clock;
 
 // How many of the sockets that are ready one wait tells of.
 const EVENTS: usize = 16;
+
+// How many octets of a session one read gives at most. A turn takes one datagram from each wire and handles every
+// request that a read completes, so more of them would keep datagrams waiting for longer than a port has room.
+const READ_AT_ONCE: usize = 256;
 
 /// A dock at two ports of this machine, or at one for sessions without a notice stream.
 ///
@@ -23,6 +28,8 @@ const EVENTS: usize = 16;
 /// session is taken. A newer control stream takes the place of one whose notice stream hasn't come, and such a half is
 /// dropped after a second. A session whose call failed, or that the node no longer reads, ends for its peer after what
 /// was written; its streams are dropped when a newer one is taken.
+///
+/// A read gives 256 octets at most, however long `buf` is, so that one turn of a node isn't held by many requests.
 ///
 /// An idle node waits in `accept`, a quarter of a second at most, until a socket that watches with this dock is ready.
 #[derive(Drop)]
@@ -152,7 +159,11 @@ impl<R: Clock> Dock for TcpDock<'_, R> {
     fn read(&mut self, buf: &mut [u8]) -> Result<Option<usize>, Failed> {
         self.is_read = true;
         let answer = match &self.session {
-            Some(session) => session.read(buf),
+            Some(session) => {
+                let most = min(buf.len(), READ_AT_ONCE);
+                let (front, _) = buf.split_at_mut(most);
+                session.read(front)
+            }
             None => Err(Failed),
         };
         self.door.note(&answer);

@@ -1,4 +1,6 @@
 //! The words of the commands `gateway`, `controller`, `client` and `drill`: what they must be, and what they say.
+//!
+//! `specs/Gateway.antt`, `specs/Controller.antt` and `specs/Client.antt` have the definitions.
 #![tactic(auto)]
 
 mod apps;
