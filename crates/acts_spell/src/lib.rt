@@ -1,4 +1,6 @@
 //! Each act of a history has a line: the transcript of a script can be written.
+//!
+//! `specs/Spelled.antt` has the definitions: when an act, an event and a header can be spelled.
 #![tactic(auto)]
 
 mod laws;

@@ -16,10 +16,9 @@ use crate::peer::{
 };
 use ctl_tunnels::{Direction, HalfOrder, Keyring, Pair, Progress, Tunnel};
 use ikeless_tree::{Order, Peers, Refusal};
-use ikl_base::{ListOf, NoMemory, Octets};
+use ikl_base::{NoMemory, Octets};
 use std::alloc::Global;
 use std::marker::Model;
-use std::mem::replace;
 
 /// The controller of some gateways, which are its peers.
 #[derive(Drop)]
@@ -244,7 +243,7 @@ impl Controller {
         if !has_room(&self.stations, &queues) {
             return Err(NoMemory);
         }
-        append_acts(self.alloc, acts, given)?;
+        acts.append(given)?;
         append_queues(&mut self.stations, &mut queues);
         self.pairs = pairs;
         self.serials = serials;
@@ -284,16 +283,4 @@ fn is_ready(ready: &[bool], gateway: usize) -> bool
         Some(is) => *is,
         None => false,
     }
-}
-
-// Adds acts at the end: all, or none for want of memory.
-fn append_acts(alloc: Global, acts: &mut CtlActs, more: CtlActs) -> Result<(), NoMemory>
-    ensures ok { OnOk result (acts.new ≡ acts.old ++ more) }
-    ensures err { OnErr result (acts.new ≡ acts.old) }
-{
-    let mut items = replace(acts, ListOf::new(alloc)).into_items();
-    let mut added = more.into_items();
-    let outcome = items.append(&mut added);
-    *acts = ListOf::from_items(items);
-    Ok(outcome?)
 }

@@ -3,6 +3,8 @@
 //! It keeps, for each gateway, its session, the newest list of policies commanded and the orders that wait for answers;
 //! the tunnels that aren't ended or have an association left, and how far each of their directions has come; and the keys
 //! accepted.
+//!
+//! `specs/Step.antt` has the definition: `stepped`.
 #![tactic(auto)]
 
 mod acts;

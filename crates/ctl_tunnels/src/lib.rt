@@ -1,5 +1,7 @@
 //! What a controller keeps of its tunnels and keys: the life of each direction's associations (the IKE-less case of RFC
 //! 9061), which order a direction gets next, and the halves as entries of a gateway's database.
+//!
+//! `specs/Tunnels.antt` has what is kept, `specs/Lives.antt` and `specs/Steps.antt` how far it comes, `specs/Halves.antt` the entries.
 #![tactic(auto)]
 
 mod half;

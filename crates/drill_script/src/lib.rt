@@ -1,4 +1,6 @@
 //! The drill: a large script whose lines a number draws, and what is counted of its transcript.
+//!
+//! `specs/Script.antt` has the definition of the script, `specs/Tallies.antt` that of what is counted.
 #![tactic(auto)]
 
 mod drawing;

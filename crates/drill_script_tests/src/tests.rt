@@ -1,3 +1,4 @@
+// The drill's script against its first lines and counts worked by another program.
 use drill_script::*;
 use ikl_base::NoMemory;
 use std::alloc::Global;

@@ -1,4 +1,6 @@
 //! The lines of scripts: the header and the events, read.
+//!
+//! `specs/Header.antt` and `specs/Event.antt` have the definitions: what each line says, and why it is refused.
 #![tactic(auto)]
 
 mod event;

@@ -100,7 +100,7 @@ impl Gateway {
         ensures state { OnOk result (self.new ≡ with_kept (told (let_in self.old.config.seq_last octets.now self.old.kept)).kept self.old) }
         ensures err { OnErr result ((self.new ≡ self.old) × (acts.new ≡ acts.old)) }
     {
-        let plan = plan_let(self.alloc, &self.tables, &self.config, octets)?;
+        let plan = plan_let(self.alloc, &mut self.tables, &self.config, octets)?;
         self.commit(plan, acts)
     }
 
@@ -109,7 +109,7 @@ impl Gateway {
         ensures state { OnOk result (self.new ≡ with_kept (told (arrived self.old.config.address octets.now self.old.kept)).kept self.old) }
         ensures err { OnErr result ((self.new ≡ self.old) × (acts.new ≡ acts.old)) }
     {
-        let plan = plan_arrive(self.alloc, &self.tables, &self.config, octets)?;
+        let plan = plan_arrive(self.alloc, &mut self.tables, &self.config, octets)?;
         self.commit(plan, acts)
     }
 

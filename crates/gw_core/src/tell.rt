@@ -43,7 +43,11 @@ fn put_answer(items: &mut Vec<GwAct>, answer: Option<PacketAnswer>) -> Result<()
 {
     match answer {
         None => Ok(()),
-        Some(answer) => Ok(items.push(answer_act(answer))?),
+        Some(answer) => {
+            // Most packets are answered by one act, and a first push would make room for four.
+            items.reserve_exact(1)?;
+            Ok(items.push(answer_act(answer))?)
+        }
     }
 }
 

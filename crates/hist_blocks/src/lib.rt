@@ -1,4 +1,6 @@
 //! The blocks of a history of the whole: one for each event, and where a forged arrival ends it.
+//!
+//! `specs/Blocks.antt` and `specs/Ends.antt` have the definitions.
 #![tactic(auto)]
 
 mod laws;

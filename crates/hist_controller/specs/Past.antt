@@ -285,7 +285,7 @@ abbrev pub is_of_newest : List ControllerAct → Way → ℕ → List ℕ → Bo
 is_of_newest h d g name = is_half_at d g name (newest_serial d h) && list_any (λ x. (x.serial == newest_serial d h) && not (is_ended x h))
     (left d h)
 
--- a notice is a cause
+-- a notice heard from this gateway is a cause for a new association of the direction
 abbrev pub is_cause_notice : List ControllerAct → Way → ℕ → Notice → Bool
 is_cause_notice h d g (notices.Acquire name s) = (d.sender == g) && has_entry name d.tunnel.reqid (newest_list g h)
     && not (list_any (is_in_progress h) (left d h))

@@ -1,5 +1,5 @@
 -- What answers a datagram from outside (RFC 4301 section 5.2, RFC 4303 section 3.4), by the first line that applies. The past has
--- the Arrived as its newest act.
+-- the Arrived as its newest act. Whether it was sent is no matter of one gateway (`hist_world/specs/Arrivals`).
 use Rattle.std.specs.Prelude.{ℕ, ◌==◌, ◌&&◌, ◌||◌, nat_lt, not, Bool, List, [], ◌∷◌, length, Option, Some, None, Result, Ok, Err, if◌then◌else◌}
 use Rattle.ikl_base.specs.declared.address.Addr.{Addr}
 use Rattle.ikl_base.specs.Address.{is_same_address}

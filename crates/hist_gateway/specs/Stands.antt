@@ -62,7 +62,7 @@ was_overflow_given g x (acts.Opened f s ∷ h) = not (bytes_eq f g) && was_overf
 was_overflow_given g x (acts.Boot f ∷ h) = not (bytes_eq f g) && was_overflow_given g x h
 was_overflow_given g x (_ ∷ h) = was_overflow_given g x h
 
--- they stand as long as the half is live
+-- a soft expiry of a half stands from its notice for as long as that half is live
 abbrev pub does_soft_stand : List ℕ → List ℕ → List Act → Bool
 does_soft_stand g x h = is_live g x h && was_soft_given g x h
 

@@ -1,5 +1,7 @@
 //! The laws of the whole, of scripts: what is read as a header is one, what is read as an event under it is one of it, and so
 //! the history of every script is safe.
+//!
+//! `specs/Script.antt` has the definitions.
 #![tactic(auto)]
 
 mod laws;

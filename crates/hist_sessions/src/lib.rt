@@ -1,5 +1,7 @@
 //! What sessions keep, of histories of the whole: each of their acts stands where it may, and what is under way on each lane
 //! is what its acts say.
+//!
+//! `specs/Heard.antt` and `specs/Pipes.antt` have the definitions.
 #![tactic(auto)]
 
 mod laws;

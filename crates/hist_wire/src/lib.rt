@@ -1,4 +1,6 @@
 //! What `wire` shows of a history: the octets of the messages under way; and the one history of the events of a script with it.
+//!
+//! `specs/Wire.antt` has what is under way, `specs/Histories.antt` the history: `IsHistory`.
 #![tactic(auto)]
 
 mod laws;

@@ -1,5 +1,7 @@
 //! The law of the whole: for each event the one block of acts of the gateways and their controller, and that every history
 //! of such blocks is safe.
+//!
+//! `specs/Block.antt` has the definitions: `block` and `history`.
 #![tactic(auto)]
 
 mod laws;

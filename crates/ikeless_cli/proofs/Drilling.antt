@@ -39,15 +39,19 @@ abbrev pub SpellsHeader : Type 0
 SpellsHeader = (line : List ℕ) (header : Header) → header_of line ≡ Ok header → IsSpelledHeader header
 
 abbrev pub SpellsHistory : Type 0
-SpellsHistory = (line : List ℕ) (header : Header) (lines : List (List ℕ)) (events : List Event) → header_of line ≡ Ok header → AreLinesOf header lines events
+SpellsHistory = (line : List ℕ) (header : Header) (lines : List (List ℕ)) (events : List Event) → header_of line ≡ Ok header → AreLinesOf
+    header lines events
     → length events < 2 ^ 32 → All (IsSpelled header.gateways) (history (under_way header) header nothing events)
 
 abbrev pub CountsActs : Type 0
-CountsActs = (gateways : List Peer) (happened : List Act) → are_spelled gateways ≡ true → All (λ a. IsActUnder gateways a × IsAct a) happened
+CountsActs = (gateways : List Peer) (happened : List Act) → are_spelled gateways ≡ true → All (λ a. IsActUnder gateways a × IsAct a)
+    happened
     → tally_of_text (text_of happened) ≡ tally_of happened
 
-counts : SpellsHeader → SpellsHistory → CountsActs → (header : Option Header) (lines : List (List ℕ)) (events : List Event) (happened : List Act)
-    → IsScript header lines events → length (joined lines) ≤ 67108864 → IsHistoryOf header events happened → tally_of_text (text_of happened) ≡ tally_of happened
+counts : SpellsHeader → SpellsHistory → CountsActs → (header : Option Header) (lines : List (List ℕ)) (events : List Event)
+    (happened : List Act)
+    → IsScript header lines events → length (joined lines) ≤ 67108864 → IsHistoryOf header events happened → tally_of_text
+    (text_of happened) ≡ tally_of happened
 counts one all acts None lines events happened script within history = rw history refl
 counts one all acts (Some h) lines events happened script within is =
     let few : length events < 2 ^ 32 =
@@ -57,9 +61,11 @@ counts one all acts (Some h) lines events happened script within is =
     omega (arith, size, cut, same, within)) in
     let only : happened ≡ history (under_way h) h nothing events = only-history h events happened is in
     let P : List Act → Type 0 = λ x. tally_of_text (text_of x) ≡ tally_of x in
-    subst P (sym only) (acts h.gateways (history (under_way h) h nothing events) (one script.0 h script.3).names (all script.0 h script.1 events script.3 script.4 few))
+    subst P (sym only) (acts h.gateways (history (under_way h) h nothing events) (one script.0 h script.3).names
+    (all script.0 h script.1 events script.3 script.4 few))
 
-pub taken-counts : SpellsHeader → SpellsHistory → CountsActs → (input : List ℕ) (t : Taken input) (happened : List Act) → IsHistoryOf t.header t.events happened
+pub taken-counts : SpellsHeader → SpellsHistory → CountsActs → (input : List ℕ) (t : Taken input) (happened : List Act) → IsHistoryOf
+    t.header t.events happened
     → tally_of_text (text_of happened) ≡ tally_of happened
 taken-counts one all acts input t happened is = counts one all acts t.header t.lines t.events happened t.script t.within is
 
@@ -69,8 +75,10 @@ written-whole statuses.WriteFault written text lasted is = cc
 written-whole _ written text lasted is = is
 
 -- the line says what is counted of the run
-pub is-drilled : SpellsHeader → SpellsHistory → CountsActs → (n : ℕ) (script octets rest text written line : List ℕ) (status : Status) (exit : ℕ) (tally : Tally)
-    → script ≡ script_of n → script ≡ octets ++ rest → text ≡ written → Ran status (Some rest) octets written → wants_memory status ≡ false → is_read_fault status ≡ false
+pub is-drilled : SpellsHeader → SpellsHistory → CountsActs → (n : ℕ) (script octets rest text written line : List ℕ) (status : Status)
+    (exit : ℕ) (tally : Tally)
+    → script ≡ script_of n → script ≡ octets ++ rest → text ≡ written → Ran status (Some rest) octets written → wants_memory status ≡ false
+    → is_read_fault status ≡ false
     → exit ≡ number_of status → tally ≡ tally_of_text text → line ≡ summary_text n tally exit → IsDrilled n line
 is-drilled one all acts n script octets rest text written line status exit tally drawn cut grew ran lasted read number counted says =
     let whole = written-whole status written (text_of ran.1) lasted ran.4 in
@@ -88,5 +96,6 @@ is-drilled one all acts n script octets rest text written line status exit tally
       cause = ran.5;
       says = says
           ∙ ap (λ (x : ℕ). summary_text n tally x) number
-          ∙ ap (λ (x : Tally). summary_text n x (number_of status)) (counted ∙ ap tally_of_text (grew ∙ whole) ∙ taken-counts one all acts octets ran.0 ran.1 ran.2);
+          ∙ ap (λ (x : Tally). summary_text n x (number_of status)) (counted ∙ ap tally_of_text (grew ∙ whole) ∙ taken-counts one all acts
+          octets ran.0 ran.1 ran.2);
     }

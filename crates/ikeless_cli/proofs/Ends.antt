@@ -21,7 +21,8 @@ use Rattle.ikeless_cli.proofs.Lines.{AreLinesOf-length, inside-take, joined-push
 -- ---- what was taken between two octets
 
 -- the number of lines taken
-lines-length : (running : Option Running) (lines : List (List ℕ)) (events : List Event) → Stands running lines events → length lines ≡ lines_of running
+lines-length : (running : Option Running) (lines : List (List ℕ)) (events : List Event) → Stands running lines events → length lines ≡
+    lines_of running
 lines-length None lines events stands = ap length stands.script.0
 lines-length (Some r) lines events stands =
     let script = stands.script in
@@ -30,11 +31,17 @@ lines-length (Some r) lines events stands =
     let taken = stands.state.1 in
     omega (arith, all, more, taken)
 
-numbered : (running : Option Running) (lines : List (List ℕ)) (events : List Event) (number : ℕ) → Stands running lines events → number ≡ lines_of running + 1 → number ≡ length lines + 1
+numbered : (running : Option Running) (lines : List (List ℕ)) (events : List Event) (number : ℕ) → Stands running lines events → number ≡
+    lines_of running + 1 → number ≡ length lines + 1
 numbered running lines events number stands e = let counted = lines-length running lines events stands in omega (arith, counted, e)
 
 begun : (i t : List ℕ) (s : State) → (r : Reads i t s) → HasBegun r.lines s.line
-begun i t s r = record { inside = r.inside; short = r.short; within = (let count = r.count in let within = r.within in omega (arith, count, within)) }
+begun i t s r = record {
+  inside = r.inside;
+  short = r.short;
+  within = (let count = r.count in let within = r.within in omega
+      (arith, count, within));
+}
 
 octets-at : (i t more : List ℕ) (s : State) → (r : Reads i t s) → i ++ more ≡ joined r.lines ++ (s.line ++ more)
 octets-at i t more s r = ap (λ x. x ++ more) r.octets ∙ append_assoc (joined r.lines) s.line more
@@ -74,7 +81,8 @@ wrote i t s r = append-nil t ∙ r.written
 -- ---- within a line
 
 -- a whole line can't be taken
-pub ends-line : (running : Option Running) (line : List ℕ) (whole number : ℕ) (reason : LineFault) (a : Option (List ℕ)) → number ≡ lines_of running + 1
+pub ends-line : (running : Option Running) (line : List ℕ) (whole number : ℕ) (reason : LineFault) (a : Option (List ℕ)) → number ≡ lines_of
+    running + 1
     → length line < 1048576 → whole + length line < 67108864 → Refuses (header_kept running) line reason
     → EndsWith (statuses.Line number reason) (kept running line whole) a a (10 ∷ [])
 ends-line running line whole number reason a e short room refused i t r =
@@ -96,7 +104,8 @@ ends-line running line whole number reason a e short room refused i t r =
     )
 
 -- an octet comes after 1 MiB of a line
-ends-long : (s : State) (number octet : ℕ) (a : Option (List ℕ)) → number ≡ lines_of s.running + 1 → 1048576 ≤ length s.line → s.whole + length s.line < 67108864
+ends-long : (s : State) (number octet : ℕ) (a : Option (List ℕ)) → number ≡ lines_of s.running + 1 → 1048576 ≤ length s.line → s.whole +
+    length s.line < 67108864
     → EndsWith (statuses.Line number faults.Long) s a a (octet ∷ [])
 ends-long s number octet a e long room i t r =
     let short = r.short in
@@ -120,7 +129,8 @@ ends-long s number octet a e long room i t r =
     )
 
 -- the octet after 64 MiB
-ends-too_long : (s : State) (octet : ℕ) (a : Option (List ℕ)) → 67108864 ≤ s.whole + length s.line → EndsWith statuses.TooLong s a a (octet ∷ [])
+ends-too_long : (s : State) (octet : ℕ) (a : Option (List ℕ)) → 67108864 ≤ s.whole + length s.line → EndsWith statuses.TooLong s a a
+    (octet ∷ [])
 ends-too_long s octet a full i t r =
     let count = r.count in
     let within = r.within in (
@@ -138,7 +148,12 @@ ends-too_long s octet a full i t r =
     )
 
 pub ends-no_memory : (s : State) (octets : List ℕ) (a : Option (List ℕ)) → EndsWith statuses.NoMemory s a a octets
-ends-no_memory s octets a i t r = ([], gains_none a, λ left after. ran statuses.NoMemory left i t (octets ++ after) s r (wrote i t s r) r.stands.genuine)
+ends-no_memory s octets a i t r = (
+  [],
+  gains_none a,
+  λ left after. ran statuses.NoMemory left i t (octets ++ after) s r (wrote i t s r)
+      r.stands.genuine,
+)
 
 -- ---- at the octet that passes a limit
 
@@ -149,8 +164,10 @@ front : (n : ℕ) (xs ys : List ℕ) → n ≤ length xs → take n (xs ++ ys) �
 front n xs ys inside = grind (arith, common_steps)
 
 -- so many octets of a line, and then the end at the next one
-ends-at : (status : Status) (s : State) (n : ℕ) (octets end : List ℕ) (a : Option (List ℕ)) → HasNoLf octets → n ≤ length octets → n < length (octets ++ end) → Fits s n
-    → ((line : List ℕ) (octet : ℕ) → length line ≡ length s.line + n → EndsWith status (kept s.running line s.whole) a a (octet ∷ [])) → EndsWith status s a a (octets ++ end)
+ends-at : (status : Status) (s : State) (n : ℕ) (octets end : List ℕ) (a : Option (List ℕ)) → HasNoLf octets → n ≤ length octets → n <
+    length (octets ++ end) → Fits s n
+    → ((line : List ℕ) (octet : ℕ) → length line ≡ length s.line + n → EndsWith status (kept s.running line s.whole) a a (octet ∷ [])) →
+    EndsWith status s a a (octets ++ end)
 ends-at status s n octets end a inside before some fits last =
     let all : List ℕ = octets ++ end in
     let xs : List ℕ = take n all in
@@ -162,47 +179,58 @@ ends-at status s n octets end a inside before some fits last =
     let longer = length-append s.line xs in
     let goes = reads-octets s xs (s.line ++ xs) a refl none room in
     let stops = last (s.line ++ xs) next (omega (arith, longer, size)) in
-    ends-early status s a a (xs ++ next ∷ []) (drop (n + 1) all) all (cut-at all n some) (ends-on status s (kept s.running (s.line ++ xs) s.whole) a a a xs (next ∷ []) (xs ++ next ∷ []) refl goes stops)
+    ends-early status s a a (xs ++ next ∷ []) (drop (n + 1) all) all (cut-at all n some)
+    (ends-on status s (kept s.running (s.line ++ xs) s.whole) a a a xs (next ∷ []) (xs ++ next ∷ []) refl goes stops)
 
-pub overflows-too_long : (s : State) (count left : ℕ) → Fits s 0 → left + (s.whole + length s.line) ≡ 67108864 → length s.line + left ≤ 1048576 → left < count → Overflows statuses.TooLong s count
+pub overflows-too_long : (s : State) (count left : ℕ) → Fits s 0 → left + (s.whole + length s.line) ≡ 67108864 → length s.line + left ≤
+    1048576 → left < count → Overflows statuses.TooLong s count
 overflows-too_long s count left now is before more octets end a inside one size =
     let sum = length-append octets end in (
-      ends-at statuses.TooLong s left octets end a inside (omega (arith, one, size, more, sum)) (omega (arith, size, more)) (record { short = before; within = omega (arith, is) }) (λ line octet longer.
+      ends-at statuses.TooLong s left octets end a inside (omega (arith, one, size, more, sum)) (omega (arith, size, more))
+          (record { short = before; within = omega (arith, is) }) (λ line octet longer.
           ends-too_long (kept s.running line s.whole) octet a (omega (arith, longer, is))),
       refl,
     )
 
-pub overflows-long : (s : State) (count short number : ℕ) → number ≡ lines_of s.running + 1 → short + length s.line ≡ 1048576 → s.whole + length s.line + short < 67108864 → short < count
+pub overflows-long : (s : State) (count short number : ℕ) → number ≡ lines_of s.running + 1 → short + length s.line ≡ 1048576 → s.whole +
+    length s.line + short < 67108864 → short < count
     → Overflows (statuses.Line number faults.Long) s count
 overflows-long s count short number e is before more octets end a inside one size =
     let sum = length-append octets end in (
-      ends-at (statuses.Line number faults.Long) s short octets end a inside (omega (arith, one, size, more, sum)) (omega (arith, size, more))
+      ends-at (statuses.Line number faults.Long) s short octets end a inside (omega (arith, one, size, more, sum))
+          (omega (arith, size, more))
           (record { short = omega (arith, is); within = omega (arith, before) })
-          (λ line octet longer. ends-long (kept s.running line s.whole) number octet a e (omega (arith, longer, is)) (omega (arith, longer, before))),
+          (λ line octet longer. ends-long (kept s.running line s.whole) number octet a e (omega (arith, longer, is))
+          (omega (arith, longer, before))),
       refl,
     )
 
-pub overflows-octets : (status : Status) (s : State) (octets : List ℕ) (count : ℕ) (a : Option (List ℕ)) → HasNoLf octets → count ≡ length octets → Overflows status s count
+pub overflows-octets : (status : Status) (s : State) (octets : List ℕ) (count : ℕ) (a : Option (List ℕ)) → HasNoLf octets → count ≡ length
+    octets → Overflows status s count
     → EndsWith status s a a octets × (is_read_fault status ≡ false)
 overflows-octets status s octets count a inside size over =
     let same = append-nil octets in
     let P : List ℕ → Type 0 = λ x. EndsWith status s a a x × (is_read_fault status ≡ false) in
     subst P same (over octets [] a inside (omega arith) (size ∙ ap length (sym same)))
 
-pub overflows-line : (status : Status) (s : State) (octets : List ℕ) (count : ℕ) (a : Option (List ℕ)) → HasNoLf octets → count ≡ length octets + 1 → Overflows status s count
+pub overflows-line : (status : Status) (s : State) (octets : List ℕ) (count : ℕ) (a : Option (List ℕ)) → HasNoLf octets → count ≡ length
+    octets + 1 → Overflows status s count
     → EndsWith status s a a (octets ++ 10 ∷ []) × (is_read_fault status ≡ false)
-overflows-line status s octets count a inside size over = over octets (10 ∷ []) a inside (omega arith) (let sum = length-append octets (10 ∷ []) in omega (arith, size, sum))
+overflows-line status s octets count a inside size over = over octets (10 ∷ []) a inside (omega arith)
+    (let sum = length-append octets (10 ∷ []) in omega (arith, size, sum))
 
 -- ---- at the LF of a line whose block was written
 
-within-push : (lines : List (List ℕ)) (line : List ℕ) (whole : ℕ) → whole ≡ length (joined lines) → whole + length line < 67108864 → length (joined (lines ++ line ∷ [])) ≤ 67108864
+within-push : (lines : List (List ℕ)) (line : List ℕ) (whole : ℕ) → whole ≡ length (joined lines) → whole + length line < 67108864 → length
+    (joined (lines ++ line ∷ [])) ≤ 67108864
 within-push lines line whole count room =
     let all = ap length (joined-push lines line) in
     let first = length-append (joined lines) (line ++ 10 ∷ []) in
     let second = length-append line (10 ∷ []) in
     omega (arith, all, first, second, count, room)
 
-number-push : (running : Option Running) (lines : List (List ℕ)) (events : List Event) (line : List ℕ) (number : ℕ) → Stands running lines events → number ≡ lines_of running + 1
+number-push : (running : Option Running) (lines : List (List ℕ)) (events : List Event) (line : List ℕ) (number : ℕ) → Stands running lines
+    events → number ≡ lines_of running + 1
     → number ≡ length (lines ++ line ∷ [])
 number-push running lines events line number stands e =
     let counted = numbered running lines events number stands e in
@@ -210,7 +238,8 @@ number-push running lines events line number stands e =
     omega (arith, counted, size)
 
 -- a forged arrival
-ends-forged : (running new : Option Running) (line text octets : List ℕ) (whole number : ℕ) (a b : Option (List ℕ)) → TakesLine running new line text (Some octets)
+ends-forged : (running new : Option Running) (line text octets : List ℕ) (whole number : ℕ) (a b : Option (List ℕ)) → TakesLine running new
+    line text (Some octets)
     → number ≡ lines_of running + 1 → length line < 1048576 → whole + length line < 67108864 → Gains a b text
     → EndsWith (statuses.Forged number octets) (kept running line whole) a b (10 ∷ [])
 ends-forged running new line text octets whole number a b takes e short room gains i t r =
@@ -247,7 +276,8 @@ record Took (running : Option Running) (lines : List (List ℕ)) (before text : 
   pub ends : AreGenuine header events ⊎ EndForged header events
   pub written : text_of (acts_of header events) ≡ before ++ text
 
-took : (new : Option Running) (lines : List (List ℕ)) (before text : List ℕ) (forged : Option (List ℕ)) → After new lines before text forged → Took new lines before text
+took : (new : Option Running) (lines : List (List ℕ)) (before text : List ℕ) (forged : Option (List ℕ)) → After new lines before text forged
+    → Took new lines before text
 took new lines before text None on = record {
   header = header_kept new;
   events = on.events;
@@ -266,12 +296,14 @@ took new lines before text (Some octets) over = record {
 }
 
 -- the sink failed in the block of a line
-pub breaks : (running new : Option Running) (line text part more : List ℕ) (forged : Option (List ℕ)) (whole : ℕ) (a b : Option (List ℕ)) → TakesLine running new line text forged
+pub breaks : (running new : Option Running) (line text part more : List ℕ) (forged : Option (List ℕ)) (whole : ℕ) (a b : Option (List ℕ)) →
+    TakesLine running new line text forged
     → length line < 1048576 → whole + length line < 67108864 → part ++ more ≡ text → Gains a b part
     → EndsWith statuses.WriteFault (kept running line whole) a b (10 ∷ [])
 breaks running new line text part more forged whole a b takes short room cut gains i t r =
     let is : IsLine line = record { inside = r.inside; short = short } in
-    let step = took new (r.lines ++ line ∷ []) (text_of (acts_of (header_kept running) r.events)) text forged (takes.more r.lines r.events is r.stands) in (
+    let step = took new (r.lines ++ line ∷ []) (text_of (acts_of (header_kept running) r.events)) text forged
+    (takes.more r.lines r.events is r.stands) in (
       part,
       gains,
       λ left after. (
@@ -294,10 +326,12 @@ breaks running new line text part more forged whole a b takes short room cut gai
     )
 
 -- a line that was taken and whose block was written: the run ends at a forged arrival, and else goes on
-pub line-takes : (running new : Option Running) (line text : List ℕ) (forged : Option (List ℕ)) (whole number : ℕ) (a b : Option (List ℕ)) → TakesLine running new line text forged
+pub line-takes : (running new : Option Running) (line text : List ℕ) (forged : Option (List ℕ)) (whole number : ℕ) (a b : Option (List ℕ)) →
+    TakesLine running new line text forged
     → number ≡ lines_of running + 1 → length line < 1048576 → whole + length line < 67108864 → Gains a b text
     → Takes (ends_forged number forged) (kept running line whole) (kept new [] (whole + length line + 1)) a b (10 ∷ [])
-line-takes running new line text None whole number a b takes e short room gains = reads-line running new line text whole a b takes short room gains
+line-takes running new line text None whole number a b takes e short room gains = reads-line running new line text whole a b takes short
+    room gains
 line-takes running new line text (Some octets) whole number a b takes e short room gains =
     (ends-forged running new line text octets whole number a b takes e short room gains, refl)
 
@@ -309,30 +343,42 @@ ran-here status left i t r =
     let Q : List ℕ → Type 0 = λ x. Ran status left (i ++ []) x in
     subst P (append-nil i) (subst Q (append-nil t) r)
 
-pub ends-done : (left : Option (List ℕ)) (i t : List ℕ) (s : State) → Reads i t s → AtEnd left → s.line ≡ [] → IsSome (header_kept s.running) → Ran statuses.Done left i t
+pub ends-done : (left : Option (List ℕ)) (i t : List ℕ) (s : State) → Reads i t s → AtEnd left → s.line ≡ [] → IsSome
+    (header_kept s.running) → Ran statuses.Done left i t
 ends-done left i t s r end empty some =
-    ran-here statuses.Done left i t (ran statuses.Done left i t [] s r (wrote i t s r) (append-nil s.line ∙ empty, end, some, r.stands.genuine))
+    ran-here statuses.Done left i t (ran statuses.Done left i t [] s r (wrote i t s r)
+    (append-nil s.line ∙ empty, end, some, r.stands.genuine))
 
 begun-here : (lines : List (List ℕ)) (line : List ℕ) → HasBegun lines line → HasBegun lines (line ++ [])
 begun-here lines line b = subst (HasBegun lines) (sym (append-nil line)) b
 
-pub ends-cut_off : (left : Option (List ℕ)) (i t : List ℕ) (s : State) (number : ℕ) → Reads i t s → AtEnd left → number ≡ lines_of s.running + 1 → (s.line ≢ []) ⊎ (header_kept s.running ≡ None)
+pub ends-cut_off : (left : Option (List ℕ)) (i t : List ℕ) (s : State) (number : ℕ) → Reads i t s → AtEnd left → number ≡ lines_of s.running
+    + 1 → (s.line ≢ []) ⊎ (header_kept s.running ≡ None)
     → Ran (statuses.Line number faults.End) left i t
 ends-cut_off left i t s number r end e some =
     let P : List ℕ → Type 0 = λ x. (x ≢ []) ⊎ (header_kept s.running ≡ None) in
     ran-here (statuses.Line number faults.End) left i t
     (ran (statuses.Line number faults.End) left i t [] s r (wrote i t s r) (
       numbered s.running r.lines r.events number r.stands e,
-      inr (inr (refl, record { end = end; begun = begun-here r.lines s.line (begun i t s r); some = subst P (sym (append-nil s.line)) some })),
+      inr (inr (
+        refl,
+        record {
+          end = end;
+          begun = begun-here r.lines s.line (begun i t s r);
+          some = subst P (sym (append-nil s.line)) some;
+        },
+      )),
       r.stands.genuine,
     ))
 
 pub ends-fault : (left : Option (List ℕ)) (i t : List ℕ) (s : State) → Reads i t s → Ran statuses.ReadFault left i t
 ends-fault left i t s r =
-    ran-here statuses.ReadFault left i t (ran statuses.ReadFault left i t [] s r (wrote i t s r) (begun-here r.lines s.line (begun i t s r), r.stands.genuine))
+    ran-here statuses.ReadFault left i t (ran statuses.ReadFault left i t [] s r (wrote i t s r)
+    (begun-here r.lines s.line (begun i t s r), r.stands.genuine))
 
 -- within the octets that were read last
-pub ends-read : (status : Status) (left : Option (List ℕ)) (i t xs : List ℕ) → Ran status left (i ++ (xs ++ [])) t → Ran status left (i ++ xs) t
+pub ends-read : (status : Status) (left : Option (List ℕ)) (i t xs : List ℕ) → Ran status left (i ++ (xs ++ [])) t → Ran status left
+    (i ++ xs) t
 ends-read status left i t xs r =
     let P : List ℕ → Type 0 = λ x. Ran status left (i ++ x) t in
     subst P (append-nil xs) r

@@ -28,7 +28,8 @@ genuine-push shows header p [] e g f = (f, tt)
 genuine-push shows header p (x ∷ es) e g f = (g.0, genuine-push shows header (past_after shows header p x) es e g.1 f)
 
 pub forged-push : (shows : Shows) (header : Header) (p : Past) (es : List Event) (e : Event) → AreGenuine shows header p es
-    → is_forged_event header (past_at shows header p es) e ≡ true → first_forged shows header p (es ++ e ∷ []) ≡ Some (length (es ++ e ∷ []))
+    → is_forged_event header (past_at shows header p es) e ≡ true → first_forged shows header p (es ++ e ∷ []) ≡ Some
+    (length (es ++ e ∷ []))
 forged-push shows header p [] e g f = ap (λ b. number_by b None) f
 forged-push shows header p (x ∷ es) e g f =
     let q : Past = past_after shows header p x in
@@ -39,7 +40,8 @@ forged-push shows header p (x ∷ es) e g f =
 pub history-push : (shows : Shows) (header : Header) (p : Past) (es : List Event) (e : Event) → AreGenuine shows header p es
     → history shows header p (es ++ e ∷ []) ≡ history shows header p es ++ block shows header (past_at shows header p es) e
 history-push shows header p es e g =
-    history-more shows header p es (e ∷ []) g ∙ ap (λ (z : List Act). history shows header p es ++ z) (history-one shows header (past_at shows header p es) e)
+    history-more shows header p es (e ∷ []) g ∙ ap (λ (z : List Act). history shows header p es ++ z)
+    (history-one shows header (past_at shows header p es) e)
 
 -- a forged arrival stands alone in its block
 pub forged-block : (shows : Shows) (header : Header) (p : Past) (e : Event) → is_forged_event header p e ≡ true
@@ -49,8 +51,13 @@ forged-block shows header p e f =
     let size : length r.before ≡ 0 = (let n = r.number in omega (arith, n)) in
     let none : r.before ≡ [] = nil_from_length r.before size in
     let k : ℕ = events_taken (past_at shows header p r.before).world + 1 in
-    let last : List Act = acts.Took k ∷ acts.Arrived r.gateway r.octets ∷ [] in
-    (k, r.gateway, r.octets, sym (history-one shows header p e) ∙ r.history ∙ ap (λ (z : List Event). history shows header p z ++ last) none)
+    let last : List Act = acts.Took k ∷ acts.Arrived r.gateway r.octets ∷ [] in (
+      k,
+      r.gateway,
+      r.octets,
+      sym (history-one shows header p e) ∙ r.history ∙ ap (λ (z : List Event). history shows header p z ++ last)
+          none,
+    )
 
 -- ---- what happened at the events of a script
 
@@ -58,7 +65,8 @@ pub happened : (header : Option Header) (es : List Event) → IsHistoryOf header
 happened None es = refl
 happened (Some h) es = history-is h es
 
-pub acts-safe : (header : Option Header) (lines : List (List ℕ)) (es : List Event) → IsScript header lines es → IsSafe header (acts_of header es)
+pub acts-safe : (header : Option Header) (lines : List (List ℕ)) (es : List Event) → IsScript header lines es → IsSafe header
+    (acts_of header es)
 acts-safe None lines es is = tt
 acts-safe (Some h) lines es is =
     let one = header-read is.0 h is.3 in

@@ -10,10 +10,12 @@ use Rattle.ikeless_cli.proofs.Bytes.{gains_none, gains_more}
 use Rattle.ikeless_cli.proofs.Lines.{inside-append, joined-push, line-joined}
 
 pub fits-less : (s : State) (n : ℕ) → Fits s (n + 1) → Fits s n
-fits-less s n fits = let short = fits.short in let within = fits.within in record { short = omega (arith, short); within = omega (arith, within) }
+fits-less s n fits = let short = fits.short in let within = fits.within in record
+    { short = omega (arith, short); within = omega (arith, within) }
 
 -- more octets of a line
-pub reads-octets : (s : State) (xs line' : List ℕ) (a : Option (List ℕ)) → line' ≡ s.line ++ xs → HasNoLf xs → Fits s (length xs) → Goes s (kept s.running line' s.whole) a a xs
+pub reads-octets : (s : State) (xs line' : List ℕ) (a : Option (List ℕ)) → line' ≡ s.line ++ xs → HasNoLf xs → Fits s (length xs) → Goes s
+    (kept s.running line' s.whole) a a xs
 reads-octets s xs line' a e inside fits i t rd =
     let P : List ℕ → Type 0 = λ x. Reads (i ++ xs) (t ++ []) (kept s.running x s.whole) in
     let size = length-append s.line xs in
@@ -36,7 +38,8 @@ reads-octets s xs line' a e inside fits i t rd =
 
 -- an LF ends a line, which is taken
 pub reads-line : (r r' : Option Running) (line text : List ℕ) (whole : ℕ) (a b : Option (List ℕ)) → TakesLine r r' line text None
-    → length line < 1048576 → whole + length line < 67108864 → Gains a b text → Goes (kept r line whole) (kept r' [] (whole + length line + 1)) a b (10 ∷ [])
+    → length line < 1048576 → whole + length line < 67108864 → Gains a b text → Goes (kept r line whole)
+    (kept r' [] (whole + length line + 1)) a b (10 ∷ [])
 reads-line r r' line text whole a b takes short room gains i t rd =
     let is : IsLine line = record { inside = rd.inside; short = short } in
     let step = takes.more rd.lines rd.events is rd.stands in
@@ -59,7 +62,8 @@ reads-line r r' line text whole a b takes short room gains i t rd =
       },
     )
 
-pub goes-to : (old : State) (r : Option Running) (line : List ℕ) (n whole : ℕ) (a b : Option (List ℕ)) (xs : List ℕ) → line ≡ [] → whole ≡ n → Goes old (kept r [] n) a b xs → Goes old (kept r line whole) a b xs
+pub goes-to : (old : State) (r : Option Running) (line : List ℕ) (n whole : ℕ) (a b : Option (List ℕ)) (xs : List ℕ) → line ≡ [] → whole ≡ n
+    → Goes old (kept r [] n) a b xs → Goes old (kept r line whole) a b xs
 goes-to old r line n whole a b xs none same goes =
     let P : List ℕ → Type 0 = λ x. Goes old (kept r x whole) a b xs in
     let Q : ℕ → Type 0 = λ x. Goes old (kept r [] x) a b xs in
@@ -87,7 +91,8 @@ goes-none s a i t rd =
     ([], gains_none a, subst P (sym (append-nil i)) (subst Q (sym (append-nil t)) rd))
 
 -- two steps are one
-pub goes-on : (old mid new : State) (a b c : Option (List ℕ)) (xs ys zs : List ℕ) → xs ++ ys ≡ zs → Goes old mid a b xs → Goes mid new b c ys → Goes old new a c zs
+pub goes-on : (old mid new : State) (a b c : Option (List ℕ)) (xs ys zs : List ℕ) → xs ++ ys ≡ zs → Goes old mid a b xs → Goes mid new b c
+    ys → Goes old new a c zs
 goes-on old mid new a b c xs ys zs e p q i t r =
     let first = p i t r in
     let second = q (i ++ xs) (t ++ first.0) first.2 in
@@ -99,7 +104,8 @@ goes-on old mid new a b c xs ys zs e p q i t r =
     )
 
 -- a step, and then the end
-pub ends-on : (status : Status) (old mid : State) (a b c : Option (List ℕ)) (xs ys zs : List ℕ) → xs ++ ys ≡ zs → Goes old mid a b xs → EndsWith status mid b c ys → EndsWith status old a c zs
+pub ends-on : (status : Status) (old mid : State) (a b c : Option (List ℕ)) (xs ys zs : List ℕ) → xs ++ ys ≡ zs → Goes old mid a b xs →
+    EndsWith status mid b c ys → EndsWith status old a c zs
 ends-on status old mid a b c xs ys zs e p q i t r =
     let first = p i t r in
     let second = q (i ++ xs) (t ++ first.0) first.2 in (
@@ -114,7 +120,8 @@ ends-on status old mid a b c xs ys zs e p q i t r =
     )
 
 -- the end, whatever comes after it
-pub ends-early : (status : Status) (old : State) (a b : Option (List ℕ)) (xs ys zs : List ℕ) → xs ++ ys ≡ zs → EndsWith status old a b xs → EndsWith status old a b zs
+pub ends-early : (status : Status) (old : State) (a b : Option (List ℕ)) (xs ys zs : List ℕ) → xs ++ ys ≡ zs → EndsWith status old a b xs →
+    EndsWith status old a b zs
 ends-early status old a b xs ys zs e p i t r =
     let first = p i t r in (
       first.0,
@@ -124,7 +131,8 @@ ends-early status old a b xs ys zs e p i t r =
           subst P (sym (append_assoc xs ys after) ∙ ap (λ x. x ++ after) e) (first.2 left (ys ++ after)),
     )
 
-pub takes-on : (result : Result Unit Status) (old mid new : State) (a b c : Option (List ℕ)) (xs ys zs : List ℕ) → xs ++ ys ≡ zs → Goes old mid a b xs → Takes result mid new b c ys
+pub takes-on : (result : Result Unit Status) (old mid new : State) (a b c : Option (List ℕ)) (xs ys zs : List ℕ) → xs ++ ys ≡ zs → Goes old
+    mid a b xs → Takes result mid new b c ys
     → Takes result old new a c zs
 takes-on (Ok x) old mid new a b c xs ys zs e p q = goes-on old mid new a b c xs ys zs e p q
 takes-on (Err status) old mid new a b c xs ys zs e p q = (ends-on status old mid a b c xs ys zs e p q.0, q.1)

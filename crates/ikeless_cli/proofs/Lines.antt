@@ -23,7 +23,8 @@ AreLinesOf-push h [] (d ∷ ds) line e are is = absurd are
 AreLinesOf-push h (l ∷ ls) [] line e are is = absurd are
 AreLinesOf-push h (l ∷ ls) (d ∷ ds) line e are is = (are.0, AreLinesOf-push h ls ds line e are.1 is)
 
-pub AreLinesOf-length : (h : Header) (lines : List (List ℕ)) (events : List Event) → AreLinesOf h lines events → length lines ≡ length events
+pub AreLinesOf-length : (h : Header) (lines : List (List ℕ)) (events : List Event) → AreLinesOf h lines events → length lines ≡ length
+    events
 AreLinesOf-length h [] [] are = refl
 AreLinesOf-length h [] (e ∷ es) are = absurd are
 AreLinesOf-length h (l ∷ ls) [] are = absurd are
@@ -41,13 +42,15 @@ pub inside-take : (n : ℕ) (xs : List ℕ) → HasNoLf xs → HasNoLf (take n x
 inside-take n xs inside =
     let P : List ℕ → Type 0 = λ x. HasNoLf x in
     let parts = list_all-append is_inside (take n xs) (drop n xs) in
-    (and_parts (list_all is_inside (take n xs)) (list_all is_inside (drop n xs)) (sym parts ∙ (ap (list_all is_inside) (take-append-drop n xs) ∙ inside))).0
+    (and_parts (list_all is_inside (take n xs)) (list_all is_inside (drop n xs))
+    (sym parts ∙ (ap (list_all is_inside) (take-append-drop n xs) ∙ inside))).0
 
 -- no octet is an LF
 pub inside-from : (xs : List ℕ) → ((k : ℕ) → k < length xs → (get_or xs k 0 == 10) ≡ true → ⊥) → HasNoLf xs
 inside-from [] none = refl
 inside-from (x ∷ xs) none =
-    and_from (is_inside x) (list_all is_inside xs) (⊎_elim (λ is. absurd (none 0 (omega arith) is)) (λ no. ap not no) (cases_Bool (x == 10)))
+    and_from (is_inside x) (list_all is_inside xs) (⊎_elim (λ is. absurd (none 0 (omega arith) is)) (λ no. ap not no)
+    (cases_Bool (x == 10)))
     (inside-from xs (λ k inside is. none (suc k) (omega (arith, inside)) is))
 
 pub inside-before : (xs : List ℕ) (n : ℕ) → n ≤ length xs → ((k : ℕ) → k < n → (get_or xs k 0 == 10) ≡ true → ⊥) → HasNoLf (take n xs)
@@ -65,14 +68,17 @@ cut-lf xs n inside is =
     sym cut ∙ ap (λ x. take n xs ++ x ∷ drop (n + 1) xs) lf
 
 -- one more line of a piece
-pub cut-on : (front rest line after piece : List ℕ) → front ++ rest ≡ piece → rest ≡ line ++ 10 ∷ after → (front ++ (line ++ 10 ∷ [])) ++ after ≡ piece
-cut-on front rest line after piece e cut = append_assoc front (line ++ 10 ∷ []) after ∙ (ap (λ x. front ++ x) (append_assoc line (10 ∷ []) after ∙ sym cut) ∙ e)
+pub cut-on : (front rest line after piece : List ℕ) → front ++ rest ≡ piece → rest ≡ line ++ 10 ∷ after → (front ++ (line ++ 10 ∷ [])) ++
+    after ≡ piece
+cut-on front rest line after piece e cut = append_assoc front (line ++ 10 ∷ []) after ∙
+    (ap (λ x. front ++ x) (append_assoc line (10 ∷ []) after ∙ sym cut) ∙ e)
 
 pub joined-push : (lines : List (List ℕ)) (line : List ℕ) → joined (lines ++ line ∷ []) ≡ joined lines ++ (line ++ 10 ∷ [])
 joined-push lines line = flat_map-append (λ l. l ++ 10 ∷ []) lines (line ∷ []) ∙ ap (λ x. joined lines ++ x) (append-nil (line ++ 10 ∷ []))
 
 -- an LF makes a line of the octets after the lines
-pub line-joined : (i : List ℕ) (lines : List (List ℕ)) (line after : List ℕ) → i ≡ joined lines ++ line → i ++ (10 ∷ after) ≡ joined (lines ++ line ∷ []) ++ after
+pub line-joined : (i : List ℕ) (lines : List (List ℕ)) (line after : List ℕ) → i ≡ joined lines ++ line → i ++ (10 ∷ after) ≡ joined
+    (lines ++ line ∷ []) ++ after
 line-joined i lines line after e =
     ap (λ x. x ++ (10 ∷ after)) e
     ∙ (append_assoc (joined lines) line (10 ∷ after)

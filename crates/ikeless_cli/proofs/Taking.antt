@@ -43,21 +43,25 @@ takes-first h k spent line text says start none = record {
   };
 }
 
-pub takes-header : (h : Header) (w : Whole) (line text : List ℕ) → header_of line ≡ Ok h → w.header ≡ h → StandsFor h nothing w.world → text ≡ []
+pub takes-header : (h : Header) (w : Whole) (line text : List ℕ) → header_of line ≡ Ok h → w.header ≡ h → StandsFor h nothing w.world → text
+    ≡ []
     → TakesLine None (Some (record { world = w; events = 0 })) line text None
 takes-header h w line text says same start none =
     let P : Header → Type 0 = λ x. TakesLine None (Some (running x w.world w.is_spent 0)) line text None in
     subst P (sym same) (takes-first h w.world w.is_spent line text says start none)
 
 -- the text of one more event
-text-push : (h : Header) (es : List Event) (e : Event) (xs : List Act) (text : List ℕ) → history (under_way h) h nothing (es ++ e ∷ []) ≡ acts_of (Some h) es ++ block (under_way h) h (past_of h es) e
-    → xs ≡ block (under_way h) h (past_of h es) e → text ≡ text_of xs → text_of (acts_of (Some h) (es ++ e ∷ [])) ≡ text_of (acts_of (Some h) es) ++ text
+text-push : (h : Header) (es : List Event) (e : Event) (xs : List Act) (text : List ℕ) → history (under_way h) h nothing (es ++ e ∷ []) ≡
+    acts_of (Some h) es ++ block (under_way h) h (past_of h es) e
+    → xs ≡ block (under_way h) h (past_of h es) e → text ≡ text_of xs → text_of (acts_of (Some h) (es ++ e ∷ [])) ≡ text_of
+    (acts_of (Some h) es) ++ text
 text-push h es e xs text grown did written =
     ap text_of grown
     ∙ text_of-append (acts_of (Some h) es) (block (under_way h) h (past_of h es) e)
     ∙ ap (λ (x : List ℕ). text_of (acts_of (Some h) es) ++ x) (sym (written ∙ ap text_of did))
 
-takes-on : (h : Header) (k k' : World) (s s' : Bool) (n : ℕ) (e : Event) (xs : List Act) (line text : List ℕ) → event_of h.gateways line ≡ Ok e
+takes-on : (h : Header) (k k' : World) (s s' : Bool) (n : ℕ) (e : Event) (xs : List Act) (line text : List ℕ) → event_of h.gateways line ≡
+    Ok e
     → ((p : Past) → StandsFor h p k → Stepped h p e [] xs k' goes.On) → text ≡ text_of xs
     → TakesLine (Some (running h k s n)) (Some (running h k' s' (n + 1))) line text None
 takes-on h k k' s s' n e xs line text says step written = record {
@@ -73,7 +77,14 @@ takes-on h k k' s s' n e xs line text says step written = record {
         events = events ++ e ∷ [];
         stands = record {
           each = AreLines-push lines line stands.each is;
-          script = (script.0, script.1 ++ line ∷ [], ap (λ (x : List (List ℕ)). x ++ line ∷ []) script.2, script.3, AreLinesOf-push h script.1 events line e script.4 says);
+          script = (
+            script.0,
+            script.1 ++ line ∷ [],
+            ap (λ (x : List (List ℕ)). x ++ line ∷ []) script.2,
+            script.3,
+            AreLinesOf-push h
+                script.1 events line e script.4 says,
+          );
           genuine = genuine-push (under_way h) h nothing events e stands.genuine did.1;
           state = (subst Q (sym (past-push (under_way h) h nothing events e)) did.2, omega (arith, size, count));
         };
@@ -81,7 +92,8 @@ takes-on h k k' s s' n e xs line text says step written = record {
       };
 }
 
-takes-forged : (h : Header) (k k' : World) (s : Bool) (n : ℕ) (e : Event) (xs : List Act) (line text : List ℕ) (new : Option Running) → event_of h.gateways line ≡ Ok e
+takes-forged : (h : Header) (k k' : World) (s : Bool) (n : ℕ) (e : Event) (xs : List Act) (line text : List ℕ) (new : Option Running) →
+    event_of h.gateways line ≡ Ok e
     → ((p : Past) → StandsFor h p k → Stepped h p e [] xs k' goes.Forged) → text ≡ text_of xs
     → TakesLine (Some (running h k s n)) new line text (Some (arrival_of xs))
 takes-forged h k k' s n e xs line text new says step written = record {
@@ -98,7 +110,14 @@ takes-forged h k k' s n e xs line text new says step written = record {
         header = h;
         events = events ++ e ∷ [];
         each = AreLines-push lines line stands.each is;
-        script = (script.0, script.1 ++ line ∷ [], ap (λ (x : List (List ℕ)). x ++ line ∷ []) script.2, script.3, AreLinesOf-push h script.1 events line e script.4 says);
+        script = (
+          script.0,
+          script.1 ++ line ∷ [],
+          ap (λ (x : List (List ℕ)). x ++ line ∷ []) script.2,
+          script.3,
+          AreLinesOf-push h script.1
+              events line e script.4 says,
+        );
         forged = forged-push (under_way h) h nothing events e stands.genuine did.1;
         last = (
           older,
@@ -112,14 +131,16 @@ takes-forged h k k' s n e xs line text new says step written = record {
       };
 }
 
-takes-by : (h : Header) (k k' : World) (s s' : Bool) (n : ℕ) (e : Event) (xs : List Act) (line text : List ℕ) (go : Go) → event_of h.gateways line ≡ Ok e
+takes-by : (h : Header) (k k' : World) (s s' : Bool) (n : ℕ) (e : Event) (xs : List Act) (line text : List ℕ) (go : Go) → event_of
+    h.gateways line ≡ Ok e
     → ((p : Past) → StandsFor h p k → Stepped h p e [] xs k' go) → text ≡ text_of xs
     → TakesLine (Some (running h k s n)) (Some (running h k' s' (n + 1))) line text (forged_of xs go)
 takes-by h k k' s s' n e xs line text goes.On says step written = takes-on h k k' s s' n e xs line text says step written
 takes-by h k k' s s' n e xs line text goes.Forged says step written = takes-forged h k k' s n e xs line text _ says step written
 
 -- a line that says an event is taken with the block of the event
-pub takes-event : (w w' : Whole) (n : ℕ) (e : Event) (old xs : List Act) (line text : List ℕ) (go : Go) (forged : Option (List ℕ)) → event_of w.header.gateways line ≡ Ok e → w'.header ≡ w.header → old ≡ []
+pub takes-event : (w w' : Whole) (n : ℕ) (e : Event) (old xs : List Act) (line text : List ℕ) (go : Go) (forged : Option (List ℕ)) →
+    event_of w.header.gateways line ≡ Ok e → w'.header ≡ w.header → old ≡ []
     → ((p : Past) → StandsFor w.header p w.world → Stepped w.header p e old xs w'.world go) → text ≡ text_of xs → forged ≡ forged_of xs go
     → TakesLine (Some (record { world = w; events = n })) (Some (record { world = w'; events = n + 1 })) line text forged
 takes-event w w' n e old xs line text go forged says same none step written is =
@@ -127,10 +148,12 @@ takes-event w w' n e old xs line text go forged says same none step written is =
     let P : Option (List ℕ) → Type 0 = λ x. TakesLine (Some r) (Some (record { world = w'; events = n + 1 })) line text x in
     let Q : List Act → Type 0 = λ x. (p : Past) → StandsFor w.header p w.world → Stepped w.header p e x xs w'.world go in
     let H : Header → Type 0 = λ x. TakesLine (Some r) (Some (running x w'.world w'.is_spent (n + 1))) line text (forged_of xs go) in
-    subst P (sym is) (subst H (sym same) (takes-by w.header w.world w'.world w.is_spent w'.is_spent n e xs line text go says (subst Q none step) written))
+    subst P (sym is) (subst H (sym same) (takes-by w.header w.world w'.world w.is_spent w'.is_spent n e xs line text go says
+    (subst Q none step) written))
 
 -- and where it isn't forged the world can be stepped again
-pub lives : (w w' : Whole) (n : ℕ) (xs : List Act) (go : Go) → (go ≡ goes.On → w'.is_spent ≡ false) → w.world.taken ≡ n → (go ≡ goes.On → w'.world.taken ≡ w.world.taken + 1)
+pub lives : (w w' : Whole) (n : ℕ) (xs : List Act) (go : Go) → (go ≡ goes.On → w'.is_spent ≡ false) → w.world.taken ≡ n →
+    (go ≡ goes.On → w'.world.taken ≡ w.world.taken + 1)
     → forged_of xs go ≡ None → IsLive (Some (record { world = w'; events = n + 1 }))
 lives w w' n xs goes.On on count next none = (on refl, next refl ∙ ap (λ (k : ℕ). k + 1) count)
 lives w w' n xs goes.Forged on count next none = absurd (let no : ⊥ = cc in no)

@@ -56,7 +56,8 @@ record Rest (ls : List (List ℕ)) (xs : List ℕ) (ms : List (List ℕ)) : Type
 one-line : (l : List ℕ) (ls : List (List ℕ)) (xs : List ℕ) → joined (l ∷ ls) ++ xs ≡ l ++ 10 ∷ (joined ls ++ xs)
 one-line l ls xs = append_assoc (l ++ 10 ∷ []) (joined ls) xs ∙ append_assoc l (10 ∷ []) (joined ls ++ xs)
 
-rest-of : (ls : List (List ℕ)) (octets : List ℕ) (ms : List (List ℕ)) → AreLines ls → AreLines ms → joined ls ++ octets ≡ joined ms → Rest ls octets ms
+rest-of : (ls : List (List ℕ)) (octets : List ℕ) (ms : List (List ℕ)) → AreLines ls → AreLines ms → joined ls ++ octets ≡ joined ms → Rest
+    ls octets ms
 rest-of [] octets ms are all e = record { more = ms; lines = refl; octets = e; each = all }
 rest-of (l ∷ ls) octets [] are all e =
     let whole : l ++ 10 ∷ (joined ls ++ octets) ≡ [] = sym (one-line l ls octets) ∙ e in
@@ -64,7 +65,8 @@ rest-of (l ∷ ls) octets [] are all e =
     let cut = length-append l (10 ∷ (joined ls ++ octets)) in
     absurd (omega (arith, size, cut))
 rest-of (l ∷ ls) octets (m ∷ ms) are all e =
-    let both : l ++ 10 ∷ (joined ls ++ octets) ≡ m ++ 10 ∷ joined ms = sym (one-line l ls octets) ∙ e ∙ append_assoc m (10 ∷ []) (joined ms) in
+    let both : l ++ 10 ∷ (joined ls ++ octets) ≡ m ++ 10 ∷ joined ms = sym (one-line l ls octets) ∙ e ∙ append_assoc m (10 ∷ []) (joined ms)
+    in
     let cut = line-cut l m (joined ls ++ octets) (joined ms) are.0.inside all.0.inside both in
     let ih = rest-of ls octets ms are.1 all.1 cut.1 in
     record {
@@ -93,7 +95,8 @@ later-of h (l ∷ ls) ms (e ∷ es) (f ∷ fs) are all =
     let ih = later-of h ls ms es fs are.1 all.1 in
     record { later = ih.later; events = ap (λ (x : Event). x ∷ fs) (sym same) ∙ ap (λ (x : List Event). e ∷ x) ih.events; are = ih.are }
 
-genuine-front : (shows : Shows) (header : Header) (p : Past) (es fs : List Event) → stands.AreGenuine shows header p (es ++ fs) → stands.AreGenuine shows header p es
+genuine-front : (shows : Shows) (header : Header) (p : Past) (es fs : List Event) → stands.AreGenuine shows header p (es ++ fs) →
+    stands.AreGenuine shows header p es
 genuine-front shows header p [] fs g = tt
 genuine-front shows header p (e ∷ es) fs g = (g.0, genuine-front shows header (past_after shows header p e) es fs g.1)
 
@@ -102,7 +105,8 @@ abbrev Continues : Option Header → List Event → List (List ℕ) → Header �
 Continues None es more h all = IsScript (Some h) more all
 Continues (Some k) es more h all = Later k es more all × NoneForged k all
 
-continues : (header : Option Header) (lines : List (List ℕ)) (es : List Event) (h : Header) (all : List (List ℕ)) (fs : List Event) (more : List (List ℕ))
+continues : (header : Option Header) (lines : List (List ℕ)) (es : List Event) (h : Header) (all : List (List ℕ)) (fs : List Event)
+    (more : List (List ℕ))
     → IsScript header lines es → IsScript (Some h) all fs → NoneForged h fs → all ≡ lines ++ more → Continues header es more h fs
 continues None lines es h all fs more is whole genuine e =
     let P : List (List ℕ) → Type 0 = λ x. IsScript (Some h) x fs in
@@ -124,7 +128,8 @@ other : {A B : Type 0} (x : Result A B) (a : A) (b : B) → x ≡ Ok a → x ≡
 other x a b p q = (let both : Ok a ≡ Err b = sym p ∙ q in let no : ⊥ = cc in no)
 
 -- the first line of the rest is read
-is-read : (header : Option Header) (es : List Event) (line : List ℕ) (more : List (List ℕ)) (h : Header) (fs : List Event) (reason : LineFault)
+is-read : (header : Option Header) (es : List Event) (line : List ℕ) (more : List (List ℕ)) (h : Header) (fs : List Event)
+    (reason : LineFault)
     → Continues header es (line ∷ more) h fs → Refuses header line reason → ⊥
 is-read None es line more h fs reason is refused =
     let both : line ∷ more ≡ is.0 ∷ is.1 = is.2 in
@@ -135,7 +140,8 @@ is-read (Some k) es line more h fs reason is refused = later is.0.later is.0.are
   later [] are = absurd are
   later (e ∷ es) are = other (event_of k.gateways line) e reason are.0 refused
 
-no-bad : (header : Option Header) (es : List Event) (line ys : List ℕ) (more : List (List ℕ)) (h : Header) (fs : List Event) (reason : LineFault)
+no-bad : (header : Option Header) (es : List Event) (line ys : List ℕ) (more : List (List ℕ)) (h : Header) (fs : List Event)
+    (reason : LineFault)
     → Continues header es more h fs → AreLines more → HasNoLf line → line ++ 10 ∷ ys ≡ joined more → Refuses header line reason → ⊥
 no-bad header es line ys [] h fs reason is each inside e refused =
     let size = ap length e in
@@ -146,7 +152,8 @@ no-bad header es line ys (m ∷ more) h fs reason is each inside e refused =
     let P : List ℕ → Type 0 = λ x. Refuses header x reason in
     is-read header es m more h fs reason is (subst P cut.0 refused)
 
-no-long : (line ys : List ℕ) (next : ℕ) (more : List (List ℕ)) → AreLines more → HasNoLf line → length line ≡ 1048576 → line ++ next ∷ ys ≡ joined more → ⊥
+no-long : (line ys : List ℕ) (next : ℕ) (more : List (List ℕ)) → AreLines more → HasNoLf line → length line ≡ 1048576 → line ++ next ∷ ys ≡
+    joined more → ⊥
 no-long line ys next [] each inside full e =
     let size = ap length e in
     let cut = length-append line (next ∷ ys) in
@@ -167,7 +174,8 @@ no-cut header es rest (m ∷ more) h fs is each inside e some =
     let right = length-append m (10 ∷ joined more) in
     no-lf rest m [] (joined more) inside (omega (arith, size, left, right)) both
 
-no-forged : (header : Option Header) (es : List Event) (more : List (List ℕ)) (h : Header) (fs : List Event) → Continues header es more h fs → EndForged header es → ⊥
+no-forged : (header : Option Header) (es : List Event) (more : List (List ℕ)) (h : Header) (fs : List Event) → Continues header es more h fs
+    → EndForged header es → ⊥
 no-forged None es more h fs is forged = absurd forged
 no-forged (Some k) es more h fs is forged =
     let N : List Event → Type 0 = λ x. NoneForged k x in
@@ -202,7 +210,8 @@ part-of script octets left w t e =
     }
 
 -- octets before what is left, cut at an octet
-cut-at : (rest left line : List ℕ) (next : ℕ) (more joins : List ℕ) → rest ≡ line ++ next ∷ more → rest ++ left ≡ joins → line ++ next ∷ (more ++ left) ≡ joins
+cut-at : (rest left line : List ℕ) (next : ℕ) (more joins : List ℕ) → rest ≡ line ++ next ∷ more → rest ++ left ≡ joins → line ++ next ∷
+    (more ++ left) ≡ joins
 cut-at rest left line next more joins cut e = sym (append_assoc line (next ∷ more) left) ∙ ap (λ (x : List ℕ). x ++ left) (sym cut) ∙ e
 
 no-refusal : (script octets left : List ℕ) (w : IsWhole script) (t : Taken octets) (reason : LineFault) → Part script octets left w t
@@ -217,7 +226,8 @@ no-refusal script octets left w t reason p (inr (inr b)) =
     let all : t.rest ≡ joined p.rest.more = sym (append-nil t.rest) ∙ ap (λ (x : List ℕ). t.rest ++ x) (sym b.end) ∙ p.rest.octets in
     no-cut t.header t.events t.rest p.rest.more w.header w.events p.on p.rest.each b.begun.inside all b.some
 
-too-long : (script octets left : List ℕ) (w : IsWhole script) (t : Taken octets) → Part script octets left w t → IsTooLong t.lines t.rest → ⊥
+too-long : (script octets left : List ℕ) (w : IsWhole script) (t : Taken octets) → Part script octets left w t → IsTooLong t.lines t.rest →
+    ⊥
 too-long script octets left w t p b =
     let size = p.size in
     let full = b.full in
@@ -225,23 +235,27 @@ too-long script octets left w t p b =
     let sum = length-append b.line (b.next ∷ b.comes.more) in
     absurd (omega (arith, size, full, cut, sum))
 
-ends-so : (script octets left : List ℕ) (w : IsWhole script) (status : Status) (t : Taken octets) (happened : List Act) → Part script octets left w t → Cause status t happened (Some left)
+ends-so : (script octets left : List ℕ) (w : IsWhole script) (status : Status) (t : Taken octets) (happened : List Act) → Part script octets
+    left w t → Cause status t happened (Some left)
     → (is_read_fault status ≡ true → ⊥) → (is_write_fault status ≡ true → ⊥) → IsEnd status
 ends-so script octets left w statuses.Done t happened p cause r k = inl refl
 ends-so script octets left w (statuses.Line line reason) t happened p cause r k = absurd (by cause.1) where
-  by : IsBadLine t.header t.lines t.rest reason ⊎ (((reason ≡ faults.Long) × IsLongLine t.lines t.rest) ⊎ ((reason ≡ faults.End) × IsCutOff t.header t.lines t.rest (Some left))) → ⊥
+  by : IsBadLine t.header t.lines t.rest reason ⊎ (((reason ≡ faults.Long) × IsLongLine t.lines t.rest) ⊎
+      ((reason ≡ faults.End) × IsCutOff t.header t.lines t.rest (Some left))) → ⊥
   by (inl b) = no-refusal script octets left w t reason p (inl b)
   by (inr (inl b)) = no-refusal script octets left w t reason p (inr (inl b.1))
   by (inr (inr b)) = no-refusal script octets left w t reason p (inr (inr b.1))
 ends-so script octets left w statuses.ReadFault t happened p cause r k = absurd (r refl)
 ends-so script octets left w statuses.WriteFault t happened p cause r k = absurd (k refl)
 ends-so script octets left w statuses.NoMemory t happened p cause r k = inr refl
-ends-so script octets left w (statuses.Forged line arrived) t happened p cause r k = absurd (no-forged t.header t.events p.rest.more w.header w.events p.on cause.2)
+ends-so script octets left w (statuses.Forged line arrived) t happened p cause r k = absurd
+    (no-forged t.header t.events p.rest.more w.header w.events p.on cause.2)
 ends-so script octets left w statuses.TooLong t happened p cause r k = absurd (too-long script octets left w t p cause.0)
 ends-so script octets left w status t happened p cause r k = absurd cause
 
 -- a whole script ends as Done, or for want of memory, where no device failed
-pub ends-whole : (script octets written : List ℕ) (before left : Option (List ℕ)) (status : Status) → IsWhole script → before ≡ Some script → Loses before left octets → Ran status left octets written
+pub ends-whole : (script octets written : List ℕ) (before left : Option (List ℕ)) (status : Status) → IsWhole script → before ≡ Some script
+    → Loses before left octets → Ran status left octets written
     → (is_read_fault status ≡ true → ⊥) → (is_write_fault status ≡ true → ⊥) → IsEnd status
 ends-whole script octets written None left status w is loses ran r k = absurd (let no : ⊥ = cc in no)
 ends-whole script octets written (Some old) None status w is loses ran r k = absurd loses

@@ -121,6 +121,7 @@ pub record State : Type 0 where
   pub line : List ℕ
   pub whole : ℕ
 
+-- what a reader keeps, as contracts see it
 abbrev pub kept : Option Running → List ℕ → ℕ → State
 kept running line whole = record { running = running; line = line; whole = whole }
 
@@ -153,7 +154,8 @@ pub record IsCounted (s : State) : Type 0 where
 
 -- whatever stood before: these octets are read, more is written, and the new state stands for it
 abbrev pub Goes : State → State → Option (List ℕ) → Option (List ℕ) → List ℕ → Type 0
-Goes old new told told' octets = (input text : List ℕ) → Reads input text old → (more : List ℕ) × Gains told told' more × Reads (input ++ octets) (text ++ more) new
+Goes old new told told' octets = (input text : List ℕ) → Reads input text old → (more : List ℕ) × Gains told told' more × Reads
+    (input ++ octets) (text ++ more) new
 
 -- whatever stood before: the run ends within these octets, whatever comes after them
 abbrev pub EndsWith : Status → State → Option (List ℕ) → Option (List ℕ) → List ℕ → Type 0

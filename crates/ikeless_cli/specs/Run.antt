@@ -45,7 +45,7 @@ IsLastArrival happened octets = (older : List Act) × (g : List ℕ) × (happene
 
 -- ---- what was written
 
--- the text of what happened was written: a front of it where the sink failed
+-- the text of what happened was written, in whole blocks: a front of it where the sink failed
 abbrev pub IsWritten : Status → List ℕ → List ℕ → Type 0
 IsWritten statuses.WriteFault written text = (more : List ℕ) × (written ++ more ≡ text)
 IsWritten _ written text = written ≡ text
@@ -101,12 +101,14 @@ pub record IsCutOff (header : Option Header) (lines : List (List ℕ)) (rest : L
 -- why the line after those taken isn't taken, by its reason: it says nothing, has more than 1 MiB, or is cut off by the end of the input
 abbrev pub IsRefused : Option Header → List (List ℕ) → List ℕ → Option (List ℕ) → LineFault → Type 0
 IsRefused header lines rest left reason =
-    IsBadLine header lines rest reason ⊎ (((reason ≡ faults.Long) × IsLongLine lines rest) ⊎ ((reason ≡ faults.End) × IsCutOff header lines rest left))
+    IsBadLine header lines rest reason ⊎ (((reason ≡ faults.Long) × IsLongLine lines rest) ⊎
+    ((reason ≡ faults.End) × IsCutOff header lines rest left))
 
 -- the cause of each status, seen from what was taken, what happened and what the source has left
 abbrev pub Cause : {input : List ℕ} → Status → Taken input → List Act → Option (List ℕ) → Type 0
 Cause statuses.Done t happened left = (t.rest ≡ []) × AtEnd left × IsSome t.header × AreGenuine t.header t.events
-Cause (statuses.Line line reason) t happened left = (line ≡ length t.lines + 1) × IsRefused t.header t.lines t.rest left reason × AreGenuine t.header t.events
+Cause (statuses.Line line reason) t happened left = (line ≡ length t.lines + 1) × IsRefused t.header t.lines t.rest left reason × AreGenuine
+    t.header t.events
 Cause statuses.ReadFault t happened left = HasBegun t.lines t.rest × AreGenuine t.header t.events
 Cause statuses.WriteFault t happened left = AreGenuine t.header t.events ⊎ EndForged t.header t.events
 Cause (statuses.Forged line octets) t happened left = (line ≡ length t.lines) × IsLastArrival happened octets × EndForged t.header t.events

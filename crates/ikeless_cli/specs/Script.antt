@@ -31,7 +31,8 @@ joined lines = flat_map (λ line. line ++ 10 ∷ []) lines
 -- the lines of a script up to here: none, or a header and a line for each event
 abbrev pub IsScript : Option Header → List (List ℕ) → List Event → Type 0
 IsScript None lines es = (lines ≡ []) × (es ≡ [])
-IsScript (Some h) lines es = (first : List ℕ) × (more : List (List ℕ)) × (lines ≡ first ∷ more) × (header_of first ≡ Ok h) × AreLinesOf h more es
+IsScript (Some h) lines es = (first : List ℕ) × (more : List (List ℕ)) × (lines ≡ first ∷ more) × (header_of first ≡ Ok h) × AreLinesOf h
+    more es
 
 -- The octets read are whole lines, which are a script up to there, and a rest. The lines are within 64 MiB.
 pub record Taken (input : List ℕ) : Type 0 where

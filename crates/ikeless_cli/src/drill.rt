@@ -7,11 +7,10 @@ ghost use Rattle.ikeless_cli.specs.Drill.{DrillWrote, IsDrilled, wants_memory};
 ghost use Rattle.ikeless_cli.specs.Reader.{SinkTells};
 ghost use Rattle.ikeless_cli.specs.Run.{is_write_fault};
 
-use crate::reader::write_all;
 use crate::replay::run;
 use crate::status::exit_number;
 use drill_script::{Growing, count_lines, lines_count_acts, write_drill, write_summary};
-use ikl_base::{Failed, MemorySource, NoMemory, Octets, OrMemory, Sink, Status};
+use ikl_base::{Failed, MemorySource, NoMemory, Octets, OrMemory, Sink, Status, write_all};
 use live_words::read_drill_words;
 use std::alloc::Global;
 

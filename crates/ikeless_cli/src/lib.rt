@@ -1,4 +1,6 @@
 //! The commands: what each reads, does and writes, over any devices.
+//!
+//! `specs/Run.antt` has what a run of `replay` is, `specs/Drill.antt` what the drill prints, `specs/Exit.antt` the exit numbers.
 #![tactic(auto)]
 
 mod drill;

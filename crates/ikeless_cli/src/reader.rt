@@ -8,7 +8,7 @@ ghost use Rattle.ikeless_cli.specs.Run.{Ran, is_read_fault, is_write_fault};
 ghost use Rattle.ikeless_cli.specs.Reader.{taken_of, lines_of, IsLive, Reads, Fits, Overflows, Takes, SinkTells, broke_of, ends_forged, fresh, kept};
 
 use crate::running::{Running, next_line, take_line};
-use ikl_base::{Failed, LineFault, Octets, OrMemory, Sink, Status};
+use ikl_base::{Failed, LineFault, Octets, OrMemory, Sink, Status, write_all};
 use memchr::memchr;
 use std::alloc::Global;
 use std::marker::Model;
@@ -35,27 +35,6 @@ impl Model for Reader {
     ghost view = { λ r. kept r.running r.line.items r.whole };
 
     ghost invariant = { λ r. IsCounted (kept r.running r.line.items r.whole) };
-}
-
-/// Writes all of a piece.
-pub fn write_all<K: Sink>(output: &mut K, piece: &[u8]) -> Result<(), Failed>
-    ensures ok { OnOk result (Gains (K.written output.old) (K.written output.new) piece.now) }
-    ensures err { OnErr result ((part more : List ℕ) × (part ++ more ≡ piece.now) × Gains (K.written output.old) (K.written output.new) part) }
-    ensures cause { HasCause (K.faults output.old) (K.faults output.new) result }
-    ensures calm { IsCalm (K.last_failed output.old) → OnOk result (IsCalm (K.last_failed output.new)) }
-    ensures failed { OnErr result (HasFailed (K.last_failed output.new)) }
-{
-    let mut rest = piece;
-    while !rest.is_empty() {
-        match output.write(rest) {
-            Ok(n) => {
-                let (_, tail) = rest.split_at(n);
-                rest = tail;
-            }
-            Err(Failed) => return Err(Failed),
-        }
-    }
-    Ok(())
 }
 
 // A forged arrival ends the run at its line.

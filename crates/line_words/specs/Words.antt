@@ -51,7 +51,7 @@ gateway_of w = if is_gateway w then Ok w else Err faults.Gateway
 abbrev pub known_of : List Peer → List ℕ → Result (List ℕ) LineFault
 known_of gateways w = if is_named gateways w then Ok w else Err faults.Gateway
 
--- the name of a half
+-- what is read as the name of a half, or why it is none
 abbrev pub half_name_of : List ℕ → Result (List ℕ) LineFault
 half_name_of w = if is_sad_name w then Ok w else Err faults.Entry
 

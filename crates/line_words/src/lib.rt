@@ -1,4 +1,6 @@
 //! The words of the lines of scripts and transcripts, read and written: names, numbers, octets, policies, limits and halves.
+//!
+//! `specs/Words.antt`, `specs/Entry.antt` and `specs/Half.antt` have what is read, `specs/Text.antt` what is written.
 #![tactic(auto)]
 
 mod cutting;

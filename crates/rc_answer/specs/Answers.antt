@@ -38,7 +38,7 @@ or_only_bad (Err e) = Err bad
 abbrev pub sole : List ℕ → Data → Result Data BadAnswer
 sole name d = or_only_bad (only_in name d)
 
--- the text of a member
+-- the text that a member of this name holds, which has to be there and be a string
 abbrev pub member_text : List ℕ → Data → Result (List ℕ) BadAnswer
 member_text name d = or_only_bad (needed_text (get name d))
 

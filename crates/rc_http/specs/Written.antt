@@ -62,7 +62,7 @@ request_fields m = named m.fields (request_names m.body)
 abbrev pub request_head : HttpMessage → List ℕ
 request_head m = head_text (request_line m) (request_fields m)
 
--- the text of a request
+-- the octets of a request: its line, its fields and its body (RFC 9112 section 3)
 abbrev pub request_text : HttpMessage → List ℕ
 request_text m = request_head m ++ m.body
 
@@ -117,7 +117,7 @@ response_fields m = named m.fields (response_names m.status m.body)
 abbrev pub response_head : HttpMessage → List ℕ
 response_head m = head_text (status_line m.status) (response_fields m)
 
--- the text of a response
+-- the octets of a response: its status line, its fields and its body (RFC 9112 section 4)
 abbrev pub response_text : HttpMessage → List ℕ
 response_text m = response_head m ++ m.body
 

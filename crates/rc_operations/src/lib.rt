@@ -1,4 +1,6 @@
 //! Commands to a controller as operations of RESTCONF (RFC 8040 section 3.6), both ways: their requests and the replies.
+//!
+//! `specs/Operations.antt` has the requests, `specs/Replies.antt` the replies.
 #![tactic(auto)]
 
 mod laws;

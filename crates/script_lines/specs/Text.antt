@@ -41,7 +41,7 @@ notice_words (notices.Expire name soft counts) = codes "expire" ∷ name ∷ sof
 notice_words (notices.SeqOverflow name) = codes "overflow" ∷ name ∷ []
 notice_words (notices.BadSpi spi) = codes "bad-spi" ∷ decimal spi ∷ []
 
--- the words of an act
+-- the words between the spaces of an act's line
 abbrev pub act_words : Act → List (List ℕ)
 act_words (acts.Took k) = codes "@" ∷ decimal k ∷ []
 act_words (acts.Now t) = codes "now" ∷ decimal t ∷ []

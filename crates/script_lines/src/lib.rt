@@ -1,4 +1,6 @@
 //! The lines of scripts and transcripts: events and acts as text, each act in one spelling.
+//!
+//! `specs/Act.antt` has what is read as an act, `specs/Text.antt` the one text of each.
 #![tactic(auto)]
 
 mod act;

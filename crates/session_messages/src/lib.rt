@@ -1,4 +1,6 @@
 //! The messages of a session as octets: orders as requests, replies as responses and notices as lines, each written and read whole.
+//!
+//! `specs/Whole.antt` has the definitions.
 #![tactic(auto)]
 
 mod line;

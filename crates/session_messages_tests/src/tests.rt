@@ -1,3 +1,4 @@
+// Orders, replies and notices as octets and back, against octets worked by another program.
 use ikeless_tree::{Answer, Entries, Limits, Notice, Order, Rows, Tree, names_half};
 use ikl_base::{Addr, Name, NoMemory, Octets};
 use rc_resource::{Ask, RcError, apply};

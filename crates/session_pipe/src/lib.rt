@@ -2,6 +2,8 @@
 //!
 //! A pipe is seen as what is under way: how many sessions were opened, which end has the last one, and the messages of
 //! each lane that its reading end has not taken.
+//!
+//! `specs/UnderWay.antt` has the definitions: what is under way, and what each call makes of it.
 #![tactic(auto)]
 
 mod laws;

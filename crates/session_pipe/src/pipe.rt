@@ -1,3 +1,4 @@
+// Messages under way, lane by lane, and the sessions that come and go over them.
 ghost use Rattle.std.specs.Prelude.{◌≡◌, ◌+◌, ◌-◌, ◌^◌, ◌<◌, ◌≤◌, true, false, None, Some, IfOk, OnOk, OnErr, length, take, if◌then◌else◌};
 ghost use Rattle.session_pipe.specs.UnderWay.{UnderWay, no_session, after_open, after_cut, after_boot, after_push, after_take, next_message, unread_octets};
 

@@ -1,3 +1,4 @@
+// Messages sent, taken and lost with their session.
 ghost use Rattle.std.specs.Prelude.{◌≡◌};
 
 use crate::{Lane, Pipe};

@@ -1,4 +1,6 @@
 //! Every order, every reply and every notice has a text, since none is too long; and each text is read as what was written.
+//!
+//! It has no definitions of its own.
 #![tactic(auto)]
 
 mod laws;

@@ -1,4 +1,6 @@
 //! The world of a script follows its law: for which past it stands, and what it does at each event.
+//!
+//! `specs/Stands.antt` has the definition: `StandsFor`.
 #![tactic(auto)]
 
 mod laws;

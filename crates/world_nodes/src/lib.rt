@@ -2,6 +2,8 @@
 //!
 //! A gateway is stepped; what it does is told as acts with its name and the numbers of its sessions and requests, its replies and
 //! notices go into its pipe as octets, and its datagrams into the log.
+//!
+//! `specs/Told.antt` and `specs/Numbered.antt` have the definitions.
 #![tactic(auto)]
 
 mod damage;

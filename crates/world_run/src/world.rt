@@ -14,7 +14,6 @@ use hist_acts::{Acts, Event, Header};
 use ikl_base::{ListOf, NoMemory};
 use std::alloc::Global;
 use std::marker::Model;
-use std::mem::replace;
 use world_law::{begins, can_step, steps_follow};
 
 /// The gateways of a script, their controller and all that is between them.
@@ -40,17 +39,8 @@ impl Model for World {
     ghost invariant = { λ w. w.is_spent ≡ false → IsStanding w.header w.parts };
 }
 
-// Adds acts at the end: all, or none for want of memory.
-fn append_acts(alloc: Global, acts: &mut Acts, more: Acts) -> Result<(), NoMemory>
-    ensures ok { OnOk result (acts.new ≡ acts.old ++ more) }
-    ensures err { OnErr result (acts.new ≡ acts.old) }
-{
-    let mut items = replace(acts, ListOf::new(alloc)).into_items();
-    let mut added = more.into_items();
-    let outcome = items.append(&mut added);
-    *acts = ListOf::from_items(items);
-    Ok(outcome?)
-}
+// Room for the acts of most blocks: the event is taken, it happens, and it is answered.
+const USUAL_ACTS: usize = 3;
 
 // Takes an event, and adds its whole block or nothing.
 fn take_whole(alloc: Global, parts: &mut Parts, e: Event, acts: &mut Acts) -> Result<Go, NoMemory>
@@ -59,9 +49,9 @@ fn take_whole(alloc: Global, parts: &mut Parts, e: Event, acts: &mut Acts) -> Re
     ensures done { (r : Found) → CanStep r e parts.old → IfOk result (λ go. IsDone (stepped r e parts.old) acts.old acts.new parts.new go) }
     ensures err { OnErr result (acts.new ≡ acts.old) }
 {
-    let mut block = ListOf::new(alloc);
+    let mut block = ListOf::from_items(Vec::with_capacity(alloc, USUAL_ACTS)?);
     let go = parts.take(e, &mut block)?;
-    append_acts(alloc, acts, block)?;
+    acts.append(block)?;
     Ok(go)
 }
 

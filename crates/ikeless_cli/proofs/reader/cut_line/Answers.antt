@@ -5,7 +5,8 @@ use Rattle.ikeless_cli.proofs.Lines.{cut-lf, inside-before, inside-from}
 use Rattle.ikeless_cli.proofs.reader.cut_line.Goals as goal
 
 pub returns-in_err-n : goal.returns-in_err-n
-returns-in_err-n c = rw c.from_residual.ensures (inside-from c.args.octets.now (λ k inside is. c.in_err-n.ensures k (omega arith) inside is))
+returns-in_err-n c = rw c.from_residual.ensures (inside-from c.args.octets.now
+    (λ k inside is. c.in_err-n.ensures k (omega arith) inside is))
 
 pub returns : goal.returns
 returns c =

@@ -25,8 +25,15 @@ pub returns-then-n-eq0-clause-ran : goal.returns-then-n-eq0-clause-ran
 returns-then-n-eq0-clause-ran g c =
     let inv = c.turns.invariant.so_far in
     let P : ℕ → Type 0 = λ n. Loses (g.S.Source.left c.turns.input) (g.S.Source.left c.read.new.self) (take n c.read.new.buf) in
-    let none = subst P c.if-n-eq0.true c.in-Ok.ensures.gives.octets in
-    (inv.0, inv.1, loses_no_more _ _ _ _ inv.2 none, inv.3, c.at_end.ensures.ran inv.0 inv.1 _ inv.4 (at-end-after _ _ (c.in-Ok.ensures.gives.end c.if-n-eq0.true (let size = c.turns.invariant.size in let kept = c.read.auto.buf in omega (arith, size, kept))) none))
+    let none = subst P c.if-n-eq0.true c.in-Ok.ensures.gives.octets in (
+      inv.0,
+      inv.1,
+      loses_no_more _ _ _ _ inv.2 none,
+      inv.3,
+      c.at_end.ensures.ran inv.0 inv.1 _ inv.4
+          (at-end-after _ _ (c.in-Ok.ensures.gives.end c.if-n-eq0.true (let size = c.turns.invariant.size in let kept = c.read.auto.buf in
+          omega (arith, size, kept))) none),
+    )
 
 pub returns-in-Err-take_piece-clause-ran : goal.returns-in-Err-take_piece-clause-ran
 returns-in-Err-take_piece-clause-ran g c =
@@ -34,8 +41,14 @@ returns-in-Err-take_piece-clause-ran g c =
     let piece : List ℕ = c.split_at.result.0.now in
     let e : take c.in-Ok.n c.read.new.buf ≡ piece = cc in
     let P : List ℕ → Type 0 = λ x. Loses (g.S.Source.left c.turns.input) (g.S.Source.left c.read.new.self) x in
-    let step = c.in-Err-take_piece.ensures.takes.0 inv.0 inv.1 inv.4 in
-    (inv.0 ++ piece, inv.1 ++ step.0, loses_more _ _ _ _ _ inv.2 (subst P e c.in-Ok.ensures.gives.octets), gains_more _ _ _ _ _ inv.3 step.1, ends-read _ _ inv.0 _ piece (step.2 _ []))
+    let step = c.in-Err-take_piece.ensures.takes.0 inv.0 inv.1 inv.4 in (
+      inv.0 ++ piece,
+      inv.1 ++ step.0,
+      loses_more _ _ _ _ _ inv.2 (subst P e c.in-Ok.ensures.gives.octets),
+      gains_more _ _ _ _ _ inv.3
+          step.1,
+      ends-read _ _ inv.0 _ piece (step.2 _ []),
+    )
 
 pub turns-preserved : goal.turns-preserved
 turns-preserved g c =
@@ -46,7 +59,15 @@ turns-preserved g c =
     let P : List ℕ → Type 0 = λ x. Loses (g.S.Source.left c.turns.input) (g.S.Source.left c.read.new.self) x in
     let size = length-append inv.0 piece in
     record {
-      so_far = (inv.0 ++ piece, inv.1 ++ step.0, loses_more _ _ _ _ _ inv.2 (subst P e c.in-Ok.ensures.gives.octets), gains_more _ _ _ _ _ inv.3 step.1, step.2, omega (arith, size, inv.5));
+      so_far = (
+        inv.0 ++ piece,
+        inv.1 ++ step.0,
+        loses_more _ _ _ _ _ inv.2 (subst P e c.in-Ok.ensures.gives.octets),
+        gains_more _ _ _ _ _
+            inv.3 step.1,
+        step.2,
+        omega (arith, size, inv.5),
+      );
       size = let size = c.turns.invariant.size in let kept = c.read.auto.buf in omega (arith, size, kept);
       source = omega (arith, c.turns.invariant.source, c.in-Ok.ensures.cause.later);
       sink = sink-on _ _ _ _ _ _ _ c.turns.invariant.sink c.in-Ok-take_piece.ensures.sink;

@@ -9,5 +9,6 @@ invariant-turns g l = record {
       × Gains (g.K.Sink.written l.initial.output) (g.K.Sink.written l.output) text × Reads octets text l.reader × (l._turn ≤ length octets);
   size : length l.buf ≡ 65536;
   source : g.S.Source.faults l.initial.input ≤ g.S.Source.faults l.input;
-  sink : SinkTells (g.K.Sink.faults l.initial.output) (g.K.Sink.faults l.output) (g.K.Sink.last_failed l.initial.output) (g.K.Sink.last_failed l.output) false;
+  sink : SinkTells (g.K.Sink.faults l.initial.output) (g.K.Sink.faults l.output) (g.K.Sink.last_failed l.initial.output)
+      (g.K.Sink.last_failed l.output) false;
 }

@@ -6,7 +6,8 @@ use Rattle.ikeless_cli.proofs.Ends.{ends-cut_off, ends-done, isnt-empty}
 use Rattle.ikeless_cli.proofs.reader.Reader.at_end.Goals as goal
 
 pub returns-in-None-clause-ran : goal.returns-in-None-clause-ran
-returns-in-None-clause-ran c = λ i t left r end. rw c.cut_off.ensures (ends-cut_off left i t _ _ r end refl (inr (ap (λ (x : State). header_kept x.running) (sym c.self.view_is) ∙ ap header_kept c.in-None.is)))
+returns-in-None-clause-ran c = λ i t left r end. rw c.cut_off.ensures (ends-cut_off left i t _ _ r end refl
+    (inr (ap (λ (x : State). header_kept x.running) (sym c.self.view_is) ∙ ap header_kept c.in-None.is)))
 
 pub returns-then-is_empty-clause-ran : goal.returns-then-is_empty-clause-ran
 returns-then-is_empty-clause-ran c = λ i t left r end.

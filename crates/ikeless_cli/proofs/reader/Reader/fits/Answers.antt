@@ -11,10 +11,12 @@ returns-then-left-short-clause-err c =
     let within = fits.within in
     let whole = ap (λ (x : State). x.whole) c.self.view_is in
     let size = ap (λ (x : State). length x.line) c.self.view_is in
-    let left : 67108864 - c.self.inside.whole - c.len.result ≡ 67108864 - (s.whole + length s.line) = omega (arith, whole, size, c.len.ensures) in
+    let left : 67108864 - c.self.inside.whole - c.len.result ≡ 67108864 - (s.whole + length s.line) = omega
+    (arith, whole, size, c.len.ensures) in
     let less : 67108864 - (s.whole + length s.line) < c.args.count =
     ⊎_elim (λ both. omega (arith, both.1, c.if-left-short.true, left)) (λ one. omega (arith, one, left)) c.else-count-left.either in
-    let before : length s.line + (67108864 - (s.whole + length s.line)) ≤ 1048576 = omega (arith, c.if-left-short.true, short, within, left, size, c.len-short.ensures) in
+    let before : length s.line + (67108864 - (s.whole + length s.line)) ≤ 1048576 = omega
+    (arith, c.if-left-short.true, short, within, left, size, c.len-short.ensures) in
     overflows-too_long s c.args.count (67108864 - (s.whole + length s.line)) fits (omega (arith, within)) before less
 
 pub returns-clause-err : goal.returns-clause-err
@@ -25,10 +27,13 @@ returns-clause-err c =
     let within = fits.within in
     let whole = ap (λ (x : State). x.whole) c.self.view_is in
     let size = ap (λ (x : State). length x.line) c.self.view_is in
-    let number : c.next_line-line.result ≡ lines_of s.running + 1 = c.next_line-line.ensures ∙ ap (λ (x : State). lines_of x.running + 1) c.self.view_is in
-    let left : 67108864 - c.self.inside.whole - c.len.result ≡ 67108864 - (s.whole + length s.line) = omega (arith, whole, size, c.len.ensures) in
+    let number : c.next_line-line.result ≡ lines_of s.running + 1 = c.next_line-line.ensures ∙ ap (λ (x : State). lines_of x.running + 1)
+    c.self.view_is in
+    let left : 67108864 - c.self.inside.whole - c.len.result ≡ 67108864 - (s.whole + length s.line) = omega
+    (arith, whole, size, c.len.ensures) in
     let most : 1048576 - c.len-short.result ≡ 1048576 - length s.line = omega (arith, size, c.len-short.ensures) in
-    let room : s.whole + length s.line + (1048576 - length s.line) < 67108864 = omega (arith, c.if-left-short.false, left, most, short, within) in
+    let room : s.whole + length s.line + (1048576 - length s.line) < 67108864 = omega
+    (arith, c.if-left-short.false, left, most, short, within) in
     let less : 1048576 - length s.line < c.args.count =
     ⊎_elim (λ both. omega (arith, both.1, most)) (λ one. omega (arith, one, c.if-left-short.false, left, most)) c.else-count-left.either in
     overflows-long s c.args.count (1048576 - length s.line) _ number (omega (arith, short)) room less

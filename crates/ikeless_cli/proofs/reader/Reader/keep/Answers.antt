@@ -6,7 +6,8 @@ use Rattle.ikeless_cli.proofs.reader.Reader.keep.Goals.{in-Ok-extend_from_slice,
 use Rattle.ikeless_cli.proofs.reader.Reader.keep.Goals as goal
 
 pub returns-in-Err-clause-takes : goal.returns-in-Err-clause-takes
-returns-in-Err-clause-takes c = λ told. overflows-octets c.in-Err.status c.args.self.now c.args.octets.now _ told c.requires refl c.in-Err.ensures.err
+returns-in-Err-clause-takes c = λ told. overflows-octets c.in-Err.status c.args.self.now c.args.octets.now _ told c.requires refl
+    c.in-Err.ensures.err
 
 pub returns-clause-takes : goal.returns-clause-takes
 returns-clause-takes c = λ told. elim c.match-extend_from_slice.branch [
