@@ -126,6 +126,11 @@ impl<'a, R: Clock> Door<'a, R> {
         Ok(Watch::of(registry, self.watch.activity()))
     }
 
+    // Whether sessions come with a notice stream, as a gateway's do.
+    pub(crate) fn has_notices(&self) -> bool {
+        self.notices.is_some()
+    }
+
     // Notes what a read of a session brought.
     pub(crate) fn note<E>(&self, answer: &Result<Option<usize>, E>) {
         self.watch.note(answer);

@@ -18,9 +18,9 @@ use std::time::Clock;
 // How many of the sockets that are ready one wait tells of.
 const EVENTS: usize = 16;
 
-// How many octets of a session one read gives at most. A turn takes one datagram from each wire and handles every
-// request that a read completes, so more of them would keep datagrams waiting for longer than a port has room.
-const READ_AT_ONCE: usize = 256;
+// How many octets of a session one read gives at most at a gateway. A turn takes one datagram from each wire and handles
+// every request that a read completes, so more of them would keep datagrams waiting for longer than a port has room.
+const READ_AT_ONCE: usize = 64;
 
 /// A dock at two ports of this machine, or at one for sessions without a notice stream.
 ///
@@ -29,7 +29,7 @@ const READ_AT_ONCE: usize = 256;
 /// dropped after a second. A session whose call failed, or that the node no longer reads, ends for its peer after what
 /// was written; its streams are dropped when a newer one is taken.
 ///
-/// A read gives 256 octets at most, however long `buf` is, so that one turn of a node isn't held by many requests.
+/// A read at a gateway gives 64 octets at most, however long `buf` is, so that one turn isn't held by many requests.
 ///
 /// An idle node waits in `accept`, a quarter of a second at most, until a socket that watches with this dock is ready.
 #[derive(Drop)]
@@ -160,7 +160,11 @@ impl<R: Clock> Dock for TcpDock<'_, R> {
         self.is_read = true;
         let answer = match &self.session {
             Some(session) => {
-                let most = min(buf.len(), READ_AT_ONCE);
+                let most = if self.door.has_notices() {
+                    min(buf.len(), READ_AT_ONCE)
+                } else {
+                    buf.len()
+                };
                 let (front, _) = buf.split_at_mut(most);
                 session.read(front)
             }
