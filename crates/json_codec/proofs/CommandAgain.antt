@@ -11,7 +11,7 @@ use Rattle.yang_values.specs.Prefixes.{prefix_text}
 use Rattle.json_values.specs.Written.{count, wide, word}
 use Rattle.json_tree.specs.SadEntryWritten.{limits_members, has_no_limits}
 use Rattle.ikeless_tree.specs.Words.{mode_text}
-use Rattle.json_codec.specs.CommandWritten.{policy_input, with_first, with_second, tunnel_input, input_of, command_data, IsLawful}
+use Rattle.json_codec.specs.CommandWritten.{policy_input, with_first, with_second, tunnel_input, input_of, command_data, IsWellFormed}
 use Rattle.json_codec.specs.CommandRead.{operation_of, HasWindow, command_fault}
 use Rattle.json_values.specs.Json.{IsListInput, IsTunnelInput, IsInput, IsCommand}
 use Rattle.ikeless_tree.specs.Typed.{AreTypedPolicies, IsTypedTunnel, IsTypedCommand}
@@ -90,17 +90,17 @@ tunnel_again : (t : TunnelSpec) → IsTypedTunnel t → is_gateway t.first ≡ t
 unfolding tunnel_input with_first with_second
 tunnel_again t typed first second window = tunnel_by (has_no_limits t.hard) (has_no_limits t.soft) t typed first second window refl refl
 
-input_again : CanHex → (c : Command) → IsTypedCommand c → IsLawful c → HasWindow c → IsInput (operation_of c) c (input_of c)
+input_again : CanHex → (c : Command) → IsTypedCommand c → IsWellFormed c → HasWindow c → IsInput (operation_of c) c (input_of c)
 input_again hex (commands.Policy gateway list) typed lawful window = (refl, list_again gateway list lawful.0 typed lawful.1)
 input_again hex (commands.Tunnel spec) typed lawful window = (refl, tunnel_again spec typed lawful.0 lawful.1 window)
 input_again hex (commands.End reqid) typed lawful window = (refl, (refl, wide_again reqid typed))
 input_again hex (commands.Rekey reqid) typed lawful window = (refl, (refl, wide_again reqid typed))
 input_again hex (commands.Keys key) typed lawful window = (refl, (refl, (hex_colons key, refl, hex key typed)))
 
-pub command_again : CanHex → (c : Command) → IsTypedCommand c → IsLawful c → HasWindow c → IsCommand (operation_of c) c (command_data c)
+pub command_again : CanHex → (c : Command) → IsTypedCommand c → IsWellFormed c → HasWindow c → IsCommand (operation_of c) c (command_data c)
 command_again hex c typed lawful window = (refl, input_again hex c typed lawful window)
 
-pub no_command_fault : (c : Command) → IsLawful c → command_fault c ≡ None
+pub no_command_fault : (c : Command) → IsWellFormed c → command_fault c ≡ None
 no_command_fault (commands.Policy gateway list) lawful = lawful.1
 no_command_fault (commands.Tunnel spec) lawful = refl
 no_command_fault (commands.End reqid) lawful = refl

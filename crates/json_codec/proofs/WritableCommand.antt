@@ -22,7 +22,7 @@ use Rattle.json_values.proofs.ReadAgain.{
   write_member,
 }
 use Rattle.json_tree.proofs.Writable.{narrow, prefix_utf8, write_only, write_lifetime, write_list}
-use Rattle.json_codec.specs.CommandWritten.{policy_input, with_first, with_second, tunnel_input, input_of, command_data, IsLawful}
+use Rattle.json_codec.specs.CommandWritten.{policy_input, with_first, with_second, tunnel_input, input_of, command_data, IsWellFormed}
 
 mode_ascii : (now : Bool) → are_ascii (mode_text now) ≡ true
 mode_ascii true = refl
@@ -53,7 +53,7 @@ write_tunnel t typed first second = write_object _ (write_member (codes "anti-re
 write_reqid : (reqid : ℕ) → IsTypedCommand (commands.End reqid) → IsWritable (input_of (commands.End reqid))
 write_reqid reqid typed = write_only (codes "reqid") _ refl (write_text (decimal reqid) (utf8_number reqid typed))
 
-write_input : (c : Command) → IsTypedCommand c → IsLawful c → IsWritable (input_of c)
+write_input : (c : Command) → IsTypedCommand c → IsWellFormed c → IsWritable (input_of c)
 unfolding policy_input
 write_input (commands.Policy gateway list) typed lawful = write_object _
     (write_member (codes "gateway") _ _ refl (write_text gateway (utf8_gateway gateway lawful.0))
@@ -63,5 +63,5 @@ write_input (commands.End reqid) typed lawful = write_reqid reqid typed
 write_input (commands.Rekey reqid) typed lawful = write_reqid reqid typed
 write_input (commands.Keys key) typed lawful = write_only (codes "key") _ refl (write_text (hex_colons key) (utf8_hex key typed))
 
-pub write_command : (c : Command) → IsTypedCommand c → IsLawful c → IsWritable (command_data c)
+pub write_command : (c : Command) → IsTypedCommand c → IsWellFormed c → IsWritable (command_data c)
 write_command c typed lawful = write_only (codes "ikl-control:input") _ refl (write_input c typed lawful)

@@ -47,9 +47,9 @@ abbrev pub command_data : Command → Data
 command_data c = only (codes "ikl-control:input") (input_of c)
 
 -- its names are those of gateways, and its list has no fault
-abbrev pub IsLawful : Command → Type 0
-IsLawful (commands.Policy gateway list) = (is_gateway gateway ≡ true) × (spd_fault list ≡ None)
-IsLawful (commands.Tunnel spec) = (is_gateway spec.first ≡ true) × (is_gateway spec.second ≡ true)
-IsLawful (commands.End reqid) = Unit {0}
-IsLawful (commands.Rekey reqid) = Unit {0}
-IsLawful (commands.Keys key) = Unit {0}
+abbrev pub IsWellFormed : Command → Type 0
+IsWellFormed (commands.Policy gateway list) = (is_gateway gateway ≡ true) × (spd_fault list ≡ None)
+IsWellFormed (commands.Tunnel spec) = (is_gateway spec.first ≡ true) × (is_gateway spec.second ≡ true)
+IsWellFormed (commands.End reqid) = Unit {0}
+IsWellFormed (commands.Rekey reqid) = Unit {0}
+IsWellFormed (commands.Keys key) = Unit {0}

@@ -7,7 +7,7 @@ ghost use Rattle.ikeless_tree.specs.Check.{spd_fault, is_gateway};
 ghost use Rattle.yang_values.specs.HexText.{hex_colons};
 ghost use Rattle.json_values.specs.Written.{only, wide};
 ghost use Rattle.json_values.specs.Tokens.{value_tokens, member_tokens, tokens_of_members};
-ghost use Rattle.json_codec.specs.CommandWritten.{policy_input, with_first, with_second, tunnel_input, input_of, command_data, IsLawful};
+ghost use Rattle.json_codec.specs.CommandWritten.{policy_input, with_first, with_second, tunnel_input, input_of, command_data, IsWellFormed};
 ghost use Rattle.json_codec.specs.CommandRead.{operation_of, HasWindow};
 ghost use Rattle.json_codec.specs.Bodies.{command_of};
 
@@ -96,7 +96,7 @@ fn add_key(out: &mut Tokens, alloc: Global, key: &[u8]) -> Result<(), NoMemory>
 }
 
 fn add_input(out: &mut Tokens, alloc: Global, c: &Command) -> Result<(), NoMemory>
-    requires { IsLawful c.now }
+    requires { IsWellFormed c.now }
     ensures { OnOk result (out.new ≡ out.old ++ value_tokens (input_of c.now)) }
 {
     match c {
@@ -110,7 +110,7 @@ fn add_input(out: &mut Tokens, alloc: Global, c: &Command) -> Result<(), NoMemor
 
 /// The body of a command. It is read again as that command, where its window is one.
 pub fn write_command(alloc: Global, c: &Command) -> Result<Octets, NoMemory>
-    requires { IsLawful c.now }
+    requires { IsWellFormed c.now }
     ensures text { IfOk result (λ text. text ≡ compact_text (command_data c.now)) }
     ensures reads { IfOk result (λ text. read text ≡ Some (command_data c.now)) }
     ensures utf8 { IfOk result (λ text. IsUtf8 text) }

@@ -9,7 +9,7 @@ ghost use Rattle.json_codec.specs.Bodies.{spd_of, spd_entry_of, sad_entry_of, co
 ghost use Rattle.serde_json.specs.Read.{read};
 ghost use Rattle.json_values.specs.Written.{one_policy, all_policies};
 ghost use Rattle.json_tree.specs.SadEntryWritten.{one_sad_entry};
-ghost use Rattle.json_codec.specs.CommandWritten.{command_data, IsLawful};
+ghost use Rattle.json_codec.specs.CommandWritten.{command_data, IsWellFormed};
 ghost use Rattle.ikeless_tree.specs.Typed.{IsTypedPolicy, AreTypedPolicies, IsTypedHalf, IsTypedCommand};
 ghost use Rattle.json_values.specs.Json.{StandsFor, IsSpd, IsOneSpdEntry, IsOneSadEntry, IsCommand};
 
@@ -67,7 +67,7 @@ pub fn one_sad_entry_reads_again()
 
 /// What is written for a command is read as it, where its window is one.
 pub fn commands_read_again()
-    ensures { (text : List ℕ) (c : Command) → IsTypedCommand c → IsLawful c → HasWindow c
+    ensures { (text : List ℕ) (c : Command) → IsTypedCommand c → IsWellFormed c → HasWindow c
         → IsUtf8 text → read text ≡ Some (command_data c) → command_of (operation_of c) text ≡ Ok c }
 {
     yang_values::hex_read_again();

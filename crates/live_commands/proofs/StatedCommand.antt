@@ -23,7 +23,7 @@ use Rattle.live_words.specs.declared.client.ClientWords.{ClientWords}
 use Rattle.live_words.specs.Apps.{client_app}
 use Rattle.live_words.specs.Values.{count_at, matched_by, port_at, values_at}
 use Rattle.live_words.specs.Client.{client_in, client_words_of, command_at, command_in, command_said, has_no_space, sent_of, within_body}
-use Rattle.live_words.proofs.CommandLemmas.{said-lawful}
+use Rattle.live_words.proofs.CommandLemmas.{said-well-formed}
 
 -- what is read as an event is one that a line can spell, as a law below says
 abbrev pub ReadsEvents : Type 0
@@ -38,7 +38,7 @@ said-window (events.Keys o) c under is = (let e : commands.Keys o ≡ c = cc in 
 said-window _ c under is = cc
 
 sound : (e : Event) (c : Command) → IsEventUnder [] e → command_said e ≡ Ok c → IsSound c
-sound e c under is = record { lawful = said-lawful e c under is; window = said-window e c under is }
+sound e c under is = record { lawful = said-well-formed e c under is; window = said-window e c under is }
 
 event-sendable : (e : Event) (c : Command) → IsEventUnder [] e → sent_of e ≡ Ok c → IsSendable c
 event-sendable e c under is =

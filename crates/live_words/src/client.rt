@@ -4,7 +4,7 @@ ghost use Rattle.std.specs.Borrow.{Bor};
 ghost use Rattle.std.specs.List.{list_all};
 ghost use Rattle.ikl_base.specs.Answers.{Gives};
 ghost use Rattle.clap.specs.Words.{found_of, rows_of};
-ghost use Rattle.json_codec.specs.CommandWritten.{IsLawful};
+ghost use Rattle.json_codec.specs.CommandWritten.{IsWellFormed};
 ghost use Rattle.event_lines.specs.Spelling.{IsEventUnder};
 ghost use Rattle.line_words.specs.Parts.{texts};
 ghost use Rattle.line_words.specs.Text.{line_text, spaced};
@@ -91,7 +91,7 @@ fn line(alloc: Global, words: &[&str]) -> Result<Vec<u8>, NoMemory>
 
 // A command, where its request can be sent.
 fn within(alloc: Global, command: Command) -> Result<Command, OrMemory<LineFault>>
-    requires { IsLawful command }
+    requires { IsWellFormed command }
     ensures { Gives result (within_body command) }
 {
     let body = write_command(alloc, &command)?;

@@ -7,7 +7,7 @@ use Rattle.ikeless_tree.specs.declared.command.Command.{Command}
 use Rattle.json_values.specs.declared.fault.CodecFault.{CodecFault}
 use Rattle.json_codec.specs.Bodies.{command_of}
 use Rattle.json_codec.specs.CommandRead.{is_operation, operation_of, HasWindow}
-use Rattle.json_codec.specs.CommandWritten.{command_data, IsLawful}
+use Rattle.json_codec.specs.CommandWritten.{command_data, IsWellFormed}
 use Rattle.rc_http.specs.declared.message.HttpMessage.{HttpMessage}
 use Rattle.rc_http.specs.Heads.{fields_map}
 use Rattle.rc_request.specs.declared.error.RcError.{RcError}
@@ -57,7 +57,7 @@ requested m = by_operation (operation_at (before_mark 63 m.target)) m
 
 -- its names are those of gateways, its list has no fault, and its window is one
 pub record IsSound (c : Command) : Type 0 where
-  pub lawful : IsLawful c
+  pub lawful : IsWellFormed c
   pub window : HasWindow c
 
 -- ---- requests that are written
