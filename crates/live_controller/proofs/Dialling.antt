@@ -4,6 +4,7 @@ use Rattle.std.specs.Prelude.{OnOk}
 use Rattle.ikeless_tree.specs.declared.command.Peer.{Peer}
 use Rattle.rc_http.specs.declared.message.Kind.TheVariants.{Response as Responses}
 use Rattle.live_devices.specs.Dialers.{PeerHeld, StaysBut, dialled}
+use Rattle.live_devices.specs.Reads.{Makes}
 use Rattle.ctl_core.specs.declared.acts.CtlEvent.TheVariants as events
 use Rattle.ctl_core.specs.Core.{Core, is_open_at}
 use Rattle.live_controller.specs.declared.desk.Desk.{Desk}
@@ -11,7 +12,7 @@ use Rattle.live_controller.specs.declared.link.Link.{Link}
 use Rattle.live_controller.specs.Links.{OthersStay, notices_at, notices_of, responses_at, responses_of, up_at}
 use Rattle.live_controller.specs.Past.{Dialled, Heard, Item, Told, heard_of, is_open, told_of}
 use Rattle.live_controller.specs.Found.{Devices}
-use Rattle.live_controller.specs.Doings.{Agrees, AgreesBy, Does, Makes, Tells}
+use Rattle.live_controller.specs.Doings.{Agrees, AgreesBy, Does, Tells}
 use Rattle.live_controller.specs.Stands.{AreDialled, AreLines, AreRead, AreResponses, IsRead, IsReadIf, PeersStand, none_left}
 use Rattle.live_controller.proofs.Doing.{one-peer}
 use Rattle.live_controller.proofs.Feeding.{none_open, none_waits}

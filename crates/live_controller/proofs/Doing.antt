@@ -6,13 +6,15 @@ use Rattle.ikeless_tree.specs.declared.command.Peer.{Peer}
 use Rattle.ikeless_tree.specs.declared.command.Refusal.{Refusal}
 use Rattle.ikeless_tree.specs.declared.order.Order.{Order}
 use Rattle.live_devices.specs.Dialers.{Becomes, PeerHeld, StaysBut, wrote}
+use Rattle.live_devices.specs.Reads.{Makes}
+use Rattle.live_devices.proofs.Reading.{makes-as, makes-on, makes-same, none-some, some-same}
 use Rattle.ctl_core.specs.declared.acts.CtlAct.{CtlAct}
 use Rattle.ctl_core.specs.declared.acts.CtlAct.TheVariants as done
 use Rattle.live_controller.specs.declared.desk.Desk.{Desk}
 use Rattle.live_controller.specs.Standing.{order_text}
 use Rattle.live_controller.specs.Found.{after_orders, ordered_by}
 use Rattle.live_controller.proofs.Keeping.{other_number, same_number}
-use Rattle.live_controller.specs.Doings.{AreCalm, AreLater, Carried, Makes, Orders}
+use Rattle.live_controller.specs.Doings.{AreCalm, AreLater, Carried, Orders}
 
 -- ---- counts
 
@@ -56,23 +58,8 @@ later-by f h g r cause others = λ k. later-at f h g k (k == g) refl cause.later
 
 -- ---- what is told
 
-pub some-same : {T : Type 0} (a b : T) → Some a ≡ Some b → a ≡ b
-some-same a b e = cc
-
-pub none-some : {T : Type 0} (b : T) → None ≡ Some b → ⊥
-none-some b e = let no : ⊥ = cc in no
-
-pub makes-same : {T : Type 0} (x : Option T) → Makes (λ y. y) x x
-makes-same x = λ y e. e
-
 pub makes-is : {T : Type 0} (x y : Option T) → y ≡ x → Makes (λ z. z) x y
 makes-is x y same = λ z e. same ∙ e
-
-pub makes-on : {T : Type 0} (f g : T → T) (a b c : Option T) → Makes f a b → Makes g b c → Makes (λ x. g (f x)) a c
-makes-on f g a b c p q = λ x e. q (f x) (p x e)
-
-pub makes-as : {T : Type 0} (f g : T → T) (a b : Option T) → ((x : T) → f x ≡ g x) → Makes f a b → Makes g a b
-makes-as f g a b same p = λ x e. p x e ∙ ap Some (same x)
 
 pub becomes-makes : (f : PeerHeld → PeerHeld) (a b : Option PeerHeld) → Becomes f a b → Makes f a b
 becomes-makes f None b r = λ x e. absurd (none-some x e)

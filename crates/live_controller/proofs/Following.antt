@@ -22,7 +22,8 @@ use Rattle.ctl_law.specs.Stands.{StandsFor}
 use Rattle.ctl_law.specs.Told.{MayAllBeTold, MayBeTold, events_of, may_answer, run, run_core}
 use Rattle.live_controller.specs.Found.{AreFound, Devices, IsFound}
 use Rattle.live_controller.specs.History.{did}
-use Rattle.live_controller.specs.Past.{Accepted, Broken, Came, Came_in, Dialled, End, Heard, Item, Line, Message, NoLine, NoResponse, Piece, Response, Told, Unread, Waiting, acts_at, acts_by, answer_in, command_in, core_by, core_of, end_in, event_at, events_at, happened}
+use Rattle.live_devices.specs.Reads.{Came, End, Piece, Unread, Waiting}
+use Rattle.live_controller.specs.Past.{Accepted, Broken, Came_in, Dialled, Heard, Item, Line, Message, NoLine, NoResponse, Response, Told, acts_at, acts_by, answer_in, command_in, core_by, core_of, end_in, event_at, events_at, happened}
 use Rattle.live_controller.specs.Standing.{answer_to}
 use Rattle.live_controller.proofs.Standing.{stations-known}
 use Rattle.live_controller.proofs.Statuses.{HaveStatuses, status-good}

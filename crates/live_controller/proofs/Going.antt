@@ -7,6 +7,8 @@ use Rattle.rc_http.specs.declared.message.Kind.TheVariants.{Response as Response
 use Rattle.rc_http.specs.Looks.{Looks, Waits}
 use Rattle.notice_lines.specs.Reading.{begins}
 use Rattle.live_devices.specs.Dialers.{PeerHeld}
+use Rattle.live_devices.specs.Reads.{Makes}
+use Rattle.live_devices.proofs.Reading.{makes-as, makes-on}
 use Rattle.ctl_core.specs.declared.acts.CtlEvent.{CtlEvent}
 use Rattle.ctl_core.specs.Core.{Core, is_open_at}
 use Rattle.ctl_core.specs.Step.{stepped}
@@ -15,9 +17,8 @@ use Rattle.live_controller.specs.declared.link.Link.{Link}
 use Rattle.live_controller.specs.Links.{notices_at, notices_of, responses_at, responses_of, up_at, up_of}
 use Rattle.live_controller.specs.Past.{Item, acts_by, core_by, core_of, event_at, event_of, heard_of, is_open, open_by, told_of}
 use Rattle.live_controller.specs.Found.{Devices, IsFound, after_orders, called_at, hung_by, peer_of}
-use Rattle.live_controller.specs.Doings.{Does, Makes}
+use Rattle.live_controller.specs.Doings.{Does}
 use Rattle.live_controller.specs.Stands.{IsSince, IsSinceLine, PeersStand, StreamsStand}
-use Rattle.live_controller.proofs.Doing.{makes-as, makes-on}
 use Rattle.live_controller.proofs.Keeping.{by_number}
 
 -- ---- one thing more that came

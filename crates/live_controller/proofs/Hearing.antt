@@ -7,6 +7,8 @@ use Rattle.rc_http.specs.declared.message.HttpMessage.{HttpMessage}
 use Rattle.rc_http.specs.declared.message.Kind.TheVariants.{Response as Responses}
 use Rattle.rc_http.specs.Looks.{Fails, Gives, Looks, Waits}
 use Rattle.live_devices.specs.Dialers.{PeerHeld}
+use Rattle.live_devices.specs.Reads.{Came, End, Makes, Piece, Waiting, came_of}
+use Rattle.live_devices.proofs.Reading.{makes-same}
 use Rattle.ctl_core.specs.declared.acts.CtlEvent.TheVariants as events
 use Rattle.ctl_core.specs.Core.{Core, expected, is_open_at}
 use Rattle.live_controller.specs.declared.desk.Desk.{Desk}
@@ -14,11 +16,10 @@ use Rattle.live_controller.specs.declared.link.Link.{Link}
 use Rattle.live_controller.specs.Links.{OthersStay, notices_at, responses_at, up_at}
 use Rattle.live_controller.specs.Standing.{answer_to}
 use Rattle.live_controller.specs.Streams.{IsWhole}
-use Rattle.live_controller.specs.Past.{Came, End, Heard, Item, NoResponse, Piece, Response, Waiting, answer_in, heard_of, open_by}
-use Rattle.live_controller.specs.Found.{Devices, called_at, came_of, peer_of}
-use Rattle.live_controller.specs.Doings.{Agrees, Does, Makes}
+use Rattle.live_controller.specs.Past.{Heard, Item, NoResponse, Response, answer_in, heard_of, open_by}
+use Rattle.live_controller.specs.Found.{Devices, called_at, peer_of}
+use Rattle.live_controller.specs.Doings.{Agrees, Does}
 use Rattle.live_controller.specs.Stands.{AreResponses, IsReadIf, IsSince, PeersStand, StreamsStand, left_at, none_left}
-use Rattle.live_controller.proofs.Doing.{makes-same}
 use Rattle.live_controller.proofs.Feeding.{none_waits}
 use Rattle.live_controller.proofs.Keeping.{by_number, up_other}
 use Rattle.notice_lines.specs.Reading.{begins}

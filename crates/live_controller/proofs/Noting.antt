@@ -6,15 +6,16 @@ use Rattle.ikeless_tree.specs.declared.order.Notice.{Notice}
 use Rattle.notice_lines.specs.declared.fault.NoticeFault.{NoticeFault}
 use Rattle.notice_lines.specs.Reading.{Ends, HasNotice, IsFault, Open, begins}
 use Rattle.live_devices.specs.Dialers.{PeerHeld}
+use Rattle.live_devices.specs.Reads.{Came, End, Makes, Piece, Waiting, came_of}
+use Rattle.live_devices.proofs.Reading.{makes-same}
 use Rattle.ctl_core.specs.declared.acts.CtlEvent.TheVariants as events
 use Rattle.live_controller.specs.declared.desk.Desk.{Desk}
 use Rattle.live_controller.specs.Links.{notices_at, responses_at, up_at}
 use Rattle.live_controller.specs.Streams.{IsNoted}
-use Rattle.live_controller.specs.Past.{Came, End, Item, Line, NoLine, Piece, Told, Waiting, heard_of, open_by, told_of}
-use Rattle.live_controller.specs.Found.{Devices, called_at, came_of, peer_of}
-use Rattle.live_controller.specs.Doings.{Does, Makes}
+use Rattle.live_controller.specs.Past.{Item, Line, NoLine, Told, heard_of, open_by, told_of}
+use Rattle.live_controller.specs.Found.{Devices, called_at, peer_of}
+use Rattle.live_controller.specs.Doings.{Does}
 use Rattle.live_controller.specs.Stands.{AreLines, IsReadIf, IsSinceLine, PeersStand, StreamsStand, left_at, none_left}
-use Rattle.live_controller.proofs.Doing.{makes-same}
 use Rattle.live_controller.proofs.Feeding.{none_open}
 use Rattle.live_controller.proofs.Going.{goes-fed, goes-on, goes-still, if-other, if-same, line-as, since-as, streams-at, streams-still}
 use Rattle.live_controller.proofs.Hearing.{Fed, drop-since, fed-up, known-is, up-down}

@@ -1,5 +1,5 @@
 -- What calls of a dock tell, and what is replied to a request.
-use Rattle.std.proofs.Common.{◌≡◌, ◌⊎◌, inl, inr, ℕ, ◌≤◌, Bool, true, false, List, Option, Some, None, Result, Ok, Err, OnOk, refl, sym, ap, subst, ◌∙◌, arith}
+use Rattle.std.proofs.Common.{◌≡◌, ◌⊎◌, inl, inr, ℕ, ◌≤◌, Bool, true, false, List, Option, Result, Ok, Err, OnOk, refl, sym, ap, subst, ◌∙◌, arith}
 use Rattle.std.specs.Prelude.{IfSome}
 use Rattle.ikl_base.specs.Outside.{HasCause, HasRisen, TellsOutcome}
 use Rattle.ikeless_tree.specs.declared.command.Command.{Command}
@@ -7,17 +7,18 @@ use Rattle.ikeless_tree.specs.declared.command.Refusal.{Refusal}
 use Rattle.rc_request.specs.declared.error.RcError.{RcError}
 use Rattle.rc_operations.specs.Replies.{command_response, error_response}
 use Rattle.live_devices.specs.Dialers.{PeerHeld}
-use Rattle.live_devices.specs.Docks.{DockHeld, Replies}
+use Rattle.live_devices.specs.Docks.{DockHeld}
+use Rattle.live_devices.specs.Reads.{Makes, with_reply}
 use Rattle.ctl_core.specs.declared.acts.CtlEvent.TheVariants as events
 use Rattle.ctl_core.specs.Core.{Core}
 use Rattle.ctl_core.specs.Step.{stepped}
 use Rattle.live_controller.specs.declared.desk.Desk.{Desk}
 use Rattle.live_controller.specs.Standing.{refused_of}
 use Rattle.live_controller.specs.Past.{command_in}
-use Rattle.live_controller.specs.Found.{reply_of, with_reply}
-use Rattle.live_controller.specs.Doings.{DoesIf, Makes, Tells}
+use Rattle.live_controller.specs.Found.{reply_of}
+use Rattle.live_controller.specs.Doings.{DoesIf, Tells}
 use Rattle.live_controller.specs.Endings.{AcceptTells}
-use Rattle.live_controller.proofs.Doing.{none-some, risen-back, risen-front, some-same}
+use Rattle.live_controller.proofs.Doing.{risen-back, risen-front}
 use Rattle.live_controller.proofs.Telling.{does-told}
 
 -- ---- counts
@@ -105,11 +106,6 @@ both-ok P Q (Ok x) p q = (p, q)
 both-ok P Q (Err e) p q = tt
 
 -- ---- replies
-
-pub replies-makes : (old new : Option DockHeld) (octets : List ℕ) → Replies old new octets → Makes (with_reply octets) old new
-replies-makes None new octets r = λ d e. absurd (none-some d e)
-replies-makes (Some old) None octets r = absurd r
-replies-makes (Some old) (Some new) octets r = λ d e. ap Some (r ∙ ap (with_reply octets) (some-same old d e))
 
 pub reply-as : (text same : List ℕ) (old new : Option DockHeld) → text ≡ same → Makes (with_reply text) old new
     → Makes (with_reply same) old new

@@ -11,20 +11,20 @@ use Rattle.rc_operations.specs.Replies.{fault_response}
 use Rattle.live_devices.specs.Comings.{found}
 use Rattle.live_devices.specs.Dialers.{PeerHeld}
 use Rattle.live_devices.specs.Docks.{DockHeld, has_found, taken}
+use Rattle.live_devices.specs.Reads.{Came, End, Makes, Piece, Unread, Waiting, came_of, with_reply}
+use Rattle.live_devices.proofs.Reading.{makes-as, makes-on, makes-same, read_dock}
 use Rattle.ctl_core.specs.declared.acts.CtlEvent.{CtlEvent}
 use Rattle.ctl_core.specs.Core.{Core}
 use Rattle.live_controller.specs.declared.clients.Session.{Session}
 use Rattle.live_controller.specs.declared.desk.Desk.{Desk}
 use Rattle.live_controller.specs.Streams.{IsWhole}
-use Rattle.live_controller.specs.Past.{Accepted, Broken, Came, Came_in, Dialled, End, Heard, Item, Line, Message, NoLine, NoResponse, Piece, Response, Told, Unread, Waiting, command_in, core_of, heard_of, is_open, is_there, octets_of, told_of}
-use Rattle.live_controller.specs.Found.{Devices, IsFound, came_of, called_at, dock_of, reply_of, with_reply}
-use Rattle.live_controller.specs.Doings.{DoesIf, Makes}
+use Rattle.live_controller.specs.Past.{Accepted, Broken, Came_in, Dialled, Heard, Item, Line, Message, NoLine, NoResponse, Response, Told, command_in, core_of, heard_of, is_open, is_there, octets_of, told_of}
+use Rattle.live_controller.specs.Found.{Devices, IsFound, called_at, dock_of, reply_of}
+use Rattle.live_controller.specs.Doings.{DoesIf}
 use Rattle.live_controller.specs.Stands.{AreDialled, AreLines, AreRead, AreRequests, AreResponses, ClientStands, IsReadIf, NodeStands, PeersStand, StreamsStand, none_left}
-use Rattle.live_controller.proofs.Doing.{makes-as, makes-on, makes-same}
 use Rattle.live_controller.proofs.Feeding.{none_waits}
 use Rattle.live_controller.proofs.Going.{goes-on, goes-still, since-as, streams-still}
 use Rattle.live_controller.proofs.Hearing.{drop-since}
-use Rattle.live_controller.proofs.Receipts.{read_dock}
 
 -- ---- the peers stay as they are
 

@@ -3,6 +3,8 @@ use Rattle.std.proofs.Common.{◌≡◌, ◌==◌, ◌<◌, ℕ, Bool, true, fal
 use Rattle.std.specs.Prelude.{All, slice_get}
 use Rattle.ikeless_tree.specs.declared.command.Peer.{Peer}
 use Rattle.live_devices.specs.Dialers.{PeerHeld}
+use Rattle.live_devices.specs.Reads.{Makes}
+use Rattle.live_devices.proofs.Reading.{makes-as, makes-on}
 use Rattle.ctl_core.specs.declared.acts.CtlAct.{CtlAct}
 use Rattle.ctl_core.specs.declared.acts.CtlAct.TheVariants as done
 use Rattle.ctl_core.specs.declared.acts.CtlEvent.{CtlEvent}
@@ -15,8 +17,7 @@ use Rattle.live_controller.specs.Links.{OthersStay, up_at, up_of}
 use Rattle.live_controller.specs.Past.{open_by}
 use Rattle.live_controller.specs.Found.{after_orders, hung_by}
 use Rattle.live_controller.specs.Standing.{IsGiven}
-use Rattle.live_controller.specs.Doings.{Agrees, AgreesBy, Carried, Does, IsForOpen, IsReady, Makes, OpensBy, Orders, Tells}
-use Rattle.live_controller.proofs.Doing.{makes-as, makes-on}
+use Rattle.live_controller.specs.Doings.{Agrees, AgreesBy, Carried, Does, IsForOpen, IsReady, OpensBy, Orders, Tells}
 use Rattle.live_controller.proofs.Keeping.{by_number, other_number, same_number, up_other}
 
 -- ---- orders are for peers whose link is up

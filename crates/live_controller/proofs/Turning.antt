@@ -7,6 +7,8 @@ use Rattle.rc_http.specs.Looks.{Looks, Waits}
 use Rattle.notice_lines.specs.Reading.{begins}
 use Rattle.live_devices.specs.Dialers.{PeerHeld}
 use Rattle.live_devices.specs.Docks.{DockHeld}
+use Rattle.live_devices.specs.Reads.{Came}
+use Rattle.live_devices.proofs.Reading.{makes-same}
 use Rattle.ctl_core.specs.Core.{Core, is_open_at, open_or_not, station_of, told_nothing}
 use Rattle.live_controller.specs.declared.clients.Session.{Session}
 use Rattle.live_controller.specs.declared.desk.Desk.{Desk}
@@ -14,11 +16,10 @@ use Rattle.live_controller.specs.declared.ended.Ended.{Ended}
 use Rattle.live_controller.specs.declared.ended.Ended.TheVariants as endings
 use Rattle.live_controller.specs.Desks.{IsDesk, Serves}
 use Rattle.live_controller.specs.Links.{notices_at, responses_at, up_at}
-use Rattle.live_controller.specs.Past.{Accepted, Came, Came_in, Item}
+use Rattle.live_controller.specs.Past.{Accepted, Came_in, Item}
 use Rattle.live_controller.specs.Found.{AreTaken, Devices, IsFound, IsTaken}
 use Rattle.live_controller.specs.Endings.{is_dock_fault, is_turns_spent}
 use Rattle.live_controller.specs.Stands.{AreDialled, AreRead, AreRequests, AreTurns, ClientStands, IsTurn, NodeStands, PeersStand, Served, none_left}
-use Rattle.live_controller.proofs.Doing.{makes-same}
 use Rattle.live_controller.proofs.Requesting.{Comes, accepted-stays, dials-stay, reads-stay}
 
 false-true : false ≡ true → ⊥

@@ -3,6 +3,7 @@ use Rattle.std.specs.Prelude.{◌≡◌, ◌<◌, ◌≤◌, ℕ, true, List, le
 use Rattle.ikl_base.specs.Outside.{HasRisen}
 use Rattle.ikeless_tree.specs.declared.command.Peer.{Peer}
 use Rattle.live_devices.specs.Dialers.{PeerHeld}
+use Rattle.live_devices.specs.Reads.{Makes}
 use Rattle.ctl_core.specs.declared.acts.CtlAct.{CtlAct}
 use Rattle.ctl_core.specs.declared.acts.CtlAct.TheVariants as done
 use Rattle.ctl_core.specs.declared.acts.CtlEvent.{CtlEvent}
@@ -22,10 +23,6 @@ AreLater before now = (g : ℕ) → before g ≤ now g
 
 abbrev pub AreCalm : (ℕ → ℕ) → (ℕ → ℕ) → Type 0
 AreCalm before now = (g : ℕ) → HasRisen (before g) (now g) → ⊥
-
--- what is told becomes this
-abbrev pub Makes : {T : Type 0} → (T → T) → Option T → Option T → Type 0
-Makes {T = T} f old new = (x : T) → old ≡ Some x → new ≡ Some (f x)
 
 -- ---- links and the controller
 

@@ -1,5 +1,5 @@
 -- What the devices of a controller's node hold after what came, by what they held at the start, and what each call of theirs gave.
-use Rattle.std.specs.Prelude.{◌≡◌, ◌<◌, ℕ, ◌==◌, min, Bool, true, false, List, [], ◌∷◌, ◌++◌, length, take, drop, Option, Some, Result, Ok, Err, if◌then◌else◌}
+use Rattle.std.specs.Prelude.{◌≡◌, ◌<◌, ℕ, ◌==◌, true, false, List, [], ◌∷◌, length, take, Option, Some, Result, Ok, Err, if◌then◌else◌}
 use Rattle.ikeless_tree.specs.declared.command.Command.{Command}
 use Rattle.ikeless_tree.specs.declared.command.Peer.{Peer}
 use Rattle.rc_http.specs.declared.message.Kind.TheVariants.{Request, Response as Responses}
@@ -8,10 +8,10 @@ use Rattle.rc_request.specs.declared.error.RcError.{RcError}
 use Rattle.notice_lines.specs.Reading.{Ends, HasNotice, IsFault, Open, begins}
 use Rattle.rc_operations.specs.Operations.{requested}
 use Rattle.rc_operations.specs.Replies.{command_response, error_response, fault_response}
-use Rattle.live_devices.specs.Comings.{found, later}
+use Rattle.live_devices.specs.Comings.{found}
 use Rattle.live_devices.specs.Dialers.{PeerHeld, dialled, hung_up, wrote}
 use Rattle.live_devices.specs.Docks.{DockHeld, has_found, taken}
-use Rattle.live_devices.specs.Streams.{Stream, there_now}
+use Rattle.live_devices.specs.Reads.{Unread, after_read, came_of, read_at, with_reply}
 use Rattle.ctl_core.specs.declared.acts.CtlAct.{CtlAct}
 use Rattle.ctl_core.specs.declared.acts.CtlAct.TheVariants as done
 use Rattle.ctl_core.specs.declared.acts.CtlEvent.{CtlEvent}
@@ -19,25 +19,9 @@ use Rattle.ctl_core.specs.declared.acts.CtlEvent.TheVariants as events
 use Rattle.ctl_core.specs.Core.{Core}
 use Rattle.ctl_core.specs.Step.{stepped}
 use Rattle.live_controller.specs.Standing.{order_text, refused_of}
-use Rattle.live_controller.specs.Past.{Accepted, Broken, Came, Came_in, Dialled, End, Heard, Item, Line, Message, NoLine, NoResponse, Piece, Response, Told, Unread, Waiting, acts_at, core_of, event_at, heard_of, is_open, is_there, octets_of, told_of}
+use Rattle.live_controller.specs.Past.{Accepted, Broken, Came_in, Dialled, Heard, Item, Line, Message, NoLine, NoResponse, Response, Told, acts_at, core_of, event_at, heard_of, is_open, is_there, octets_of, told_of}
 
 -- ---- reads of a stream
-
--- how many octets a read gives that has room for 65,536
-abbrev pub read_size : Stream → ℕ
-read_size s = min (min (length s.left) 65536) (there_now s.there)
-
-abbrev pub after_read : Stream → Stream
-after_read s = record s { left = drop (read_size s) s.left; there = later s.there }
-
-abbrev pub came_by : ℕ → Bool → List ℕ → Came
-came_by size true [] = End
-came_by size false [] = Waiting
-came_by size ends (x ∷ xs) = Piece (take size (x ∷ xs))
-
--- what a read gives: nothing where no octet is there yet, the end where none is left
-abbrev pub came_of : Stream → Came
-came_of s = if there_now s.there == 0 then Waiting else came_by (read_size s) s.ends s.left
 
 -- ---- the peers
 
@@ -75,10 +59,6 @@ peer_of ps g (x ∷ past) p = after_orders ps g (acts_at ps past x) (hung_by g (
 
 -- ---- the dock
 
-abbrev pub read_at : Came → DockHeld → DockHeld
-read_at Unread d = d
-read_at _ d = record d { session = after_read d.session }
-
 abbrev pub dock_at : Item → DockHeld → DockHeld
 dock_at (Accepted is_taken) d = taken (found d.coming) d
 dock_at (Came_in came) d = read_at came d
@@ -88,9 +68,6 @@ dock_at _ d = d
 abbrev pub reply_of : Core → Result Command RcError → List ℕ
 reply_of c (Ok command) = command_response (refused_of (stepped c (events.Command command)).acts)
 reply_of c (Err e) = error_response e
-
-abbrev pub with_reply : List ℕ → DockHeld → DockHeld
-with_reply octets d = record d { replies = d.replies ++ octets }
 
 -- each request has its reply, and so has a fault
 abbrev pub replied_at : List Peer → List Item → Item → DockHeld → DockHeld

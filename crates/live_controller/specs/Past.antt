@@ -15,13 +15,7 @@ use Rattle.ctl_core.specs.declared.acts.CtlEvent.TheVariants as events
 use Rattle.ctl_core.specs.Core.{Core, expected, told_nothing}
 use Rattle.ctl_core.specs.Step.{stepped}
 use Rattle.live_controller.specs.Standing.{answer_to}
-
--- what a read of a stream gave: nothing waited, octets, or its end; where no session is there, nothing is read
-pub data Came : Type 0 where
-  Unread : Came
-  Waiting : Came
-  Piece : (octets : List ℕ) → Came
-  End : Came
+use Rattle.live_devices.specs.Reads.{Came, End, Piece}
 
 -- Whether an accept took a client's session, what a read of that session gave, a request that is whole in so many octets by what was
 -- read, and a fault in its place. A dial of a peer, what a read of its control stream gave, a response and a fault in its place, and

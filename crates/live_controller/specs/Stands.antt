@@ -7,13 +7,14 @@ use Rattle.rc_http.specs.Looks.{Looks, Waits}
 use Rattle.notice_lines.specs.Reading.{Open, begins}
 use Rattle.live_devices.specs.Dialers.{PeerHeld}
 use Rattle.live_devices.specs.Docks.{DockHeld}
+use Rattle.live_devices.specs.Reads.{Came, Makes}
 use Rattle.live_controller.specs.declared.clients.Session.{Session}
 use Rattle.live_controller.specs.declared.desk.Desk.{Desk}
 use Rattle.live_controller.specs.declared.link.Link.{Link}
 use Rattle.live_controller.specs.Links.{notices_at, responses_at, up_at}
-use Rattle.live_controller.specs.Past.{Accepted, Broken, Came, Came_in, Dialled, Heard, Item, Line, Message, NoLine, NoResponse, Response, Told, core_of, heard_of, is_open, is_there, octets_of, told_of}
+use Rattle.live_controller.specs.Past.{Accepted, Broken, Came_in, Dialled, Heard, Item, Line, Message, NoLine, NoResponse, Response, Told, core_of, heard_of, is_open, is_there, octets_of, told_of}
 use Rattle.live_controller.specs.Found.{AreFound, AreTaken, Devices, IsTaken, dock_of, peer_of}
-use Rattle.live_controller.specs.Doings.{Agrees, Makes}
+use Rattle.live_controller.specs.Doings.{Agrees}
 
 -- ---- turns
 

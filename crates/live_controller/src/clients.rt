@@ -5,10 +5,11 @@ ghost use Rattle.ikeless_tree.specs.declared.command.Peer.{Peer};
 ghost use Rattle.rc_operations.specs.Operations.{requested};
 ghost use Rattle.rc_operations.specs.Replies.{fault_response};
 ghost use Rattle.live_controller.specs.Desks.{Serves};
-ghost use Rattle.live_controller.specs.Doings.{Agrees, AreCalm, AreLater, DoesIf, Makes};
+ghost use Rattle.live_devices.specs.Reads.{Came, Makes, with_reply};
+ghost use Rattle.live_controller.specs.Doings.{Agrees, AreCalm, AreLater, DoesIf};
 ghost use Rattle.live_controller.specs.Endings.{AcceptTells, broke_of};
-ghost use Rattle.live_controller.specs.Found.{Devices, IsFound, reply_of, with_reply};
-ghost use Rattle.live_controller.specs.Past.{Accepted, Came, Came_in, Item, command_in};
+ghost use Rattle.live_controller.specs.Found.{Devices, IsFound, reply_of};
+ghost use Rattle.live_controller.specs.Past.{Accepted, Came_in, Item, command_in};
 ghost use Rattle.live_controller.specs.Stands.{AreRequests, ClientStands, NodeStands};
 ghost use Rattle.live_controller.specs.declared.ended.Ended.TheVariants as endings;
 

@@ -9,7 +9,8 @@ ghost use Rattle.live_controller.specs.Doings.{AreCalm, AreLater};
 ghost use Rattle.live_controller.specs.Endings.{broke_of, is_dock_fault, is_turns_spent, AcceptTells};
 ghost use Rattle.live_controller.specs.Found.{Devices};
 ghost use Rattle.live_controller.specs.Links.{up_at};
-ghost use Rattle.live_controller.specs.Past.{Came, Came_in, Item};
+ghost use Rattle.live_devices.specs.Reads.{Came};
+ghost use Rattle.live_controller.specs.Past.{Came_in, Item};
 ghost use Rattle.live_controller.specs.Stands.{AreDialled, AreRead, AreRequests, IsTurn, NodeStands, Served};
 
 use crate::clients::{Session, accept, read_session};

@@ -6,6 +6,7 @@ pub mod Clocks
 pub mod Streams
 pub mod StreamMemory
 pub mod Docks
+pub mod Reads
 pub mod DockMemory
 pub mod Dialers
 pub mod PeerMemory

@@ -3,11 +3,13 @@ use Rattle.std.proofs.Common.{◌≡◌, ◌≤◌, ◌<◌, ◌+◌, ℕ, List,
 use Rattle.std.proofs.lemmas.List.{take_more}
 use Rattle.ikl_base.specs.Outside.{HasRisen}
 use Rattle.rc_http.specs.Feeding.{Feeding}
-use Rattle.live_devices.specs.Docks.{DockHeld, Notes, Replies}
+use Rattle.live_devices.specs.Docks.{DockHeld, Notes}
 use Rattle.live_devices.specs.Wires.{Sends, WireHeld}
+use Rattle.live_devices.specs.Reads.{Makes}
+use Rattle.live_devices.proofs.Reading.{makes-as, makes-on, makes-same, none-some, some-same}
 use Rattle.gw_requests.specs.declared.act.GwAct.{GwAct}
 use Rattle.gw_core.specs.Machine.{Core, Event}
-use Rattle.live_gateway.specs.Carried.{Carries, Devices, Does, Makes, Writes, after_all, dock_by, inside_by, outside_by, while_there, with_datagram, with_notice, with_reply}
+use Rattle.live_gateway.specs.Carried.{Carries, Devices, Does, Writes, after_all, dock_by, inside_by, outside_by, while_there, with_datagram, with_notice}
 
 -- ---- counts
 
@@ -25,33 +27,12 @@ later-same a = omega arith
 
 -- ---- what is told
 
-pub some-same : {T : Type 0} (a b : T) → Some a ≡ Some b → a ≡ b
-some-same a b e = cc
-
-none-some : {T : Type 0} (b : T) → None ≡ Some b → ⊥
-none-some b e = let no : ⊥ = cc in no
-
-pub makes-same : {T : Type 0} (x : Option T) → Makes (λ y. y) x x
-makes-same x = λ y e. e
-
-pub makes-on : {T : Type 0} (f g : T → T) (a b c : Option T) → Makes f a b → Makes g b c → Makes (λ x. g (f x)) a c
-makes-on f g a b c p q = λ x e. q (f x) (p x e)
-
--- what is told becomes the same where both say the same
-pub makes-as : {T : Type 0} (f g : T → T) (a b : Option T) → ((x : T) → f x ≡ g x) → Makes f a b → Makes g a b
-makes-as f g a b same p = λ x e. p x e ∙ ap Some (same x)
-
 -- ---- calls that send and write
 
 pub sends-makes : (old new : Option WireHeld) (octets : List ℕ) → Sends old new octets → Makes (with_datagram octets) old new
 sends-makes None new octets s = λ w e. absurd (none-some w e)
 sends-makes (Some old) None octets s = absurd s
 sends-makes (Some old) (Some new) octets s = λ w e. ap Some (s ∙ ap (with_datagram octets) (some-same old w e))
-
-pub replies-makes : (old new : Option DockHeld) (octets : List ℕ) → Replies old new octets → Makes (with_reply octets) old new
-replies-makes None new octets s = λ d e. absurd (none-some d e)
-replies-makes (Some old) None octets s = absurd s
-replies-makes (Some old) (Some new) octets s = λ d e. ap Some (s ∙ ap (with_reply octets) (some-same old d e))
 
 pub notes-makes : (old new : Option DockHeld) (octets : List ℕ) → Notes old new octets → Makes (with_notice octets) old new
 notes-makes None new octets s = λ d e. absurd (none-some d e)

@@ -11,17 +11,18 @@ use Rattle.rc_request.specs.Requests.{no_message, request_of}
 use Rattle.live_devices.specs.Comings.{found}
 use Rattle.live_devices.specs.Docks.{DockHeld, has_found, taken}
 use Rattle.live_devices.specs.Wires.{WireHeld}
+use Rattle.live_devices.specs.Reads.{End, Makes, Piece, Unread, Waiting, came_of}
+use Rattle.live_devices.proofs.Reading.{read_dock}
 use Rattle.gw_packets.specs.declared.done.Config.{Config}
 use Rattle.gw_core.specs.Machine.{Arrive, Clock, Core, Handle, Let, Session_taken}
 use Rattle.live_messages.specs.Holds.{Holds}
 use Rattle.live_messages.specs.declared.feed.Brought.TheVariants as brought
-use Rattle.live_gateway.specs.Carried.{Devices, Does, Makes}
+use Rattle.live_gateway.specs.Carried.{Devices, Does}
 use Rattle.live_gateway.specs.Causes.{Feeds}
-use Rattle.live_gateway.specs.Past.{Accepted, Broken, Came_in, End, Inside, Item, Message, Outside, Piece, Seconds, Unread, Waiting, is_there, messages_of, octets_of}
-use Rattle.live_gateway.specs.Found.{IsTunnelled, came_of, cut, dock_of, inside_of, outside_of, received}
+use Rattle.live_gateway.specs.Past.{Accepted, Broken, Came_in, Inside, Item, Message, Outside, Seconds, is_there, messages_of, octets_of}
+use Rattle.live_gateway.specs.Found.{IsTunnelled, cut, dock_of, inside_of, outside_of, received}
 use Rattle.live_gateway.specs.Stands.{AreTaken, IsHeld, IsSession, Stands}
 use Rattle.live_gateway.proofs.Making.{later-on, risen-back}
-use Rattle.live_gateway.proofs.Receipts.{read_dock}
 use Rattle.live_gateway.proofs.Standing.{ReadersHold, calm-back, calm-front, session-same, session-held, session-taken, session-there, taken-writes, stood-event, stood-quiet, writing-is}
 use Rattle.live_gateway.proofs.Telling.{there_of}
 

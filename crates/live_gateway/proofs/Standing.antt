@@ -10,16 +10,18 @@ use Rattle.rc_http.specs.declared.message.Kind.TheVariants.{Request}
 use Rattle.live_devices.specs.Comings.{found}
 use Rattle.live_devices.specs.Docks.{DockHeld}
 use Rattle.live_devices.specs.Wires.{WireHeld}
+use Rattle.live_devices.specs.Reads.{Makes}
+use Rattle.live_devices.proofs.Reading.{makes-as, makes-on}
 use Rattle.gw_packets.specs.declared.done.Config.{Config}
 use Rattle.gw_tables.specs.Kept.{Kept}
 use Rattle.gw_requests.specs.declared.act.GwAct.{GwAct}
 use Rattle.gw_core.specs.Machine.{Core, Event, Session_taken, stepped, with_kept}
 use Rattle.live_messages.specs.Holds.{Holds, IsReading}
-use Rattle.live_gateway.specs.Carried.{Devices, Does, Makes, after_all, dock_by, inside_by, outside_by, while_there}
+use Rattle.live_gateway.specs.Carried.{Devices, Does, after_all, dock_by, inside_by, outside_by, while_there}
 use Rattle.live_gateway.specs.Past.{Accepted, Item, acts_at, acts_by, event_of, fault_of, is_there, kept_by, kept_of, messages_of, octets_of}
 use Rattle.live_gateway.specs.Found.{IsFound, dock_at, dock_of, inside_at, inside_of, outside_at, outside_of, written_at}
 use Rattle.live_gateway.specs.Stands.{IsHeld, IsReader, IsSession, Stood}
-use Rattle.live_gateway.proofs.Making.{makes-as, makes-on, risen-back, risen-front}
+use Rattle.live_gateway.proofs.Making.{risen-back, risen-front}
 use Rattle.live_gateway.proofs.Telling.{there_of}
 
 -- ---- faults of reads and writes

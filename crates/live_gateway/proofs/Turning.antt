@@ -4,13 +4,13 @@ use Rattle.ikl_base.specs.Outside.{HasRisen}
 use Rattle.rc_http.specs.Feeding.{Feeding}
 use Rattle.live_devices.specs.Clocks as clocks
 use Rattle.live_devices.specs.Clocks.{reading, readings_after}
+use Rattle.live_devices.proofs.Reading.{makes-same, some-same}
 use Rattle.gw_packets.specs.declared.done.Config.{Config}
 use Rattle.gw_core.specs.Machine.{Core, booted}
 use Rattle.live_gateway.specs.Carried.{Devices}
 use Rattle.live_gateway.specs.Past.{Accepted, Broken, Came_in, Inside, Item, Message, Outside, Seconds}
 use Rattle.live_gateway.specs.Found.{AreReadings, readings_of}
 use Rattle.live_gateway.specs.Stands.{AreTaken, AreTurns, Calls, IsHeld, Served, Stands, Stood, called}
-use Rattle.live_gateway.proofs.Making.{makes-same, some-same}
 use Rattle.live_gateway.proofs.Standing.{ReadersHold, calm-front, session-held, session-none}
 
 -- ---- the clock

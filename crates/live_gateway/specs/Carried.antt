@@ -7,6 +7,7 @@ use Rattle.rc_resource.specs.Messages.{reply_message}
 use Rattle.hist_wire.specs.Dates.{line_text}
 use Rattle.live_devices.specs.Docks.{DockHeld}
 use Rattle.live_devices.specs.Wires.{WireHeld}
+use Rattle.live_devices.specs.Reads.{Makes, with_reply}
 use Rattle.gw_requests.specs.declared.act.GwAct.{GwAct}
 use Rattle.gw_requests.specs.declared.act.GwAct.TheVariants as acts
 use Rattle.gw_core.specs.Machine.{Core, Event, stepped, with_kept}
@@ -28,10 +29,6 @@ abbrev pub outside_by : GwAct → WireHeld → WireHeld
 outside_by (acts.Sent name number octets) w = with_datagram octets w
 outside_by (acts.Clear octets) w = with_datagram octets w
 outside_by _ w = w
-
--- octets written on the control stream of the session
-abbrev pub with_reply : List ℕ → DockHeld → DockHeld
-with_reply octets d = record d { replies = d.replies ++ octets }
 
 -- octets written on the notice stream of the session
 abbrev pub with_notice : List ℕ → DockHeld → DockHeld
@@ -58,10 +55,6 @@ pub record Devices : Type 0 where
   pub outside : Option WireHeld
   pub dock : Option DockHeld
   pub faults : ℕ
-
--- what is told becomes this
-abbrev pub Makes : {T : Type 0} → (T → T) → Option T → Option T → Type 0
-Makes {T = T} f old new = (x : T) → old ≡ Some x → new ≡ Some (f x)
 
 -- only while a session is there
 abbrev pub while_there : Option Feeding → (DockHeld → DockHeld) → DockHeld → DockHeld

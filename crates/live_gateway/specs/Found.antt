@@ -1,17 +1,17 @@
 -- What the devices of a gateway node hold after what came, by what they held at the start, and what each call of theirs gave.
-use Rattle.std.specs.Prelude.{◌≡◌, ◌==◌, ℕ, min, Bool, true, false, List, [], ◌∷◌, length, take, drop, Option, Some, None, Result, Ok, Err, if◌then◌else◌}
+use Rattle.std.specs.Prelude.{◌≡◌, ℕ, true, false, List, [], ◌∷◌, take, Option, Some, None, Result, Ok, Err, if◌then◌else◌}
 use Rattle.live_devices.specs.Clocks.{reading, readings_after}
 use Rattle.live_devices.specs.Comings.{found, later}
 use Rattle.live_devices.specs.Docks.{DockHeld, has_found, taken}
-use Rattle.live_devices.specs.Streams.{Stream, there_now}
 use Rattle.live_devices.specs.Wires.{WireHeld}
+use Rattle.live_devices.specs.Reads.{Unread, came_of, read_at}
 use Rattle.reply_table.specs.declared.ask.Ask.{Ask}
 use Rattle.rc_request.specs.declared.error.RcError.{RcError}
 use Rattle.rc_request.specs.Requests.{request_of}
 use Rattle.gw_packets.specs.declared.done.Config.{Config}
 use Rattle.gw_law.specs.Orderly.{AsksTunnel}
 use Rattle.live_gateway.specs.Carried.{Devices, after_all, dock_by, inside_by, outside_by}
-use Rattle.live_gateway.specs.Past.{Accepted, Broken, Came, Came_in, End, Inside, Item, Message, Outside, Piece, Seconds, Unread, Waiting, acts_at, is_there, kept_of}
+use Rattle.live_gateway.specs.Past.{Accepted, Broken, Came_in, Inside, Item, Message, Outside, Seconds, acts_at, is_there, kept_of}
 
 -- ---- wires
 
@@ -45,29 +45,6 @@ outside_of c [] w = w
 outside_of c (x ∷ past) w = after_all outside_by (acts_at c past x) (outside_at x (outside_of c past w))
 
 -- ---- the dock
-
--- how many octets a read gives that has room for 65,536
-abbrev pub read_size : Stream → ℕ
-read_size s = min (min (length s.left) 65536) (there_now s.there)
-
--- what is left of the session after a read
-abbrev pub after_read : Stream → Stream
-after_read s = record s { left = drop (read_size s) s.left; there = later s.there }
-
--- what a read of so many octets gives; where none is left, the end if the stream ends there, and else nothing
-abbrev pub came_by : ℕ → Bool → List ℕ → Came
-came_by size true [] = End
-came_by size false [] = Waiting
-came_by size ends (x ∷ xs) = Piece (take size (x ∷ xs))
-
--- what a read gives: nothing where no octet is there yet, the end where none is left
-abbrev pub came_of : Stream → Came
-came_of s = if there_now s.there == 0 then Waiting else came_by (read_size s) s.ends s.left
-
--- a read takes octets of the session; without a session none is read
-abbrev pub read_at : Came → DockHeld → DockHeld
-read_at Unread d = d
-read_at _ d = record d { session = after_read d.session }
 
 -- accepts and reads take what comes; nothing else that comes changes the dock
 abbrev pub dock_at : Item → DockHeld → DockHeld

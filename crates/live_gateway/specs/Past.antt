@@ -8,13 +8,7 @@ use Rattle.gw_tables.specs.Kept.{Kept}
 use Rattle.gw_packets.specs.declared.done.Config.{Config}
 use Rattle.gw_requests.specs.declared.act.GwAct.{GwAct}
 use Rattle.gw_core.specs.Machine.{Event, Let, Arrive, Clock, Handle, Session_taken, stepped}
-
--- what a read of the session gave: nothing waited, octets, or its end; where no session is there, nothing is read
-pub data Came : Type 0 where
-  Unread : Came
-  Waiting : Came
-  Piece : (octets : List ℕ) → Came
-  End : Came
+use Rattle.live_devices.specs.Reads.{Came, End, Piece}
 
 -- a reading of the clock, what a receipt from either wire gave, whether an accept took a session, what a read of the session gave, a
 -- message that is whole by what was read, and a fault in its place

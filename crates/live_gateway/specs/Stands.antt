@@ -6,8 +6,9 @@ use Rattle.rc_http.specs.declared.message.Kind.TheVariants.{Request}
 use Rattle.gw_packets.specs.declared.done.Config.{Config}
 use Rattle.gw_core.specs.Machine.{Core}
 use Rattle.live_messages.specs.Holds.{Holds}
-use Rattle.live_gateway.specs.Carried.{Devices, Makes}
-use Rattle.live_gateway.specs.Past.{Accepted, Broken, Came, Came_in, Inside, Item, Message, Outside, Seconds, fault_of, is_there, kept_of, messages_of, octets_of}
+use Rattle.live_devices.specs.Reads.{Came, Makes}
+use Rattle.live_gateway.specs.Carried.{Devices}
+use Rattle.live_gateway.specs.Past.{Accepted, Broken, Came_in, Inside, Item, Message, Outside, Seconds, fault_of, is_there, kept_of, messages_of, octets_of}
 use Rattle.live_gateway.specs.Found.{AreFound, AreReadings, dock_of, inside_of, outside_of, readings_of}
 
 -- ---- turns

@@ -1,7 +1,8 @@
 // What a gateway does is carried out.
 ghost use Rattle.std.specs.Prelude.{◌≡◌, ◌∷◌, [], All, OnOk, false};
 ghost use Rattle.world_steps.specs.Conditions.{IsWritten};
-ghost use Rattle.live_gateway.specs.Carried.{Carries, Devices, Makes, Writes, dock_by, inside_by, outside_by, with_datagram};
+ghost use Rattle.live_devices.specs.Reads.{Makes};
+ghost use Rattle.live_gateway.specs.Carried.{Carries, Devices, Writes, dock_by, inside_by, outside_by, with_datagram};
 ghost use Rattle.live_gateway.specs.Causes.{IsCut, MayWrite, StaysOrEnds, Tells, broke, is_dock_fault, is_inside_fault, is_outside_fault};
 
 use crate::ended::Ended;

@@ -4,8 +4,9 @@ ghost use Rattle.ikl_base.specs.Outside.{HasRisen};
 ghost use Rattle.gw_packets.specs.declared.done.Config.{Config as GatewayConfig};
 ghost use Rattle.gw_core.specs.Machine.{CanBoot, booted};
 ghost use Rattle.live_devices.specs.Clocks.{Tells as Reads};
+ghost use Rattle.live_devices.specs.Reads.{Came};
 ghost use Rattle.live_gateway.specs.Carried.{Devices};
-ghost use Rattle.live_gateway.specs.Past.{Accepted, Came, Came_in, Inside, Item, Outside};
+ghost use Rattle.live_gateway.specs.Past.{Accepted, Came_in, Inside, Item, Outside};
 ghost use Rattle.live_gateway.specs.Stands.{AreTaken, Calls, Served, Stands, called};
 ghost use Rattle.live_gateway.specs.Causes.{IsCut, IsRead, MayWrite, Tells, broke, is_dock_fault, is_inside_fault, is_outside_fault};
 

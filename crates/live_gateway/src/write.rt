@@ -5,7 +5,8 @@ ghost use Rattle.rc_http.specs.Written.{IsWritableResponse, response_text};
 ghost use Rattle.rc_resource.specs.Messages.{reply_message};
 ghost use Rattle.notice_lines.specs.Envelope.{IsNotice};
 ghost use Rattle.hist_wire.specs.Dates.{line_text};
-ghost use Rattle.live_gateway.specs.Carried.{Makes, Writes, with_datagram, with_notice, with_reply};
+ghost use Rattle.live_devices.specs.Reads.{Makes, with_reply};
+ghost use Rattle.live_gateway.specs.Carried.{Writes, with_datagram, with_notice};
 ghost use Rattle.live_gateway.specs.Causes.{MayWrite, StaysOrEnds, Tells};
 
 use ikeless_tree::Notice;

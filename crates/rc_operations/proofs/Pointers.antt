@@ -1,42 +1,28 @@
 -- The pointers in refusals of commands: ASCII, and short.
-use Rattle.std.proofs.Common.{◌≡◌, ◌+◌, ◌≤◌, nat_lt, ℕ, Bool, true, false, List, [], ◌∷◌, ◌++◌, codes, length, Option, Some, None, Result, Ok, Err, if◌then◌else◌, refl, subst, arith, length-append}
+use Rattle.std.proofs.Common.{◌≡◌, ◌+◌, ◌≤◌, nat_lt, ℕ, true, List, [], ◌∷◌, ◌++◌, codes, length, Option, Some, None, Result, Ok, Err, refl, subst, arith, length-append}
 use Rattle.std.specs.Str.{bytes_eq}
-use Rattle.std.specs.List.{list_any}
-use Rattle.std.proofs.lemmas.Bool.{and_from, and_parts}
+use Rattle.std.proofs.lemmas.Bool.{and_parts}
 use Rattle.json.proofs.Printed.Utf8.{are_ascii}
-use Rattle.serde_json.specs.Data.{Data, Members, member, no_members, object}
-use Rattle.serde_json.specs.Find.{as_array, as_object, get}
+use Rattle.serde_json.specs.Data.{Data, member, no_members, object}
+use Rattle.serde_json.specs.Find.{as_array, get}
 use Rattle.ikeless_tree.specs.declared.entry.SpdEntry.{SpdEntry}
-use Rattle.ikeless_tree.specs.declared.fault.TreeFault.{TreeFault}
 use Rattle.ikeless_tree.specs.Check.{is_gateway, spd_fault}
 use Rattle.json_values.specs.declared.fault.Fault.{Fault}
-use Rattle.json_values.specs.declared.fault.Kind.{Kind}
 use Rattle.json_values.specs.declared.fault.Kind.TheVariants as kinds
-use Rattle.json_values.specs.Faults.{at_member, checked, deeper, here, of_member, within, ◌>>=◌}
-use Rattle.json_values.specs.Leaves.{count_or, mode_leaf, name_leaf, needed_number, needed_wide, octets_leaf, prefix_leaf, wide_or}
-use Rattle.json_values.specs.Members.{limits_shape, list_input_shape, tunnel_input_shape}
-use Rattle.json_values.specs.Shapes.{has_unknown, items_read, lacks, needed_data, only_in, shape, shape_of}
-use Rattle.json_tree.specs.SelectorRead.{limits_from}
+use Rattle.json_values.specs.Faults.{at_member, checked, deeper, within, ◌>>=◌}
+use Rattle.json_values.specs.Leaves.{mode_leaf, name_leaf, needed_number, needed_wide, octets_leaf, prefix_leaf}
+use Rattle.json_values.specs.Members.{list_input_shape, tunnel_input_shape}
+use Rattle.json_values.specs.Shapes.{items_read, only_in, shape}
 use Rattle.json_tree.specs.PolicyRead.{all_entries, database_in, entries_of, spd_entry_in, spd_in}
-use Rattle.json_tree.specs.SadEntryRead.{limits_in, limits_of}
+use Rattle.json_tree.specs.SadEntryRead.{limits_of}
 use Rattle.json_codec.specs.CommandRead.{command_fault, command_in, end_command, first_in, input_in, inputs_in, keys_command, list_command, only_key, only_reqid, rekey_command, second_in, tunnel_command}
-use Rattle.text_bounds.proofs.Pointers.{IsGood, IsText, good_spd}
+use Rattle.text_bounds.proofs.Pointers.{IsGood, IsText, good_checked, good_choice, good_here, good_limits, good_member, good_ok, good_only, good_shape, good_spd, good_then, good_within}
 
 -- ---- texts
-
-joined_ascii : (a b : List ℕ) → are_ascii a ≡ true → are_ascii b ≡ true → are_ascii (a ++ b) ≡ true
-joined_ascii [] b p q = q
-joined_ascii (x ∷ a) b p q = let parts = and_parts (nat_lt x 128) (are_ascii a) p in and_from _ _ parts.0 (joined_ascii a b parts.1 q)
 
 behind_ascii : (a b : List ℕ) → are_ascii (a ++ b) ≡ true → are_ascii b ≡ true
 behind_ascii [] b p = p
 behind_ascii (x ∷ a) b p = behind_ascii a b (and_parts (nat_lt x 128) (are_ascii (a ++ b)) p).1
-
-deeper_text : (m n : ℕ) (name path : List ℕ) → are_ascii name ≡ true → length name + 1 + m ≤ n → IsText m path → IsText n (deeper name path)
-deeper_text m n name path ascii fits is =
-    let both = length-append name path in
-    let p = is.size in
-    record { octets = and_from _ _ refl (joined_ascii name path ascii is.octets); size = omega (arith, both, p, fits) }
 
 -- what stands below a member is shorter
 below_text : (m n : ℕ) (name path : List ℕ) → n ≤ length name + 1 + m → IsText n (deeper name path) → IsText m path
@@ -47,67 +33,6 @@ below_text m n name path fits is =
       octets = behind_ascii name path (and_parts (nat_lt 47 128) (are_ascii (name ++ path)) is.octets).1;
       size = omega (arith, both, p, fits);
     }
-
--- ---- what is read, or a fault at a short pointer
-
-good_ok : {A : Type 0} (n : ℕ) (x : A) → IsGood n (Ok x)
-good_ok n x = record { is = tt }
-
-good_here : {A : Type 0} (n : ℕ) (kind : Kind) → IsGood {A = A} n (Err (here kind))
-good_here n kind = record { is = record { octets = refl; size = omega arith } }
-
-good_then : {A B : Type 0} (n : ℕ) (r : Result A Fault) (f : A → Result B Fault) → IsGood n r → ((x : A) → IsGood n (f x))
-    → IsGood n (r >>= f)
-good_then n (Ok x) f g h = h x
-good_then n (Err e) f g h = record { is = g.is }
-
-good_choice : {A : Type 0} (n : ℕ) (b : Bool) (x y : Result A Fault) → IsGood n x → IsGood n y → IsGood n (if b then x else y)
-good_choice n true x y p q = p
-good_choice n false x y p q = q
-
-good_within : {A : Type 0} (m n : ℕ) (name : List ℕ) (r : Result A Fault) → are_ascii name ≡ true → length name + 1 + m ≤ n
-    → IsGood m r → IsGood n (within name r)
-good_within m n name (Ok x) ascii fits g = record { is = tt }
-good_within m n name (Err f) ascii fits g = record { is = deeper_text m n name f.path ascii fits g.is }
-
-member_text : (n : ℕ) (name : List ℕ) → are_ascii name ≡ true → length name + 1 ≤ n → IsText n (deeper name [])
-member_text n name ascii fits = deeper_text 0 n name [] ascii (omega (arith, fits)) (record { octets = refl; size = omega arith })
-
-member_fault : (n : ℕ) (name : List ℕ) (kind : Kind) → are_ascii name ≡ true → length name + 1 ≤ n → IsText n (of_member name kind).path
-member_fault n name kinds.Missing ascii fits = record { octets = refl; size = omega arith }
-member_fault n name kinds.Unknown ascii fits = member_text n name ascii fits
-member_fault n name kinds.Form ascii fits = member_text n name ascii fits
-member_fault n name kinds.Range ascii fits = member_text n name ascii fits
-member_fault n name kinds.Unsupported ascii fits = member_text n name ascii fits
-member_fault n name kinds.Name ascii fits = member_text n name ascii fits
-member_fault n name kinds.Full ascii fits = member_text n name ascii fits
-
-good_member : {A : Type 0} (n : ℕ) (name : List ℕ) (r : Result A Kind) → are_ascii name ≡ true → length name + 1 ≤ n
-    → IsGood n (at_member name r)
-good_member n name (Ok x) ascii fits = record { is = tt }
-good_member n name (Err kind) ascii fits = record { is = member_fault n name kind ascii fits }
-
-good_shape_of : (n : ℕ) (names needed : List (List ℕ)) (d : Data) (o : Option Members) → IsGood n (shape_of names needed d o)
-good_shape_of n names needed d None = good_here n kinds.Form
-good_shape_of n names needed d (Some ms) =
-    good_choice n (has_unknown names ms) _ _ (good_here n kinds.Unknown) (good_choice n (list_any (lacks d) needed) _ _
-    (good_here n kinds.Missing) (good_ok n tt))
-
-good_shape : (n : ℕ) (names needed : List (List ℕ)) (d : Data) → IsGood n (shape names needed d)
-unfolding shape
-good_shape n names needed d = good_shape_of n names needed d (as_object d)
-
-good_needed : (n : ℕ) (o : Option Data) → IsGood n (needed_data o)
-good_needed n None = good_here n kinds.Missing
-good_needed n (Some d) = good_ok n d
-
-good_only : (n : ℕ) (name : List ℕ) (d : Data) → IsGood n (only_in name d)
-unfolding only_in
-good_only n name d = good_then n _ _ (good_shape n _ _ d) (λ done. good_needed n (get name d))
-
-good_checked : {A : Type 0} (n : ℕ) (x : A) (o : Option TreeFault) → IsGood n (checked x o)
-good_checked n x None = good_ok n x
-good_checked n x (Some fault) = record { is = record { octets = refl; size = omega arith } }
 
 -- ---- lists of policies
 
@@ -139,18 +64,6 @@ good_entries (Some list) =
     below_body (items_read spd_entry_in (as_array list)) (subst P (body_is list) (good_spd (as_body list)))
 
 -- ---- limits
-
-good_limits_from : (d : Data) → IsGood 10 (limits_from d)
-unfolding limits_from
-good_limits_from d =
-    good_then 10 _ _ (good_member 10 (codes "bytes") (wide_or 0 (get (codes "bytes") d)) refl (omega arith)) (λ bytes.
-    good_then 10 _ _ (good_member 10 (codes "idle") (count_or 0 (get (codes "idle") d)) refl (omega arith)) (λ idle.
-    good_then 10 _ _ (good_member 10 (codes "packets") (count_or 0 (get (codes "packets") d)) refl (omega arith)) (λ packets.
-    good_then 10 _ _ (good_member 10 (codes "time") (count_or 0 (get (codes "time") d)) refl (omega arith)) (λ time. good_ok 10 _))))
-
-good_limits : (d : Data) → IsGood 10 (limits_in d)
-unfolding limits_in limits_shape
-good_limits d = good_then 10 _ _ (good_shape 10 _ _ d) (λ done. good_limits_from d)
 
 good_limits_of : (name : List ℕ) → are_ascii name ≡ true → length name ≤ 4 → (o : Option Data) → IsGood 207 (limits_of name o)
 good_limits_of name ascii short None = good_ok 207 _

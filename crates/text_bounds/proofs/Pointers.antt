@@ -69,22 +69,22 @@ Holds n (Err f) = IsText n f.path
 pub record IsGood {A : Type 0} (n : ℕ) (r : Result A Fault) : Type 0 where
   pub is : Holds n r
 
-good_ok : {A : Type 0} (n : ℕ) (x : A) → IsGood n (Ok x)
+pub good_ok : {A : Type 0} (n : ℕ) (x : A) → IsGood n (Ok x)
 good_ok n x = record { is = tt }
 
-good_here : {A : Type 0} (n : ℕ) (kind : Kind) → IsGood {A = A} n (Err (here kind))
+pub good_here : {A : Type 0} (n : ℕ) (kind : Kind) → IsGood {A = A} n (Err (here kind))
 good_here n kind = record { is = record { octets = refl; size = omega arith } }
 
-good_then : {A B : Type 0} (n : ℕ) (r : Result A Fault) (f : A → Result B Fault) → IsGood n r → ((x : A) → IsGood n (f x))
+pub good_then : {A B : Type 0} (n : ℕ) (r : Result A Fault) (f : A → Result B Fault) → IsGood n r → ((x : A) → IsGood n (f x))
     → IsGood n (r >>= f)
 good_then n (Ok x) f g h = h x
 good_then n (Err e) f g h = record { is = g.is }
 
-good_choice : {A : Type 0} (n : ℕ) (b : Bool) (x y : Result A Fault) → IsGood n x → IsGood n y → IsGood n (if b then x else y)
+pub good_choice : {A : Type 0} (n : ℕ) (b : Bool) (x y : Result A Fault) → IsGood n x → IsGood n y → IsGood n (if b then x else y)
 good_choice n true x y p q = p
 good_choice n false x y p q = q
 
-good_within : {A : Type 0} (m n : ℕ) (name : List ℕ) (r : Result A Fault) → are_ascii name ≡ true → length name + 1 + m ≤ n
+pub good_within : {A : Type 0} (m n : ℕ) (name : List ℕ) (r : Result A Fault) → are_ascii name ≡ true → length name + 1 + m ≤ n
     → IsGood m r → IsGood n (within name r)
 good_within m n name (Ok x) ascii fits g = record { is = tt }
 good_within m n name (Err f) ascii fits g = record { is = deeper_text m n name f.path ascii fits g.is }
@@ -101,7 +101,7 @@ member_fault n name kinds.Unsupported ascii fits = member_text n name ascii fits
 member_fault n name kinds.Name ascii fits = member_text n name ascii fits
 member_fault n name kinds.Full ascii fits = member_text n name ascii fits
 
-good_member : {A : Type 0} (n : ℕ) (name : List ℕ) (r : Result A Kind) → are_ascii name ≡ true → length name + 1 ≤ n
+pub good_member : {A : Type 0} (n : ℕ) (name : List ℕ) (r : Result A Kind) → are_ascii name ≡ true → length name + 1 ≤ n
     → IsGood n (at_member name r)
 good_member n name (Ok x) ascii fits = record { is = tt }
 good_member n name (Err kind) ascii fits = record { is = member_fault n name kind ascii fits }
@@ -112,7 +112,7 @@ good_shape_of n names needed d (Some ms) =
     good_choice n (has_unknown names ms) _ _ (good_here n kinds.Unknown) (good_choice n (list_any (lacks d) needed) _ _
     (good_here n kinds.Missing) (good_ok n tt))
 
-good_shape : (n : ℕ) (names needed : List (List ℕ)) (d : Data) → IsGood n (shape names needed d)
+pub good_shape : (n : ℕ) (names needed : List (List ℕ)) (d : Data) → IsGood n (shape names needed d)
 unfolding shape
 good_shape n names needed d = good_shape_of n names needed d (as_object d)
 
@@ -120,11 +120,11 @@ good_needed : (n : ℕ) (o : Option Data) → IsGood n (needed_data o)
 good_needed n None = good_here n kinds.Missing
 good_needed n (Some d) = good_ok n d
 
-good_only : (n : ℕ) (name : List ℕ) (d : Data) → IsGood n (only_in name d)
+pub good_only : (n : ℕ) (name : List ℕ) (d : Data) → IsGood n (only_in name d)
 unfolding only_in
 good_only n name d = good_then n _ _ (good_shape n _ _ d) (λ done. good_needed n (get name d))
 
-good_checked : {A : Type 0} (n : ℕ) (x : A) (o : Option TreeFault) → IsGood n (checked x o)
+pub good_checked : {A : Type 0} (n : ℕ) (x : A) (o : Option TreeFault) → IsGood n (checked x o)
 good_checked n x None = good_ok n x
 good_checked n x (Some fault) = record { is = record { octets = refl; size = omega arith } }
 
@@ -299,7 +299,7 @@ good_sealing d =
     good_then 110 _ _ (good_word 110 (codes "mode") (codes "tunnel") d refl (omega arith)) (λ mode.
     good_then 110 _ _ (good_word 110 (codes "protocol-parameters") (codes "esp") d refl (omega arith)) (λ protocol. good_ok 110 _)))))
 
-good_limits : (d : Data) → IsGood 10 (limits_in d)
+pub good_limits : (d : Data) → IsGood 10 (limits_in d)
 unfolding limits_in limits_shape
 good_limits d = good_then 10 _ _ (good_shape 10 _ _ d) (λ done. good_limits_from d)
 

@@ -1,5 +1,5 @@
 use Rattle.std.proofs.Common.{true, false}
-use Rattle.live_controller.proofs.Receipts.{accepts-found, accepts-makes}
+use Rattle.live_devices.proofs.Reading.{accepts-found, accepts-makes}
 use Rattle.live_controller.proofs.Replying.{tells-failed, tells-passed}
 use Rattle.live_controller.proofs.Requesting.{accepted-found, client-accepted, client-alone}
 use Rattle.live_controller.proofs.clients.accept.Goals as goal

@@ -1,8 +1,9 @@
 use Rattle.std.proofs.Common.{◌≡◌, ◌<◌, List, ℕ, ◌∷◌, Some, None, take, length, refl, subst, arith}
 use Rattle.std.proofs.lemmas.Result.{on_ok_weaker}
-use Rattle.live_controller.specs.Past.{Came_in, End, Piece, Waiting}
+use Rattle.live_devices.specs.Reads.{End, Piece, Waiting}
+use Rattle.live_devices.proofs.Reading.{Gave, read-end, read-none, read-piece, reads-found, reads-makes}
+use Rattle.live_controller.specs.Past.{Came_in}
 use Rattle.live_controller.proofs.Doing.{later-same}
-use Rattle.live_controller.proofs.Receipts.{Gave, read-end, read-none, read-piece, reads-found, reads-makes}
 use Rattle.live_controller.proofs.Replying.{at-most-as, quiet-back}
 use Rattle.live_controller.proofs.Requesting.{end-on, piece-on, waiting-on}
 use Rattle.live_controller.proofs.clients.read_there.Goals as goal

@@ -1,5 +1,5 @@
 use Rattle.std.proofs.Common.{refl}
-use Rattle.live_controller.proofs.Replying.{replies-makes}
+use Rattle.live_devices.proofs.Reading.{replies-makes}
 use Rattle.live_controller.proofs.clients.write_reply.Goals as goal
 
 pub returns-in-Ok-clause-wrote : goal.returns-in-Ok-clause-wrote

@@ -1,6 +1,6 @@
 use Rattle.std.proofs.Common.{ap, sym, subst, true, Some}
 use Rattle.std.proofs.lemmas.Result.{on_ok_weaker}
-use Rattle.live_gateway.proofs.Receipts.{accepts-found, accepts-makes}
+use Rattle.live_devices.proofs.Reading.{accepts-found, accepts-makes}
 use Rattle.live_gateway.proofs.Sessions.{accept-goes}
 use Rattle.live_gateway.proofs.Standing.{fresh-read}
 use Rattle.live_messages.specs.Holds.{IsReading}

@@ -1,5 +1,5 @@
 use Rattle.std.proofs.Common.{[]}
-use Rattle.live_gateway.specs.Past.{Unread}
+use Rattle.live_devices.specs.Reads.{Unread}
 use Rattle.live_gateway.proofs.Making.{later-same}
 use Rattle.live_gateway.proofs.Sessions.{unread-goes}
 use Rattle.live_gateway.proofs.Telling.{tells_same}

@@ -1,7 +1,8 @@
 use Rattle.std.proofs.Common.{◌≡◌, ◌<◌, List, ℕ, [], ◌∷◌, Some, None, take, length, refl, subst, arith}
 use Rattle.std.proofs.lemmas.Result.{on_ok_weaker}
-use Rattle.live_gateway.specs.Past.{Came_in, End, Piece, Waiting}
-use Rattle.live_gateway.proofs.Receipts.{Gave, read-end, read-none, read-piece, reads-found, reads-makes}
+use Rattle.live_devices.specs.Reads.{End, Piece, Waiting}
+use Rattle.live_devices.proofs.Reading.{Gave, read-end, read-none, read-piece, reads-found, reads-makes}
+use Rattle.live_gateway.specs.Past.{Came_in}
 use Rattle.live_gateway.proofs.Sessions.{end-goes, failed-goes, piece-goes, waiting-goes}
 use Rattle.live_gateway.proofs.Telling.{some_there}
 use Rattle.live_gateway.proofs.session.read_there.Goals as goal

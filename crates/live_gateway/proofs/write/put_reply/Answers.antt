@@ -1,5 +1,5 @@
 use Rattle.std.proofs.Common.{refl}
-use Rattle.live_gateway.proofs.Making.{replies-makes}
+use Rattle.live_devices.proofs.Reading.{replies-makes}
 use Rattle.live_gateway.proofs.Telling.{stays_same}
 use Rattle.live_gateway.proofs.write.put_reply.Goals as goal
 

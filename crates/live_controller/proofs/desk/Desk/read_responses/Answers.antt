@@ -1,6 +1,7 @@
 use Rattle.std.proofs.Common.{◌≡◌, ◌<◌, List, ℕ, [], ◌∷◌, length, take, refl, arith}
 use Rattle.std.proofs.lemmas.Result.{on_ok_weaker}
-use Rattle.live_controller.specs.Past.{End, Heard, Piece, Waiting}
+use Rattle.live_devices.specs.Reads.{End, Piece, Waiting}
+use Rattle.live_controller.specs.Past.{Heard}
 use Rattle.live_controller.proofs.Doing.{calm-back, calm-front, later-by}
 use Rattle.live_controller.proofs.Hearing.{heard-end, heard-goes, heard-piece, heard-waits}
 use Rattle.live_controller.proofs.Receipts.{control-end, control-none, control-piece}
