@@ -5,7 +5,7 @@ here=$(cd "$(dirname "$0")" && pwd)
 root=$(cd "$here/../.." && pwd)
 scratch=${1:-$(mktemp -d)}
 "$root/ikeless" replay < /dev/null > /dev/null 2>&1 || true
-for kind in clear tunnel 'drill 1' 'drill 1 10'; do
+for kind in clear tunnel 'drill 1' 'drill 1 10' 'reading 0' 'reading 20'; do
     script="$scratch/${kind// /-}.script"
     python3 "$here/scripts.py" $kind > "$script"
     for turn in 1 2 3; do

@@ -1,9 +1,10 @@
 #!/usr/bin/env python3
-"""Writes a script to standard output: `clear`, `tunnel`, or `drill N [TIMES]` with TIMES times as many drawn lines."""
+"""Writes a script to standard output: `clear`, `tunnel`, `drill N [TIMES]` with TIMES times as many drawn lines, or `reading N`."""
 import sys
 
 LIMIT = 64 * 1024 * 1024
 DRAWN = 20000
+TUNNELS = 1024
 FACTOR, STEP, WORD = 6364136223846793005, 1442695040888963407, 1 << 64
 
 
@@ -109,6 +110,19 @@ def drill(n, times):
     return lines
 
 
+def reading(times):
+    """Two gateways with 4,096 halves each, since a rekey of all tunnels stands before its removals; then these many readings."""
+    lines = ["world seq-last 4294967295 west=192.0.2.1 east=198.51.100.1"]
+    lines += ["keys " + (k.to_bytes(16, "big") + k.to_bytes(4, "big")).hex() for k in range(1, 4 * TUNNELS + 1)]
+    for k in range(1, TUNNELS + 1):
+        names = "10.%d.%d.0/24 11.%d.%d.0/24" % (k >> 8, k & 255, k >> 8, k & 255)
+        lines.append("tunnel %d now west east %s 64 0/0/0/0 0/0/0/0" % (k, names))
+    a_round = ["down west", "up west", "down east", "up east"]
+    lines += ["open west", "open east"] + (2 * TUNNELS + 2) * a_round
+    lines += ["rekey %d" % k for k in range(1, TUNNELS + 1)] + 2 * TUNNELS * a_round
+    return lines + times * ["cut west", "open west", "down west", "up west"]
+
+
 def main(words):
     if words == ["clear"]:
         lines = clear()
@@ -116,6 +130,8 @@ def main(words):
         lines = tunnel()
     elif words[:1] == ["drill"] and len(words) in (2, 3):
         lines = drill(int(words[1]), int(words[2]) if len(words) == 3 else 1)
+    elif words[:1] == ["reading"] and len(words) == 2:
+        lines = reading(int(words[1]))
     else:
         sys.exit(__doc__)
     sys.stdout.write("\n".join(lines) + "\n")
